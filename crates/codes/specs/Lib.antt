@@ -1,0 +1,2 @@
+-- The code tables of Annex B, and what it is to find a code.
+pub mod Component

@@ -1,0 +1,56 @@
+-- The levels QF of an intra block (7.4.3.2 to 7.4.3.4): what the bits gave, in the scan's order, with the prediction added and limited. Definitions only.
+use mathlib.Core.Bool.{Bool, true, cond, _&&_}
+use mathlib.Core.List.{List}
+use Prim.Native.Nat.{ℕ}
+use lib.ListN.{getD, drop}
+use lib.IntN.{ℤ, pos, negsuc, _+ℤ_}
+use Rattle.numbers.specs.Grid.{block, cell}
+use Rattle.numbers.specs.Limit.{clampZ}
+use Rattle.codes.specs.declared.dc_size.DcComponent.{DcComponent}
+use Rattle.coefficients.specs.declared.predictor.BlockPredictors.{BlockPredictors}
+use Rattle.coefficients.specs.declared.refusal.Stage.{Stage}
+use Rattle.coefficients.specs.declared.scan.ScanType.{ScanType}
+use Rattle.coefficients.specs.declared.scan.ScanType.the-variants.{AlternateVertical}
+use Rattle.ranges.specs.Range.{quantiserFine, levelFine, differenceFine, dcFine}
+use Rattle.coefficients.specs.Refusal.{all, firstBad}
+use Rattle.coefficients.specs.declared.scan.DcPredictionDirection.{DcPredictionDirection}
+use Rattle.coefficients.specs.Scan.{scanOf, scanned}
+use Rattle.coefficients.specs.Prediction.{predicted, directionBy}
+
+-- 7.4.3.4: limited to -2048 .. 2047
+abbrev pub saturated : ℤ → ℤ
+saturated z = clampZ z (negsuc 2047) (pos 2047)
+
+abbrev pub saturatedBlock : List (List ℤ) → List (List ℤ)
+saturatedBlock b = block (λ (v u : ℕ). saturated (cell b v u))
+
+-- the scan of an intra block: alternate_vertical_scan_flag overrides 7.4.2's choice (6.3.5)
+abbrev pub intraScan : Bool → Bool → DcPredictionDirection → ScanType
+intraScan alternate acPred d = cond alternate AlternateVertical (scanOf true acPred d)
+
+-- each level: what the bits gave, with its prediction, limited
+abbrev pub limitedSum : List (List ℤ) → List (List ℤ) → List (List ℤ)
+limitedSum pqf prediction = block (λ (v u : ℕ). saturated (cell pqf v u +ℤ cell prediction v u))
+
+-- QF
+unfoldable pub levels : DcComponent → ℕ → Bool → Bool → BlockPredictors → List ℤ → List (List ℤ)
+levels c q acPred alternate p qfs =
+    limitedSum (scanned qfs (intraScan alternate acPred (directionBy p))) (block (predicted c q acPred p))
+
+-- ---- what is refused
+
+-- a neighbour's AC values, where it is there
+abbrev pub valuesFine : Bool → List ℤ → Bool
+valuesFine has xs = cond has (all levelFine xs) true
+
+abbrev pub predictorsFine : BlockPredictors → Bool
+predictorsFine p =
+    dcFine (p .«fa_dc») && (dcFine (p .«fb_dc») && (dcFine (p .«fc_dc») && (quantiserFine (p .«qp_a») && (quantiserFine (p .«qp_c»)
+    && (valuesFine (p .«a_has_column») (p .«a_first_column») && valuesFine (p .«c_has_row») (p .«c_first_row»))))))
+
+-- the place of the DC holds a difference, the others levels
+abbrev pub placesFine : List ℤ → Bool
+placesFine qfs = differenceFine (getD qfs 0 (pos 0)) && all levelFine (drop 1 qfs)
+
+abbrev pub levelsAnswer : ℕ → BlockPredictors → List ℤ → Stage
+levelsAnswer q p qfs = firstBad (quantiserFine q) (predictorsFine p && placesFine qfs)

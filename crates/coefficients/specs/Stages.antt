@@ -1,0 +1,85 @@
+-- What each public function of prediction and inverse quantisation answers by itself, refusals included. Definitions only.
+use mathlib.Core.Bool.{Bool, true, cond, _&&_, not}
+use mathlib.Core.List.{List}
+use Prim.Native.Nat.{ℕ, _≤_, _<_}
+use lib.Dec.{T, eqb}
+use lib.ListN.{getD}
+use lib.IntN.{ℤ, pos, natAbs, _+ℤ_}
+use Rattle.numbers.specs.Grid.{build, cell}
+use Rattle.codes.specs.declared.dc_size.DcComponent.{DcComponent}
+use Rattle.coefficients.specs.declared.refusal.CoefficientError.the-variants.{Context, OutOfRange}
+use Rattle.coefficients.specs.declared.refusal.Direction.{Direction}
+use Rattle.coefficients.specs.declared.refusal.Direction.the-variants.{Is as DirectionIs, Refused as DirectionRefused}
+use Rattle.coefficients.specs.declared.refusal.Scaler.{Scaler}
+use Rattle.coefficients.specs.declared.refusal.Scaler.the-variants.{Is as ScalerIs, Refused as ScalerRefused}
+use Rattle.coefficients.specs.declared.refusal.Stage.{Stage}
+use Rattle.coefficients.specs.declared.refusal.Value.{Value}
+use Rattle.coefficients.specs.declared.refusal.Value.the-variants.{Is as ValueIs, Refused as ValueRefused}
+use Rattle.coefficients.specs.declared.scan.DcPredictionDirection.{DcPredictionDirection}
+use Rattle.coefficients.specs.declared.predictor.BlockPredictors.{BlockPredictors}
+use Rattle.coefficients.specs.declared.inverse_quant.InverseQuantContext.{InverseQuantContext}
+use Rattle.ranges.specs.Range.{quantiserFine, depthFine, levelFine, differenceFine, dcFine}
+use Rattle.coefficients.specs.Refusal.{all, firstBad}
+use Rattle.coefficients.specs.Prediction.{dcScaler, directionOf, defaultDc, dcPrediction, acPrediction}
+use Rattle.coefficients.specs.Level.{valuesFine}
+use Rattle.coefficients.specs.Dequantised.{intraDc, method1, method2}
+
+-- 12 unless the context is fine, then 13 unless the values are, else the value
+abbrev pub valueUnless : Bool → Bool → ℤ → Value
+valueUnless context values z = cond context (cond values (ValueIs z) (ValueRefused OutOfRange)) (ValueRefused Context)
+
+abbrev pub scalerAnswer : DcComponent → ℕ → Scaler
+scalerAnswer c q = cond (quantiserFine q) (ScalerIs (dcScaler c q)) (ScalerRefused Context)
+
+abbrev pub directionAnswer : ℤ → ℤ → ℤ → Direction
+directionAnswer fa fb fc = cond (dcFine fa && (dcFine fb && dcFine fc)) (DirectionIs (directionOf fa fb fc)) (DirectionRefused OutOfRange)
+
+abbrev pub defaultAnswer : ℕ → Value
+defaultAnswer depth = valueUnless (depthFine depth) true (defaultDc depth)
+
+-- the DC level before limiting: the difference and the prediction
+abbrev pub dcAnswer : ℤ → DcPredictionDirection → ℤ → ℤ → ℕ → Value
+dcAnswer z d fa fc scaler =
+    valueUnless true (differenceFine z && (dcFine fa && dcFine fc)) (z +ℤ dcPrediction d fa fc scaler)
+
+-- seven AC levels before limiting: a missing neighbour's values are 0
+abbrev pub acAdded : List ℤ → Bool → List ℤ → ℕ → ℕ → List ℤ
+acAdded pqf has qf qp q = build 7 (λ (k : ℕ). getD pqf k (pos 0) +ℤ cond has (acPrediction (getD qf k (pos 0)) qp q) (pos 0))
+
+abbrev pub acAnswer : List ℤ → Bool → List ℤ → ℕ → ℕ → Stage
+acAnswer pqf has qf qp q = firstBad (quantiserFine q) (all levelFine pqf && (quantiserFine qp && valuesFine has qf))
+
+-- one value of 7.4.4
+abbrev pub intraDcAnswer : ℤ → DcComponent → ℕ → Bool → Value
+intraDcAnswer qf c q short = valueUnless (quantiserFine q) (levelFine qf) (intraDc qf c q short)
+
+abbrev pub method1Answer : ℤ → ℕ → ℕ → Bool → Value
+method1Answer qf w q intra = valueUnless (quantiserFine q && not (eqb w 0)) (levelFine qf) (method1 intra qf w q)
+
+abbrev pub method2Answer : ℤ → ℕ → Value
+method2Answer qf q = valueUnless (quantiserFine q) (levelFine qf) (method2 qf q)
+
+-- ---- what the functions inside the crate may take for granted
+
+-- predictors that pass 13's test, as magnitudes
+pub record PredictorsGood (p : BlockPredictors) : Type 0 where
+  pub a : natAbs (p .«fa_dc») ≤ 65536
+  pub b : natAbs (p .«fb_dc») ≤ 65536
+  pub c : natAbs (p .«fc_dc») ≤ 65536
+  pub «qp-a» : p .«qp_a» ≤ 511
+  pub «qp-c» : p .«qp_c» ≤ 511
+  pub column : T (p .«a_has_column») → (k : ℕ) → k < 7 → natAbs (getD (p .«a_first_column») k (pos 0)) ≤ 2048
+  pub row : T (p .«c_has_row») → (k : ℕ) → k < 7 → natAbs (getD (p .«c_first_row») k (pos 0)) ≤ 2048
+
+-- places that pass it
+abbrev pub PlacesGood : List ℤ → Type 0
+PlacesGood qfs = (k : ℕ) → natAbs (getD qfs k (pos 0)) ≤ 4095
+
+-- levels, and a context that passes 12's
+abbrev pub LevelsGood : List (List ℤ) → Type 0
+LevelsGood qf = (v u : ℕ) → natAbs (cell qf v u) ≤ 2048
+
+pub record ContextGood (ctx : InverseQuantContext) : Type 0 where
+  pub positive : 1 ≤ ctx .«quantiser_scale»
+  pub quantiser : ctx .«quantiser_scale» ≤ 511
+  pub depth : ctx .«bits_per_pixel» ≤ 12

@@ -1,0 +1,164 @@
+// The levels of an intra block (7.4.3.2 to 7.4.3.4).
+ghost use mathlib.Core.Path.{_≡_};
+ghost use Prim.Native.Nat.{ℕ, _≤_, _<_};
+ghost use lib.IntN.{natAbs};
+ghost use Rattle.numbers.specs.Grid.{cell};
+ghost use Rattle.coefficients.specs.Refusal.{after};
+ghost use Rattle.coefficients.specs.Level.{saturated, saturatedBlock, intraScan, limitedSum, levels, predictorsFine, placesFine, levelsAnswer};
+ghost use Rattle.coefficients.specs.Stages.{PredictorsGood, PlacesGood};
+use crate::predictor::BlockPredictors;
+use crate::refusal::CoefficientError;
+use crate::refusal::Stage;
+use crate::scan::DcPredictionDirection;
+use crate::scan::ScanType;
+use codes::DcComponent;
+
+// 7.4.3.4: a level limited to -2048..=2047.
+pub fn saturate_qf(value: i32) -> i32
+    ensures { λ r. ⌜ r ≡ saturated value ⌝ }
+{
+    numbers::clamp(value, ranges::Level::LEAST, ranges::Level::GREATEST)
+}
+
+// 7.4.3.4, of every level of a block.
+pub fn saturate_block(block: [[i32; 8]; 8]) -> [[i32; 8]; 8]
+    ensures { λ r. ⌜ r ≡ saturatedBlock block ⌝ }
+{
+    let mut out = [[0i32; 8]; 8];
+    for v in 0..8 {
+        for u in 0..8 {
+            out[v][u] = saturate_qf(block[v][u]);
+        }
+    }
+    out
+}
+
+// The scan of an intra block: `alternate_vertical_scan` overrides the choice of 7.4.2.
+fn intra_scan(
+    alternate_vertical_scan: bool,
+    ac_pred_flag: bool,
+    direction: DcPredictionDirection,
+) -> ScanType
+    ensures { λ r. ⌜ r ≡ intraScan «alternate_vertical_scan» «ac_pred_flag» direction ⌝ }
+{
+    if alternate_vertical_scan {
+        return ScanType::AlternateVertical;
+    }
+    crate::scan::select_scan_type(true, ac_pred_flag, direction)
+}
+
+// Each level: what the bits gave, with its prediction, limited.
+fn limited_sum(pqf: [[i32; 8]; 8], prediction: [[i32; 8]; 8]) -> [[i32; 8]; 8]
+    requires { ⌜ ((v u : ℕ) → v < 8 → u < 8 → (natAbs (cell pqf v u) ≤ 4095) × (natAbs (cell prediction v u) ≤ 1046528)) ⌝ }
+    ensures { λ r. ⌜ r ≡ limitedSum pqf prediction ⌝ }
+{
+    let mut out = [[0i32; 8]; 8];
+    for v in 0..8 {
+        for u in 0..8 {
+            out[v][u] = saturate_qf(pqf[v][u] + prediction[v][u]);
+        }
+    }
+    out
+}
+
+// The levels of places and predictors that are in range.
+fn levels_of(
+    qfs: [i32; 64],
+    component: DcComponent,
+    quantiser_scale: u32,
+    ac_pred_flag: bool,
+    alternate_vertical_scan: bool,
+    predictors: BlockPredictors,
+) -> [[i32; 8]; 8]
+    requires { ⌜ («quantiser_scale» ≤ 511) × PredictorsGood predictors × PlacesGood qfs ⌝ }
+    ensures { λ r. ⌜ r ≡ levels component «quantiser_scale» «ac_pred_flag» «alternate_vertical_scan» predictors qfs ⌝ }
+{
+    let direction = crate::predictor::direction_of(
+        predictors.fa_dc,
+        predictors.fb_dc,
+        predictors.fc_dc,
+    );
+    let scan_type = intra_scan(alternate_vertical_scan, ac_pred_flag, direction);
+    let pqf = crate::scan::inverse_scan(qfs, scan_type);
+    let prediction = crate::predictor::predictions(
+        component,
+        quantiser_scale,
+        ac_pred_flag,
+        predictors,
+    );
+    limited_sum(pqf, prediction)
+}
+
+// Whether predictors may be handed in (13). A missing neighbour's values are not looked at.
+pub fn predictors_fine(p: BlockPredictors) -> bool
+    ensures { λ r. ⌜ r ≡ predictorsFine p ⌝ }
+{
+    let column = p.a_first_column;
+    let row = p.c_first_row;
+    if !ranges::NeighbourDc::fine(p.fa_dc) {
+        return false;
+    }
+    if !ranges::NeighbourDc::fine(p.fb_dc) {
+        return false;
+    }
+    if !ranges::NeighbourDc::fine(p.fc_dc) {
+        return false;
+    }
+    if !ranges::Quantiser::fine(p.qp_a) {
+        return false;
+    }
+    if !ranges::Quantiser::fine(p.qp_c) {
+        return false;
+    }
+    if !crate::predictor::values_fine(p.a_has_column, column) {
+        return false;
+    }
+    crate::predictor::values_fine(p.c_has_row, row)
+}
+
+// Whether the place of the DC holds a difference and the others levels.
+fn places_fine(qfs: [i32; 64]) -> bool
+    ensures { λ r. ⌜ r ≡ placesFine qfs ⌝ }
+{
+    if !ranges::Difference::fine(qfs[0]) {
+        return false;
+    }
+    for k in 1..64 {
+        if !ranges::Level::fine(qfs[k]) {
+            return false;
+        }
+    }
+    true
+}
+
+// The levels QF of an intra block out of its 64 places, into `qf`; or 12 or 13, and `qf` as it was.
+pub fn intra_levels(
+    qfs: [i32; 64],
+    component: DcComponent,
+    quantiser_scale: u32,
+    ac_pred_flag: bool,
+    alternate_vertical_scan: bool,
+    predictors: BlockPredictors,
+    qf: &mut [[i32; 8]; 8],
+) -> Stage
+    ensures { λ r. ⌜ (r ≡ levelsAnswer «quantiser_scale» predictors qfs) × (now (qf .exit) ≡ after (levelsAnswer «quantiser_scale» predictors qfs) (levels component «quantiser_scale» «ac_pred_flag» «alternate_vertical_scan» predictors qfs) (now (qf .entry))) ⌝ }
+{
+    if !ranges::Quantiser::fine(quantiser_scale) {
+        return Stage::Refused(CoefficientError::Context);
+    }
+    if !predictors_fine(predictors) {
+        return Stage::Refused(CoefficientError::OutOfRange);
+    }
+    if !places_fine(qfs) {
+        return Stage::Refused(CoefficientError::OutOfRange);
+    }
+    *qf = levels_of(
+        qfs,
+        component,
+        quantiser_scale,
+        ac_pred_flag,
+        alternate_vertical_scan,
+        predictors,
+    );
+    Stage::Done
+}

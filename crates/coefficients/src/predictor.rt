@@ -1,0 +1,315 @@
+// Intra prediction (predictor.rs; 7.4.3).
+ghost use mathlib.Core.Path.{_≡_};
+ghost use Prim.Native.Nat.{ℕ, _≤_, _<_, min};
+ghost use lib.Dec.{T};
+ghost use lib.ListN.{getD, length};
+ghost use lib.IntN.{natAbs, pos};
+ghost use Rattle.numbers.specs.Grid.{block};
+ghost use Rattle.ranges.specs.Range.{levelFine};
+ghost use Rattle.coefficients.specs.Refusal.{all, after};
+ghost use Rattle.coefficients.specs.Level.{valuesFine};
+ghost use Rattle.coefficients.specs.Prediction.{dcScaler, directionOf, defaultDc, outsideOf, dcPrediction, acPrediction, predicted};
+ghost use Rattle.coefficients.specs.Stages.{scalerAnswer, directionAnswer, defaultAnswer, dcAnswer, acAdded, acAnswer, PredictorsGood};
+use crate::refusal::CoefficientError;
+use crate::refusal::Direction;
+use crate::refusal::Scaler;
+use crate::refusal::Stage;
+use crate::refusal::Value;
+use crate::scan::DcPredictionDirection;
+use codes::DcComponent;
+
+// What a block takes of its neighbours A (left), B (above left) and C (above). The Rust's
+// `Option<[i32; 7]>` is a flag beside an array.
+pub struct BlockPredictors {
+    pub fa_dc: i32,
+    pub fb_dc: i32,
+    pub fc_dc: i32,
+    pub qp_a: u32,
+    pub qp_c: u32,
+    pub a_has_column: bool,
+    pub a_first_column: [i32; 7],
+    pub c_has_row: bool,
+    pub c_first_row: [i32; 7],
+}
+
+impl BlockPredictors {
+    // All neighbours missing. A depth above 12, which every stage refuses, is taken as 12.
+    pub fn outside(bits_per_pixel: u32, quantiser_scale: u32) -> Self
+        ensures { λ r. ⌜ r ≡ outsideOf «bits_per_pixel» «quantiser_scale» ⌝ }
+    {
+        let dc = missing_dc(bits_per_pixel);
+        BlockPredictors {
+            fa_dc: dc,
+            fb_dc: dc,
+            fc_dc: dc,
+            qp_a: quantiser_scale,
+            qp_c: quantiser_scale,
+            a_has_column: false,
+            a_first_column: [0i32; 7],
+            c_has_row: false,
+            c_first_row: [0i32; 7],
+        }
+    }
+}
+
+// 2^(depth + 2), of a depth up to 12.
+fn missing_dc(bits_per_pixel: u32) -> i32
+    ensures { λ r. ⌜ r ≡ defaultDc (min «bits_per_pixel» 12) ⌝ }
+{
+    if bits_per_pixel < 12 {
+        return 1i32 << (bits_per_pixel + 2);
+    }
+    16384
+}
+
+// The DC of a missing neighbour: 2^(depth + 2), or 12.
+pub fn default_neighbour_dc(bits_per_pixel: u32) -> Value
+    ensures { λ r. ⌜ r ≡ defaultAnswer «bits_per_pixel» ⌝ }
+{
+    if !ranges::Depth::fine(bits_per_pixel) {
+        return Value::Refused(CoefficientError::Context);
+    }
+    Value::Is(missing_dc(bits_per_pixel))
+}
+
+// Table 7-1, of a quantiser up to 511.
+pub(crate) fn scaler_of(component: DcComponent, quantiser_scale: u32) -> u32
+    requires { ⌜ «quantiser_scale» ≤ 511 ⌝ }
+    ensures { λ r. ⌜ (r ≡ dcScaler component «quantiser_scale») × (r ≤ 1006) ⌝ }
+{
+    let q = quantiser_scale;
+    match component {
+        DcComponent::Luminance => {
+            if q <= 4 {
+                8
+            } else if q <= 8 {
+                2 * q
+            } else if q <= 24 {
+                q + 8
+            } else {
+                2 * q - 16
+            }
+        }
+        DcComponent::Chrominance => {
+            if q <= 4 {
+                8
+            } else if q <= 24 {
+                (q + 13) / 2
+            } else {
+                q - 6
+            }
+        }
+    }
+}
+
+// Table 7-1, or 12.
+pub fn dc_scaler(component: DcComponent, quantiser_scale: u32) -> Scaler
+    ensures { λ r. ⌜ r ≡ scalerAnswer component «quantiser_scale» ⌝ }
+{
+    if !ranges::Quantiser::fine(quantiser_scale) {
+        return Scaler::Refused(CoefficientError::Context);
+    }
+    Scaler::Is(scaler_of(component, quantiser_scale))
+}
+
+// 7.4.3.1: from C where |FA - FB| < |FB - FC|, else from A.
+pub(crate) fn direction_of(fa: i32, fb: i32, fc: i32) -> DcPredictionDirection
+    requires { ⌜ (natAbs fa ≤ 65536) × (natAbs fb ≤ 65536) × (natAbs fc ≤ 65536) ⌝ }
+    ensures { λ r. ⌜ r ≡ directionOf fa fb fc ⌝ }
+{
+    if numbers::abs(fa - fb) < numbers::abs(fb - fc) {
+        return DcPredictionDirection::FromAbove;
+    }
+    DcPredictionDirection::FromLeft
+}
+
+// 7.4.3.1, or 13.
+pub fn select_dc_direction(fa: i32, fb: i32, fc: i32) -> Direction
+    ensures { λ r. ⌜ r ≡ directionAnswer fa fb fc ⌝ }
+{
+    if !ranges::NeighbourDc::fine(fa) {
+        return Direction::Refused(CoefficientError::OutOfRange);
+    }
+    if !ranges::NeighbourDc::fine(fb) {
+        return Direction::Refused(CoefficientError::OutOfRange);
+    }
+    if !ranges::NeighbourDc::fine(fc) {
+        return Direction::Refused(CoefficientError::OutOfRange);
+    }
+    Direction::Is(direction_of(fa, fb, fc))
+}
+
+// 7.4.3.2: the prediction of the DC level.
+fn dc_prediction(direction: DcPredictionDirection, fa_dc: i32, fc_dc: i32, scaler: u32) -> i32
+    requires { ⌜ (natAbs «fa_dc» ≤ 65536) × (natAbs «fc_dc» ≤ 65536) ⌝ }
+    ensures { λ r. ⌜ (r ≡ dcPrediction direction «fa_dc» «fc_dc» scaler) × (natAbs r ≤ 65536) ⌝ }
+{
+    match direction {
+        DcPredictionDirection::FromLeft => numbers::div_round_half_away(fa_dc, scaler),
+        DcPredictionDirection::FromAbove => numbers::div_round_half_away(fc_dc, scaler),
+    }
+}
+
+// 7.4.3.2: the DC level of a difference, before limiting; or 13.
+pub fn predict_intra_dc(
+    pqfx_dc: i32,
+    direction: DcPredictionDirection,
+    fa_dc: i32,
+    fc_dc: i32,
+    dc_scaler_x: u32,
+) -> Value
+    ensures { λ r. ⌜ r ≡ dcAnswer «pqfx_dc» direction «fa_dc» «fc_dc» «dc_scaler_x» ⌝ }
+{
+    if !ranges::Difference::fine(pqfx_dc) {
+        return Value::Refused(CoefficientError::OutOfRange);
+    }
+    if !ranges::NeighbourDc::fine(fa_dc) {
+        return Value::Refused(CoefficientError::OutOfRange);
+    }
+    if !ranges::NeighbourDc::fine(fc_dc) {
+        return Value::Refused(CoefficientError::OutOfRange);
+    }
+    Value::Is(pqfx_dc + dc_prediction(direction, fa_dc, fc_dc, dc_scaler_x))
+}
+
+// 7.4.3.3: the prediction of an AC level from a neighbour's.
+fn ac_prediction(qf: i32, qp: u32, qp_x: u32) -> i32
+    requires { ⌜ (natAbs qf ≤ 2048) × (qp ≤ 511) ⌝ }
+    ensures { λ r. ⌜ (r ≡ acPrediction qf qp «qp_x») × (natAbs r ≤ 1046528) ⌝ }
+{
+    numbers::div_round_half_away(qf * (qp as i32), qp_x)
+}
+
+// Whether each of seven values is a level.
+pub(crate) fn all_levels(values: [i32; 7]) -> bool
+    ensures { λ r. ⌜ r ≡ all levelFine values ⌝ }
+{
+    for k in 0..7 {
+        if !ranges::Level::fine(values[k]) {
+            return false;
+        }
+    }
+    true
+}
+
+// Whether a neighbour's values may be handed in, where it is there.
+pub(crate) fn values_fine(has: bool, values: [i32; 7]) -> bool
+    ensures { λ r. ⌜ r ≡ valuesFine has values ⌝ }
+{
+    if has {
+        return all_levels(values);
+    }
+    true
+}
+
+// Seven levels with the prediction from a neighbour added; a missing one adds nothing.
+fn ac_added(pqfx: [i32; 7], has: bool, qf: [i32; 7], qp: u32, qp_x: u32) -> [i32; 7]
+    requires { ⌜ ((k : ℕ) → k < 7 → natAbs (getD pqfx k (pos 0)) ≤ 2048) × (T has → (k : ℕ) → k < 7 → natAbs (getD qf k (pos 0)) ≤ 2048) × (qp ≤ 511) ⌝ }
+    ensures { λ r. ⌜ r ≡ acAdded pqfx has qf qp «qp_x» ⌝ }
+{
+    if !has {
+        return pqfx;
+    }
+    let mut out = [0i32; 7];
+    for k in 0..7 {
+        out[k] = pqfx[k] + ac_prediction(qf[k], qp, qp_x);
+    }
+    out
+}
+
+// 7.4.3.3: seven levels with the prediction from a neighbour added, before limiting; or 12 or 13.
+fn predict_intra_ac(
+    pqfx: [i32; 7],
+    has: bool,
+    qf: [i32; 7],
+    qp: u32,
+    qp_x: u32,
+    out: &mut [i32; 7],
+) -> Stage
+    requires { ⌜ length (now out) ≡ 7 ⌝ }
+    ensures { λ r. ⌜ (r ≡ acAnswer pqfx has qf qp «qp_x») × (now (out .exit) ≡ after (acAnswer pqfx has qf qp «qp_x») (acAdded pqfx has qf qp «qp_x») (now (out .entry))) ⌝ }
+{
+    if !ranges::Quantiser::fine(qp_x) {
+        return Stage::Refused(CoefficientError::Context);
+    }
+    if !all_levels(pqfx) {
+        return Stage::Refused(CoefficientError::OutOfRange);
+    }
+    if !ranges::Quantiser::fine(qp) {
+        return Stage::Refused(CoefficientError::OutOfRange);
+    }
+    if !values_fine(has, qf) {
+        return Stage::Refused(CoefficientError::OutOfRange);
+    }
+    *out = ac_added(pqfx, has, qf, qp, qp_x);
+    Stage::Done
+}
+
+// 7.4.3.3: the first column of levels, predicted from A, before limiting; or 12 or 13.
+pub fn predict_intra_ac_column(
+    pqfx_col: [i32; 7],
+    has_column: bool,
+    qfa_col: [i32; 7],
+    qp_a: u32,
+    qp_x: u32,
+    out: &mut [i32; 7],
+) -> Stage
+    ensures { λ r. ⌜ (r ≡ acAnswer «pqfx_col» «has_column» «qfa_col» «qp_a» «qp_x») × (now (out .exit) ≡ after (acAnswer «pqfx_col» «has_column» «qfa_col» «qp_a» «qp_x») (acAdded «pqfx_col» «has_column» «qfa_col» «qp_a» «qp_x») (now (out .entry))) ⌝ }
+{
+    predict_intra_ac(pqfx_col, has_column, qfa_col, qp_a, qp_x, out)
+}
+
+// 7.4.3.3: the first row of levels, predicted from C, before limiting; or 12 or 13.
+pub fn predict_intra_ac_row(
+    pqfx_row: [i32; 7],
+    has_row: bool,
+    qfc_row: [i32; 7],
+    qp_c: u32,
+    qp_x: u32,
+    out: &mut [i32; 7],
+) -> Stage
+    ensures { λ r. ⌜ (r ≡ acAnswer «pqfx_row» «has_row» «qfc_row» «qp_c» «qp_x») × (now (out .exit) ≡ after (acAnswer «pqfx_row» «has_row» «qfc_row» «qp_c» «qp_x») (acAdded «pqfx_row» «has_row» «qfc_row» «qp_c» «qp_x») (now (out .entry))) ⌝ }
+{
+    predict_intra_ac(pqfx_row, has_row, qfc_row, qp_c, qp_x, out)
+}
+
+// The prediction of every level of a block: the DC, and the first column or row where `ac_pred_flag` is set.
+pub(crate) fn predictions(
+    component: DcComponent,
+    quantiser_scale: u32,
+    ac_pred_flag: bool,
+    p: BlockPredictors,
+) -> [[i32; 8]; 8]
+    requires { ⌜ («quantiser_scale» ≤ 511) × PredictorsGood p ⌝ }
+    ensures { λ r. ⌜ r ≡ block (predicted component «quantiser_scale» «ac_pred_flag» p) ⌝ }
+{
+    let direction = direction_of(p.fa_dc, p.fb_dc, p.fc_dc);
+    let mut out = [[0i32; 8]; 8];
+    out[0][0] = dc_prediction(
+        direction,
+        p.fa_dc,
+        p.fc_dc,
+        scaler_of(component, quantiser_scale),
+    );
+    if ac_pred_flag {
+        match direction {
+            DcPredictionDirection::FromLeft => {
+                if p.a_has_column {
+                    let column = p.a_first_column;
+                    for v in 1..8 {
+                        out[v][0] = ac_prediction(column[v - 1], p.qp_a, quantiser_scale);
+                    }
+                }
+            }
+            DcPredictionDirection::FromAbove => {
+                if p.c_has_row {
+                    let row = p.c_first_row;
+                    for u in 1..8 {
+                        out[0][u] = ac_prediction(row[u - 1], p.qp_c, quantiser_scale);
+                    }
+                }
+            }
+        }
+    }
+    out
+}

@@ -1,0 +1,139 @@
+-- `lt` compares the integers that two floats are, and a cast to an integer drops less than 1; the format is a variable. Assumes nothing.
+use mathlib.Core.Bool.{Bool, true, false, not, cond}
+use mathlib.Core.Path.{_≡_, sym, ap, _∙_, subst}
+use Prim.Native.Nat.{ℕ, _+_, _-_, _*_, _^_, _≤_, _<_, _/_, _%_, min}
+use native.Mathlib.Nat.{le-trans, le-of-eq, lt-of-le-of-lt, lt-of-lt-of-le, mul-le-mul-right, mul-lt-mul-of-pos-right, lt-of-mul-lt-mul-right, le-of-mul-le-mul-right, mul-pos, div-add-mod', mod-lt, div-lt-iff-lt-mul}
+use native.Mathlib.Omega.{arith}
+use lib.Dec.{T, ltb, ltb→lt, nltb→le}
+use lib.Ieee.{Float, nan, inf, fin, Format, low, up as numer, down as denom, lt, below, toSigned}
+use lib.Ieee.Fits.{down-pos}
+use lib.Ieee.Nearest.{div-same}
+use lib.IntN.{ℤ, pos, negℤ, natAbs}
+use lib.Pow.{pow-pos}
+use Rattle.f64_error.proofs.Operations.{abs-sgn, at-l, at-r}
+use Rattle.f64_error.specs.Units.{Val, sgn}
+use Rattle.numbers.proofs.Integers.{dn, neg-dn, neg-up, up}
+
+-- a < b, as `omega` reads it
+abbrev pub Lt : ℤ → ℤ → Type 0
+Lt a b = up a + dn b < up b + dn a
+
+abbrev pub Le : ℤ → ℤ → Type 0
+Le a b = up a + dn b ≤ up b + dn a
+
+-- what a comparison says of two numbers
+abbrev Says : Bool → ℤ → ℤ → Type 0
+Says true a b = Lt a b
+Says false a b = Le b a
+
+-- A / C is p / L and B / C is q / L
+module _ (A B C p q L : ℕ) (D : 0 < C) (l : 0 < L) (a : A * L ≡ p * C) (b : B * L ≡ q * C) where
+  pub lt-units : A < B → p < q
+  lt-units h = lt-of-mul-lt-mul-right C (lt-of-le-of-lt (le-of-eq (sym a)) (lt-of-lt-of-le (mul-lt-mul-of-pos-right h l) (le-of-eq b)))
+
+  pub le-units : A ≤ B → p ≤ q
+  le-units h = le-of-mul-le-mul-right (le-trans (le-of-eq (sym a)) (le-trans (mul-le-mul-right L h) (le-of-eq b))) D
+
+module _ (A B C p q L : ℕ) (D : 0 < C) (l : 0 < L) (a : A * L ≡ p * C) (b : B * L ≡ q * C) where
+  like : (t : Bool) → (T t → A < B) → (T (not t) → B ≤ A) → Says t (pos p) (pos q)
+  like true h k = let r = lt-units A B C p q L D l a b (h tt) in omega arith
+  like false h k = let r = le-units B A C q p L D l b a (k tt) in omega arith
+
+  both-down : (t : Bool) → (T t → B < A) → (T (not t) → A ≤ B) → Says t (negℤ (pos p)) (negℤ (pos q))
+  both-down true h k = let r = lt-units B A C q p L D l b a (h tt) in omega (arith, neg-up (pos p), neg-dn (pos p), neg-up (pos q), neg-dn (pos q))
+  both-down false h k = let r = le-units A B C p q L D l a b (k tt) in omega (arith, neg-up (pos p), neg-dn (pos p), neg-up (pos q), neg-dn (pos q))
+
+  across : (t : Bool) → (T t → 0 < A + B) → (T (not t) → A + B ≤ 0) → Says t (negℤ (pos p)) (pos q)
+  across true h k = let r = sum-pos (h tt) in omega (arith, neg-up (pos p), neg-dn (pos p))
+    where
+      sum-pos : 0 < A + B → 0 < p + q
+      sum-pos g = lt-of-mul-lt-mul-right C (line (mul-lt-mul-of-pos-right g l))
+        where
+          line : 0 * L < (A + B) * L → 0 * C < (p + q) * C
+          line r = omega arith
+  across false h k =
+      let r = k tt in
+      let r1 = le-units A 0 C p 0 L D l a (line L C) (less A B r) in
+      let r2 = le-units B 0 C q 0 L D l b (line L C) (more A B r) in
+      omega (arith, neg-up (pos p), neg-dn (pos p))
+    where
+      line : (x y : ℕ) → 0 * x ≡ 0 * y
+      line x y = omega arith
+
+      less : (x y : ℕ) → x + y ≤ 0 → x ≤ 0
+      less x y h = omega arith
+
+      more : (x y : ℕ) → x + y ≤ 0 → y ≤ 0
+      more x y h = omega arith
+
+  below-says : (s t : Bool) → Says (below s A t B) (sgn s p) (sgn t q)
+  below-says false false = like (ltb A B) (ltb→lt A B) (nltb→le A B)
+  below-says false true = omega (arith, neg-up (pos q), neg-dn (pos q))
+  below-says true false = across (ltb 0 (A + B)) (ltb→lt 0 (A + B)) (nltb→le 0 (A + B))
+  below-says true true = both-down (ltb B A) (ltb→lt B A) (nltb→le B A)
+
+lt-says : (f : Format) (x y : Float) (a b : ℤ) → Val f x a → Val f y b → Says (lt x y) a b
+unfolding lt
+lt-says f nan y a b h g = absurd h
+lt-says f (inf s) y a b h g = absurd h
+lt-says f (fin s m e) nan a b h g = absurd g
+lt-says f (fin s m e) (inf t) a b h g = absurd g
+lt-says f (fin s m e) (fin t n d) a b h g =
+    subst (λ (z : ℤ). Says (below s (m * numer e * denom d) t (n * numer d * denom e)) z b) (sym (h .2))
+    (subst (λ (z : ℤ). Says (below s (m * numer e * denom d) t (n * numer d * denom e)) (sgn s (h .0)) z) (sym (g .2))
+    (below-says (m * numer e * denom d) (n * numer d * denom e) (denom e * denom d) (h .0) (g .0) (2 ^ low f) (mul-pos (down-pos e) (down-pos d)) (pow-pos (low f))
+    (at-l (m * numer e) (2 ^ low f) (h .0) (denom e) (denom d) (h .1)) (at-r (n * numer d) (2 ^ low f) (g .0) (denom e) (denom d) (g .1)) s t))
+
+pub lt-yes : (f : Format) (x y : Float) (a b : ℤ) → Val f x a → Val f y b → lt x y ≡ true → Lt a b
+lt-yes f x y a b h g e = subst (λ (t : Bool). Says t a b) e (lt-says f x y a b h g)
+
+pub lt-no : (f : Format) (x y : Float) (a b : ℤ) → Val f x a → Val f y b → lt x y ≡ false → Le b a
+lt-no f x y a b h g e = subst (λ (t : Bool). Says t a b) e (lt-says f x y a b h g)
+
+-- ---- toward zero: what is dropped is less than 1, which is L units
+cut : (s : Bool) (n L : ℕ) → 0 < L → (up (sgn s n) + dn (sgn s (n / L)) * L < dn (sgn s n) + up (sgn s (n / L)) * L + L) × (dn (sgn s n) + up (sgn s (n / L)) * L < up (sgn s n) + dn (sgn s (n / L)) * L + L)
+cut false n L l = let r = mod-lt n l in let e = div-add-mod' n L in omega arith
+cut true n L l =
+    let r = mod-lt n l in
+    let e = div-add-mod' n L in
+    simp (neg-up, neg-dn) (line n (n / L * L) (n % L) r e)
+  where
+    line : (n q r : ℕ) → r < L → q + r ≡ n → (0 + q < n + 0 * L + L) × (n + 0 * L < 0 + q + L)
+    line n q r h e = omega arith
+
+pub toSigned-val : (f : Format) (h : ℕ) (x : Float) (a : ℤ) → Val f x a → natAbs a < 2 ^ h * 2 ^ low f
+    → (up a + dn (toSigned h x) * 2 ^ low f < dn a + up (toSigned h x) * 2 ^ low f + 2 ^ low f) × (dn a + up (toSigned h x) * 2 ^ low f < up a + dn (toSigned h x) * 2 ^ low f + 2 ^ low f)
+unfolding toSigned
+toSigned-val f h nan a v s = absurd v
+toSigned-val f h (inf t) a v s = absurd v
+toSigned-val f h (fin t m e) a v s =
+    let n = v .0 in
+    let L = 2 ^ low f in
+    let q : m * numer e / denom e ≡ n / L = div-same (m * numer e) (denom e) n L (down-pos e) (pow-pos (low f)) (v .1) in
+    let n-lt : n < 2 ^ h * L = subst (λ (z : ℕ). z < 2 ^ h * L) (ap natAbs (v .2) ∙ abs-sgn t n) s in
+    let is : cond t (negℤ (pos (min (m * numer e / denom e) (2 ^ h)))) (pos (min (m * numer e / denom e) (2 ^ h - 1))) ≡ sgn t (n / L) =
+    ap (λ (z : ℕ). cond t (negℤ (pos (min z (2 ^ h)))) (pos (min z (2 ^ h - 1)))) q ∙ uncap t (n / L) (2 ^ h) (div-lt-iff-lt-mul (pow-pos (low f)) .1 n-lt) in
+    subst (λ (z : ℤ). (up a + dn z * L < dn a + up z * L + L) × (dn a + up z * L < up a + dn z * L + L)) (sym is)
+    (subst (λ (z : ℤ). (up z + dn (sgn t (n / L)) * L < dn z + up (sgn t (n / L)) * L + L) × (dn z + up (sgn t (n / L)) * L < up z + dn (sgn t (n / L)) * L + L)) (sym (v .2))
+    (cut t n L (pow-pos (low f))))
+  where
+    small : (z H : ℕ) → z < H → min z H ≡ z
+    small z H h = omega arith
+
+    less : (z H : ℕ) → z < H → min z (H - 1) ≡ z
+    less z H h = omega arith
+
+    uncap : (t : Bool) (z H : ℕ) → z < H → cond t (negℤ (pos (min z H))) (pos (min z (H - 1))) ≡ sgn t z
+    uncap true z H h = ap (λ (i : ℕ). negℤ (pos i)) (small z H h)
+    uncap false z H h = ap pos (less z H h)
+
+-- ---- from the numbers to the test
+pub lt-holds : (f : Format) (x y : Float) (a b : ℤ) → Val f x a → Val f y b → Lt a b → T (lt x y)
+lt-holds f x y a b h g l = go (lt x y) (lt-says f x y a b h g)
+  where
+    go : (t : Bool) → Says t a b → T t
+    go true s = tt
+    go false s = absurd (clash s l)
+      where
+        clash : Le b a → Lt a b → ⊥
+        clash u w = omega arith

@@ -1,0 +1,5 @@
+-- What is said of an f64 over whole numbers.
+pub mod Units
+pub mod Series
+pub mod Wholes
+pub mod Near

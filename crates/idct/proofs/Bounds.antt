@@ -1,0 +1,126 @@
+-- The whole bound, on plain values. Assumes nothing.
+use mathlib.Core.List.{List}
+use mathlib.Core.Path.{_≡_, refl, sym, ap, _∙_, subst}
+use Prim.Native.Nat.{ℕ, suc, _+_, _*_, _^_, _≤_, _<_}
+use native.Mathlib.Nat.{lt-of-le-of-lt, mul-lt-mul-of-pos-right, le-of-mul-le-mul-right, mul-assoc}
+use native.Mathlib.Omega.{arith}
+use lib.Dec.{T, lit<, le→leb}
+use lib.Ieee.{binary64, ofInt, inFloat, size}
+use lib.IntN.{ℤ, pos, negsuc, negℤ, natAbs, _-ℤ_, _*ℤ_}
+use Rattle.f64_error.proofs.Binary64.{one-is, grain-pos, mesh-pos, one-factors, one-mesh, grain-mesh, is-unique, off, below}
+use Rattle.f64_error.proofs.FromIntegers.{near-int, times-up, times-dn}
+use Rattle.f64_error.proofs.Nearness.{near-weaken}
+use Rattle.f64_error.proofs.Passes.{near-block, after}
+use Rattle.f64_error.proofs.Sizes.{size-one}
+use Rattle.f64_error.specs.Near.{Near}
+use Rattle.f64_error.specs.Units.{one, grain, mesh, Bounded}
+use Rattle.f64_error.specs.Wholes.{RoundOf, floorZ}
+use Rattle.idct.proofs.Rounds.{whole-near}
+use Rattle.idct.proofs.Tables.{cos-const, c-const}
+use Rattle.idct.specs.Cosine.{cF, cZ, cosF, cosZ}
+use Rattle.idct.specs.Exact.{exact, Within, Modest}
+use Rattle.idct.specs.Rounding.{wholeOf}
+use Rattle.idct.specs.Transform.{computed, whole}
+use Rattle.idct.specs.declared.HalfIntegerRounding.{HalfIntegerRounding}
+use Rattle.numbers.proofs.Integers.{up, dn, neg-up, neg-dn, abs-is, add-is}
+use Rattle.numbers.specs.Grid.{cell}
+
+in-float : (z : ℤ) → natAbs z ≤ 32768 → T (inFloat binary64 z)
+unfolding inFloat
+in-float (pos n) l = le→leb n (2 ^ 53) (omega arith)
+in-float (negsuc n) l = le→leb (suc n) (2 ^ 53) (omega arith)
+
+-- rows: products below 2 ^ 16, sums below 2 ^ 19; columns: below 2 ^ 18 and 2 ^ 21
+row-products : 32768 * one + off 16 < below 16
+row-products = lt-of-le-of-lt (line one one-is) (mul-lt-mul-of-pos-right (lit< tt) grain-pos)
+  where
+    line : (o : ℕ) → o ≡ 2 ^ 60 * grain → 32768 * o + off 16 ≤ (2 ^ 75 + 2 ^ 30) * grain
+    line o e = omega arith
+
+row-sums : 8 * (32768 * one + 2 * off 16 + off 19) < below 19
+row-sums = lt-of-le-of-lt (line one one-is) (mul-lt-mul-of-pos-right (lit< tt) grain-pos)
+  where
+    line : (o : ℕ) → o ≡ 2 ^ 60 * grain → 8 * (32768 * o + 2 * off 16 + off 19) ≤ (2 ^ 78 + 2 ^ 30) * grain
+    line o e = omega arith
+
+column-products : after 16 19 (32768 * one) + off 18 < below 18
+column-products = lt-of-le-of-lt (line one one-is) (mul-lt-mul-of-pos-right (lit< tt) grain-pos)
+  where
+    line : (o : ℕ) → o ≡ 2 ^ 60 * grain → after 16 19 (32768 * o) + off 18 ≤ (2 ^ 77 + 2 ^ 40) * grain
+    line o e = omega arith
+
+column-sums : 8 * (after 16 19 (32768 * one) + 2 * off 18 + off 21) < below 21
+column-sums = lt-of-le-of-lt (line one one-is) (mul-lt-mul-of-pos-right (lit< tt) grain-pos)
+  where
+    line : (o : ℕ) → o ≡ 2 ^ 60 * grain → 8 * (after 16 19 (32768 * o) + 2 * off 18 + off 21) ≤ (2 ^ 80 + 2 ^ 40) * grain
+    line o e = omega arith
+
+error-is : after 18 21 (after 16 19 0) ≤ 1610612736 * grain
+error-is = omega arith
+
+size-is : after 18 21 (after 16 19 (32768 * one)) ≤ 1048576 * one
+size-is = line one one-is
+  where
+    line : (o : ℕ) → o ≡ 2 ^ 60 * grain → after 18 21 (after 16 19 (32768 * o)) ≤ 1048576 * o
+    line o e = omega arith
+
+-- from units to the exact sum's own unit
+unscale : (p n a b K T S o : ℕ) → o ≡ K * mesh → S ≡ T * mesh → p * o + b * mesh ≤ n * o + a * mesh + S → p * K + b ≤ n * K + a + T
+unscale p n a b K T S o e g h = le-of-mul-le-mul-right (line (subst (λ (z : ℕ). p * z + b * mesh ≤ n * z + a * mesh + S) e h)) mesh-pos
+  where
+    line : p * (K * mesh) + b * mesh ≤ n * (K * mesh) + a * mesh + S → (p * K + b) * mesh ≤ (n * K + a + T) * mesh
+    line k = omega arith
+
+slack : (2 ^ 59 + 2 ^ 34) * grain ≡ (2 ^ 221 + 2 ^ 196) * mesh
+slack = ap (λ (w : ℕ). (2 ^ 59 + 2 ^ 34) * w) grain-mesh ∙ sym (mul-assoc (2 ^ 59 + 2 ^ 34) (2 ^ 162) mesh)
+
+-- |n * K - z| ≤ T from the two bounds
+pub distance : (n z : ℤ) (K T : ℕ) → up n * K + dn z ≤ dn n * K + up z + T → dn n * K + up z ≤ up n * K + dn z + T → natAbs (n *ℤ pos K -ℤ z) ≤ T
+distance n z K T a b =
+    let d = n *ℤ pos K -ℤ z in
+    let e = add-is (n *ℤ pos K) (negℤ z) in
+    let s = size-one d 0 0 T (omega (arith, times-up n K, times-dn n K, neg-up z, neg-dn z)) (omega (arith, times-up n K, times-dn n K, neg-up z, neg-dn z)) in
+    omega (arith, abs-is d)
+
+module _ (l : List (List ℤ)) (modest : Modest l) (y x : ℕ) (ly : y < 8) (lx : x < 8) where
+  -- the f64 transform is within 3 * 2 ^ -31 of the exact one
+  pub transform-near : Near (computed l y x) mesh (exact l y x) (1610612736 * grain) (1048576 * one)
+  transform-near =
+      near-weaken (computed l y x) mesh (exact l y x) (after 18 21 (after 16 19 0)) (after 18 21 (after 16 19 (32768 * one))) (1610612736 * grain) (1048576 * one) error-is size-is
+      (near-block 16 19 18 21 mesh (2 ^ 55) 0 (32768 * one) cF cosF (λ v u. ofInt binary64 (cell l v u)) cZ cosZ (cell l) (omega arith) (omega arith) (omega arith) (omega arith)
+      (λ v u i j. subst (λ (S : ℕ). Near (ofInt binary64 (cell l v u)) S (cell l v u) 0 (32768 * one)) (sym one-factors) (near-int (cell l v u) 32768 (in-float (cell l v u) (modest v u i j)) (modest v u i j)))
+      (λ u i. c-const u)
+      (λ u w i j. cos-const u w)
+      row-products
+      row-sums
+      column-products
+      column-sums
+      y
+      x
+      ly
+      lx)
+
+  pub bounded : Bounded (computed l y x) (1048576 * one)
+  bounded = record { v = transform-near .v; is = transform-near .is; size = transform-near .size }
+
+  -- what the rounded number is, from the rounding's own bound
+  module _ (n : ℤ) (o : RoundOf (computed l y x) n) where
+    same : o .v ≡ transform-near .v
+    same = is-unique (computed l y x) (o .v) (transform-near .v) (o .is) (transform-near .is)
+
+    over : up n * one + dn (exact l y x) * mesh ≤ dn n * one + up (exact l y x) * mesh + (2 ^ 59 + 2 ^ 34) * grain
+    over = omega (arith, subst (λ (v : ℤ). up n * one + dn v ≤ dn n * one + up v + (2 ^ 59 + 12066085959) * grain) same (o .over), transform-near .over)
+
+    under : dn n * one + up (exact l y x) * mesh ≤ up n * one + dn (exact l y x) * mesh + (2 ^ 59 + 2 ^ 34) * grain
+    under = omega (arith, subst (λ (v : ℤ). dn n * one + up v ≤ up n * one + dn v + (2 ^ 59 + 12066085959) * grain) same (o .under), transform-near .under)
+
+    within : Within n (exact l y x)
+    within =
+        distance n (exact l y x) (2 ^ 222) (2 ^ 221 + 2 ^ 196)
+        (unscale (up n) (dn n) (up (exact l y x)) (dn (exact l y x)) (2 ^ 222) (2 ^ 221 + 2 ^ 196) ((2 ^ 59 + 2 ^ 34) * grain) one one-mesh slack over)
+        (unscale (dn n) (up n) (dn (exact l y x)) (up (exact l y x)) (2 ^ 222) (2 ^ 221 + 2 ^ 196) ((2 ^ 59 + 2 ^ 34) * grain) one one-mesh slack under)
+
+  -- each whole number is within 1/2 + 2 ^ -26 of the exact transform
+  pub near : (m : HalfIntegerRounding) → Within (whole m l y x) (exact l y x)
+  unfolding whole
+  near m = within (wholeOf m (computed l y x)) (whole-near (computed l y x) bounded (floorZ (computed l y x)) refl m)

@@ -1,0 +1,2 @@
+-- The ranges that document 01 names.
+pub mod Range

@@ -1,0 +1,110 @@
+// The ranges of document 01, each named once: depth, quantiser scale, level, difference and DC of a
+// neighbour. Bounds are constants of their type.
+ghost use mathlib.Core.Path.{_≡_};
+ghost use Rattle.ranges.specs.Range.{within, depthFine, quantiserFine, levelFine, differenceFine, dcFine};
+
+// Whether lo <= z <= hi.
+pub fn inside(z: i32, lo: i32, hi: i32) -> bool
+    ensures { λ r. ⌜ r ≡ within lo hi z ⌝ }
+{
+    if z < lo {
+        return false;
+    }
+    z <= hi
+}
+
+// Bits per pixel (6.3.3).
+pub struct Depth {
+    pub bits_per_pixel: u32,
+}
+
+impl Depth {
+    pub const LEAST: u32 = 4;
+
+    pub const GREATEST: u32 = 12;
+
+    // Whether a depth is one.
+    pub fn fine(bits_per_pixel: u32) -> bool
+        ensures { λ r. ⌜ r ≡ depthFine «bits_per_pixel» ⌝ }
+    {
+        if bits_per_pixel < Depth::LEAST {
+            return false;
+        }
+        bits_per_pixel <= Depth::GREATEST
+    }
+}
+
+// A quantiser scale, the present one or a neighbour's.
+pub struct Quantiser {
+    pub quantiser_scale: u32,
+}
+
+impl Quantiser {
+    pub const LEAST: u32 = 1;
+
+    pub const GREATEST: u32 = 31;
+
+    // Whether a quantiser scale is one.
+    pub fn fine(quantiser_scale: u32) -> bool
+        ensures { λ r. ⌜ r ≡ quantiserFine «quantiser_scale» ⌝ }
+    {
+        if quantiser_scale < Quantiser::LEAST {
+            return false;
+        }
+        quantiser_scale <= Quantiser::GREATEST
+    }
+}
+
+// A level QF (7.4.3.4).
+pub struct Level {
+    pub qf: i32,
+}
+
+impl Level {
+    pub const LEAST: i32 = -2048;
+
+    pub const GREATEST: i32 = 2047;
+
+    // Whether a level is one.
+    pub fn fine(qf: i32) -> bool
+        ensures { λ r. ⌜ r ≡ levelFine qf ⌝ }
+    {
+        inside(qf, Level::LEAST, Level::GREATEST)
+    }
+}
+
+// A difference of DC levels (Table B.15).
+pub struct Difference {
+    pub value: i32,
+}
+
+impl Difference {
+    pub const LEAST: i32 = -4095;
+
+    pub const GREATEST: i32 = 4095;
+
+    // Whether a DC code can give a difference.
+    pub fn fine(value: i32) -> bool
+        ensures { λ r. ⌜ r ≡ differenceFine value ⌝ }
+    {
+        inside(value, Difference::LEAST, Difference::GREATEST)
+    }
+}
+
+// A neighbour's dequantised DC, as it may be handed in.
+pub struct NeighbourDc {
+    pub dc: i32,
+}
+
+impl NeighbourDc {
+    pub const LEAST: i32 = -65536;
+
+    pub const GREATEST: i32 = 65536;
+
+    // Whether a DC may be handed in.
+    pub fn fine(dc: i32) -> bool
+        ensures { λ r. ⌜ r ≡ dcFine dc ⌝ }
+    {
+        inside(dc, NeighbourDc::LEAST, NeighbourDc::GREATEST)
+    }
+}
