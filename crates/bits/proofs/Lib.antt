@@ -1,0 +1,3 @@
+-- The laws of bits and numbers.
+pub mod BitLaws
+pub mod CursorLaws
