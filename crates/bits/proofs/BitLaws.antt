@@ -34,7 +34,7 @@ val-append (x ∷ a) b =
 pub length-bin : (n v : ℕ) → length (bin n v) ≡ n
 unfolding bin
 length-bin zero v = refl
-length-bin (suc n) v = ap suc (length-bin n (v % 2 ^ n))
+length-bin (suc n) v = ap suc (length-bin n _)
 
 below-two : (x : ℕ) → x < 2 → (x ≡ 1 → ⊥) → 0 ≡ x
 below-two zero h n = refl

@@ -1,2 +1,7 @@
 -- The code tables of Annex B, and what it is to find a code.
 pub mod Component
+pub mod DcSize
+pub mod Tcoef
+pub mod Rvlc
+pub mod Table
+pub mod Maxima

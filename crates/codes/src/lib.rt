@@ -1,5 +1,22 @@
-// The code tables of Annex B and the search in them.
+// The code tables of Annex B and the search in them (tcoef_tables.rs, rvlc_tables.rs and the DC size
+// tables of texture.rs).
+//
+// A table indexed as a constant is made anew at each read, so each is made once by its function and
+// lent from then on. No public function has a `requires`.
 mod dc_size;
+mod rvlc_tables;
+mod search;
+mod tcoef_tables;
 
 pub use dc_size::BlockComponent;
 pub use dc_size::DcComponent;
+pub use dc_size::dc_size_codes;
+pub use dc_size::dc_size_lens;
+pub use rvlc_tables::rvlc_codes;
+pub use rvlc_tables::rvlc_events;
+pub use rvlc_tables::rvlc_lens;
+pub use search::find_row;
+pub use tcoef_tables::TcoefTable;
+pub use tcoef_tables::tcoef_codes;
+pub use tcoef_tables::tcoef_events;
+pub use tcoef_tables::tcoef_lens;

@@ -5,7 +5,7 @@ use mathlib.Core.List.{List, [], _∷_}
 use Prim.Native.Nat.{ℕ, zero, suc}
 use lib.Dec.{T}
 use lib.ListN.{getD}
-use mir.Facts.{and-yes}
+use Rattle.numbers.proofs.Tests.{and-left, and-right}
 use Rattle.numbers.specs.Grid.{cellN}
 
 module _ {A : Type 0} (p : A → Bool) where
@@ -15,8 +15,8 @@ module _ {A : Type 0} (p : A → Bool) where
 
   pub every-at : (d : A) (xs : List A) → T (p d) → T (every xs) → (i : ℕ) → T (p (getD xs i d))
   every-at d [] z t i = z
-  every-at d (x ∷ xs) z t zero = and-yes (p x) (every xs) t .0
-  every-at d (x ∷ xs) z t (suc i) = every-at d xs z (and-yes (p x) (every xs) t .1) i
+  every-at d (x ∷ xs) z t zero = and-left (p x) (every xs) t
+  every-at d (x ∷ xs) z t (suc i) = every-at d xs z (and-right (p x) (every xs) t) i
 
 abbrev pub everyCell : (ℕ → Bool) → List (List ℕ) → Bool
 everyCell p b = every (every p) b

@@ -1,7 +1,7 @@
 -- The integers for `omega`, which reads ℕ alone: an integer z is seen by its two halves, `up z` (z where z is positive, else 0)
 -- and `dn z` (-z where z is negative, else 0). An order, an equation or a test of integers is one of halves (`le-out`, `le-in`, ..; the
 -- set `zarith` has them all), and `Ex` carries a whole sum or product over (`ring`, `order`, `told`). Assumes nothing.
-use mathlib.Core.Bool.{not, cond, Bool, false, true}
+use mathlib.Core.Bool.{cond, Bool, false, true}
 use mathlib.Core.Path.{_≡_, ap, subst, refl, _∙_}
 use Prim.Native.Nat.{zero, min, pred, suc, _+_, _-_, _≤_, _<_, _*_, ℕ}
 use native.Mathlib.Nat.{mul-le-mul-right}
@@ -10,6 +10,7 @@ use lib.Dec.{leb→le, lt→ltb, ltb→lt, ltb, le→leb, T}
 use lib.IntN.{negℤ, pos, negsuc, natAbs, subℕ, _-ℤ_, _+ℤ_, _*ℤ_, ℤ}
 use lib.Signed.{leZ, ltZ, mag, _<ℤ_, _≤ℤ_}
 use borrow.Author.Tests.{lt-leb, ltb-false, ltb-true, leb-false, le-ltb}
+use Rattle.numbers.proofs.Tests.{T-true, true-T}
 
 -- ---- the halves
 
@@ -244,19 +245,11 @@ pub *ℤ-mono : {a b c : ℤ} → a ≤ℤ b → pos 0 ≤ℤ c → (a *ℤ c) �
 
 -- ---- tests, as the flags have them: `ltZ a b ≡ true`
 
-T-is : (t : Bool) → T t → t ≡ true
-T-is true p = refl
-T-is false p = absurd p
-
-is-T : (t : Bool) → t ≡ true → T t
-is-T true e = tt
-is-T false e = let z : _≡_ {A = Bool} false true = e in absurd (subst (λ (b : Bool). T (not b)) e tt)
-
 pub lt-true : (a b : ℤ) → ltZ a b ≡ true → a <ℤ b
-lt-true a b e = record { lt = is-T (ltZ a b) e }
+lt-true a b e = record { lt = true-T (ltZ a b) e }
 
 pub le-true : (a b : ℤ) → leZ a b ≡ true → a ≤ℤ b
-le-true a b e = record { le = is-T (leZ a b) e }
+le-true a b e = record { le = true-T (leZ a b) e }
 
 pub lt-false : (a b : ℤ) → ltZ a b ≡ false → b ≤ℤ a
 lt-false a b e = le-in (go a b e)
@@ -278,10 +271,10 @@ le-false a b e = lt-in (go a b e)
 
 -- and the test from the order, for a definition that goes by `ltZ`, `leZ`
 pub lt-ltZ : (a b : ℤ) → a <ℤ b → ltZ a b ≡ true
-lt-ltZ a b h = T-is (ltZ a b) (h .lt)
+lt-ltZ a b h = T-true (ltZ a b) (h .lt)
 
 pub le-leZ : (a b : ℤ) → a ≤ℤ b → leZ a b ≡ true
-le-leZ a b h = T-is (leZ a b) (h .le)
+le-leZ a b h = T-true (leZ a b) (h .le)
 
 pub le-ltZ : (a b : ℤ) → b ≤ℤ a → ltZ a b ≡ false
 le-ltZ a b h = go a b (le-out h)

@@ -1,4 +1,5 @@
 -- The laws that hold of any number, list, grid or signed expression.
+pub mod Tests
 pub mod Integers
 pub mod Magnitudes
 pub mod Words

@@ -1,0 +1,38 @@
+-- The tables pass their test: in each, escape included, no code begins another. Assumes nothing.
+use mathlib.Core.List.{[], _∷_, map}
+use mathlib.Core.Path.{_≡_, refl}
+use lib.Dec.{T}
+use Rattle.codes.specs.DcSize.{dcCodes, dcLens, dcSizes, sizeChrominance, sizeLuminance}
+use Rattle.codes.specs.Rvlc.{rvlcCodes, rvlcLens, rvlcTcoef}
+use Rattle.codes.specs.Table.{fair}
+use Rattle.codes.specs.Tcoef.{codeOf, lengthOf, tcoefInter, tcoefIntra, vlcCodes, vlcLens}
+use Rattle.codes.specs.declared.dc_size.DcComponent.{DcComponent}
+use Rattle.codes.specs.declared.dc_size.DcComponent.the-variants.{Luminance, Chrominance}
+
+pub vlc-fair : T (fair 13 vlcCodes vlcLens)
+unfolding vlcCodes vlcLens tcoefIntra
+vlc-fair = tt
+
+pub rvlc-fair : T (fair 16 rvlcCodes rvlcLens)
+unfolding rvlcCodes rvlcLens rvlcTcoef
+rvlc-fair = tt
+
+pub dc-fair : (c : DcComponent) → T (fair 13 (dcCodes c) (dcLens c))
+unfolding dcCodes dcLens sizeLuminance sizeChrominance
+dc-fair Luminance = tt
+dc-fair Chrominance = tt
+
+-- the two tables of transform coefficients have the same codes
+pub same-codes : map codeOf tcoefInter ≡ map codeOf tcoefIntra
+unfolding tcoefIntra tcoefInter
+same-codes = refl
+
+pub same-lengths : map lengthOf tcoefInter ≡ map lengthOf tcoefIntra
+unfolding tcoefIntra tcoefInter
+same-lengths = refl
+
+-- row i of the DC tables says size i
+pub sizes-count : (c : DcComponent) → dcSizes c ≡ 0 ∷ 1 ∷ 2 ∷ 3 ∷ 4 ∷ 5 ∷ 6 ∷ 7 ∷ 8 ∷ 9 ∷ 10 ∷ 11 ∷ 12 ∷ []
+unfolding dcSizes sizeLuminance sizeChrominance
+sizes-count Luminance = refl
+sizes-count Chrominance = refl

@@ -1,0 +1,48 @@
+-- A table is a list of codes as numbers and a list of their lengths: its codes as bits, how one is sought in a window, and the test of a whole table. Definitions only.
+use Prim.Native.Nat.{ℕ, zero, suc, _-_, _/_, _^_, min}
+use mathlib.Core.Bool.{Bool, true, false, not, cond, _&&_}
+use mathlib.Core.List.{List, [], _∷_}
+use lib.Dec.{eqb, leb, ltb}
+use lib.ListN.{length, getD, take}
+use Rattle.bits.specs.Bits.{Bits, val, bin}
+
+-- the code of a row as bits
+abbrev pub codeBits : List ℕ → List ℕ → ℕ → Bits
+codeBits cs ls i = bin (getD ls i 0) (getD cs i 0)
+
+-- a code d of m bits stands at the front of the window w of n bits
+abbrev pub hit : ℕ → ℕ → ℕ → ℕ → Bool
+hit w n d m = leb m n && eqb (w / 2 ^ (n - m)) d
+
+-- the first of n numbers from i on that passes; i + n where none does
+unfoldable pub seek : (ℕ → Bool) → ℕ → ℕ → ℕ
+seek f zero i = i
+seek f (suc n) i = cond (f i) i (seek f n (suc i))
+
+-- the row, of the first `rows`, whose code begins the window; `rows` where there is none
+abbrev pub rowIn : List ℕ → List ℕ → ℕ → ℕ → ℕ → ℕ
+rowIn cs ls rows w n = seek (λ i. hit w n (getD cs i 0) (getD ls i 0)) rows 0
+
+-- the row whose code begins the bits, sought in the next `width` of them, or in fewer if fewer remain
+abbrev pub rowAt : List ℕ → List ℕ → ℕ → ℕ → Bits → ℕ
+rowAt cs ls width rows b = rowIn cs ls rows (val (take width b)) (length (take width b))
+
+-- ---- the test of a whole table, computed once: each code has its length, lengths are 1 to `width`, and no code begins another
+
+-- two numbers of l and m bits agree in the bits that both have
+abbrev pub agree : ℕ → ℕ → ℕ → ℕ → Bool
+agree c l d m = eqb (c / 2 ^ (l - m)) (d / 2 ^ (m - l))
+
+abbrev pub apartFrom : ℕ → ℕ → List ℕ → List ℕ → Bool
+apartFrom c l [] ls = true
+apartFrom c l (d ∷ ds) [] = false
+apartFrom c l (d ∷ ds) (m ∷ ms) = not (agree c l d m) && apartFrom c l ds ms
+
+abbrev pub fairRow : ℕ → ℕ → ℕ → Bool
+fairRow width c l = ltb 0 l && (leb l width && ltb c (2 ^ l))
+
+abbrev pub fair : ℕ → List ℕ → List ℕ → Bool
+fair width [] [] = true
+fair width [] (m ∷ ms) = false
+fair width (c ∷ cs) [] = false
+fair width (c ∷ cs) (l ∷ ls) = fairRow width c l && (apartFrom c l cs ls && fair width cs ls)
