@@ -2,6 +2,7 @@
 use mathlib.Core.List.{[], _∷_, map}
 use mathlib.Core.Path.{_≡_, refl}
 use lib.Dec.{T}
+use lib.ListN.{length}
 use Rattle.codes.specs.DcSize.{dcCodes, dcLens, dcSizes, sizeChrominance, sizeLuminance}
 use Rattle.codes.specs.Rvlc.{rvlcCodes, rvlcLens, rvlcTcoef}
 use Rattle.codes.specs.Table.{fair}
@@ -36,3 +37,18 @@ pub sizes-count : (c : DcComponent) → dcSizes c ≡ 0 ∷ 1 ∷ 2 ∷ 3 ∷ 4 
 unfolding dcSizes sizeLuminance sizeChrominance
 sizes-count Luminance = refl
 sizes-count Chrominance = refl
+
+-- ---- how many rows there are, the escapes among them
+
+pub vlc-rows : (length vlcCodes ≡ 103) × (length vlcLens ≡ 103)
+unfolding vlcCodes vlcLens tcoefIntra
+vlc-rows = (refl, refl)
+
+pub rvlc-rows : (length rvlcCodes ≡ 170) × (length rvlcLens ≡ 170)
+unfolding rvlcCodes rvlcLens rvlcTcoef
+rvlc-rows = (refl, refl)
+
+pub dc-rows : (c : DcComponent) → (length (dcCodes c) ≡ 13) × (length (dcLens c) ≡ 13)
+unfolding dcCodes dcLens sizeLuminance sizeChrominance
+dc-rows Luminance = (refl, refl)
+dc-rows Chrominance = (refl, refl)

@@ -7,7 +7,7 @@ use lib.Dec.{T}
 use lib.Ieee.{binary64, ofInt, inFloat, size}
 use lib.IntN.{ℤ, pos, natAbs, _*ℤ_}
 use Rattle.f64_error.proofs.Binary64.{int-is}
-use Rattle.f64_error.specs.Near.{Near}
+use Rattle.f64_error.specs.Approx.{Approx}
 use Rattle.f64_error.specs.Units.{one}
 use Rattle.numbers.proofs.Integers.{abs-is, dn, mul-dn, mul-up, up}
 
@@ -18,7 +18,7 @@ times-up z n = mul-up z (pos n) ∙ ap (λ (x : ℕ). up z * n + x) (mul-zero (d
 pub times-dn : (z : ℤ) (n : ℕ) → dn (z *ℤ pos n) ≡ dn z * n
 times-dn z n = mul-dn z (pos n) ∙ ap (λ (x : ℕ). x + dn z * n) (mul-zero (up z)) ∙ native.Mathlib.Nat.zero-add (dn z * n)
 
-pub near-int : (z : ℤ) (b : ℕ) → T (inFloat binary64 z) → natAbs z ≤ b → Near (ofInt binary64 z) one z 0 (b * one)
-near-int z b t h =
+pub approx-int : (z : ℤ) (b : ℕ) → T (inFloat binary64 z) → natAbs z ≤ b → Approx (ofInt binary64 z) one z 0 (b * one)
+approx-int z b t h =
     let l : (up z + dn z) * one ≤ b * one = mul-le-mul-right one (le-trans (le-of-eq (sym (abs-is z))) h) in
     record { v = z *ℤ pos one; is = int-is z t; over = omega (arith, times-up z one, times-dn z one); under = omega (arith, times-up z one, times-dn z one); size = omega (arith, times-up z one, times-dn z one) }

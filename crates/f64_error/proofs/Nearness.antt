@@ -9,7 +9,7 @@ use lib.IntN.{ℤ, pos, natAbs, _+ℤ_, negsuc, _*ℤ_}
 use Rattle.f64_error.proofs.Binary64.{add-off, below, mul-off, off, one-pos, zero-is}
 use Rattle.f64_error.proofs.Operations.{Close}
 use Rattle.f64_error.proofs.Sizes.{size-one}
-use Rattle.f64_error.specs.Near.{Const, Near}
+use Rattle.f64_error.specs.Approx.{Const, Approx}
 use Rattle.f64_error.specs.Units.{Is, one}
 use Rattle.numbers.proofs.Integers.{abs-is, add-is, dn, mul-dn, mul-up, up}
 
@@ -18,13 +18,13 @@ size-of : (v : ℤ) (P X Y h : ℕ) → up v * P + Y ≤ dn v * P + X + h * P �
 size-of (pos n) P X Y h a b = omega arith
 size-of (negsuc n) P X Y h a b = omega arith
 
-pub near-zero : (S : ℕ) → Near (fin false 0 (pos 0)) S (pos 0) 0 0
-near-zero S = record { v = pos 0; is = zero-is; over = omega arith; under = omega arith; size = omega arith }
+pub approx-zero : (S : ℕ) → Approx (fin false 0 (pos 0)) S (pos 0) 0 0
+approx-zero S = record { v = pos 0; is = zero-is; over = omega arith; under = omega arith; size = omega arith }
 
 -- ---- a sum
-pub near-add : (j : ℕ) (x y : Float) (S : ℕ) (a b : ℤ) (d e m n : ℕ) → j ≤ 900 → Near x S a d m → Near y S b e n → m + n < below j
-    → Near (add binary64 x y) S (a +ℤ b) (d + e + off j) (m + n + off j)
-near-add j x y S a b d e m n J p q s =
+pub approx-add : (j : ℕ) (x y : Float) (S : ℕ) (a b : ℤ) (d e m n : ℕ) → j ≤ 900 → Approx x S a d m → Approx y S b e n → m + n < below j
+    → Approx (add binary64 x y) S (a +ℤ b) (d + e + off j) (m + n + off j)
+approx-add j x y S a b d e m n J p q s =
     let r = add-off j x y (p .v) (q .v) J (p .is) (q .is) (fits (p .v) (q .v) (p .size) (q .size)) in
     finish (r .0) (r .1) (p .v) (q .v) (r .2) (p .over) (p .under) (q .over) (q .under) (p .size) (q .size)
   where
@@ -32,7 +32,7 @@ near-add j x y S a b d e m n J p q s =
     fits v w h k = omega (arith, abs-is v, abs-is w)
 
     finish : (u : ℤ) → Is (add binary64 x y) u → (v w : ℤ) → Close u (v +ℤ w) (off j) → up v + dn a * S ≤ dn v + up a * S + d → dn v + up a * S ≤ up v + dn a * S + d
-        → up w + dn b * S ≤ dn w + up b * S + e → dn w + up b * S ≤ up w + dn b * S + e → up v + dn v ≤ m → up w + dn w ≤ n → Near (add binary64 x y) S (a +ℤ b) (d + e + off j) (m + n + off j)
+        → up w + dn b * S ≤ dn w + up b * S + e → dn w + up b * S ≤ up w + dn b * S + e → up v + dn v ≤ m → up w + dn w ≤ n → Approx (add binary64 x y) S (a +ℤ b) (d + e + off j) (m + n + off j)
     finish u i v w c vo vu wo wu vs ws =
         let c1 = c .over in
         let c2 = c .under in
@@ -97,12 +97,12 @@ other pu nu pv nv pc nc P h pa na S e p s t o u = through nu pu pv nv nc pc P h 
 factor-lt : (v w m M : ℕ) → v ≤ m → m < M → w ≤ one → v * w < M * one
 factor-lt v w m M a b c = lt-of-le-of-lt (mul-le-mul a c) (mul-lt-mul-of-pos-right b one-pos)
 
-near-product : (x : Float) (u v a c : ℤ) (S P e m h : ℕ) → Is x u → 0 < P → up c + dn c ≤ P
+approx-product : (x : Float) (u v a c : ℤ) (S P e m h : ℕ) → Is x u → 0 < P → up c + dn c ≤ P
     → up u * P + (up v * dn c + dn v * up c) ≤ dn u * P + (up v * up c + dn v * dn c) + h * P
     → dn u * P + (up v * up c + dn v * dn c) ≤ up u * P + (up v * dn c + dn v * up c) + h * P
     → up v + dn a * (S * P) ≤ dn v + up a * (S * P) + e → dn v + up a * (S * P) ≤ up v + dn a * (S * P) + e → up v + dn v ≤ m
-    → Near x S (a *ℤ c) (e + h) (m + h)
-near-product x u v a c S P e m h i p s t1 t2 o d z =
+    → Approx x S (a *ℤ c) (e + h) (m + h)
+approx-product x u v a c S P e m h i p s t1 t2 o d z =
     record {
       v = u;
       is = i;
@@ -114,23 +114,23 @@ near-product x u v a c S P e m h i p s t1 t2 o d z =
     most : (pv nv pc nc : ℕ) → (pv + nv) * (pc + nc) ≤ m * P → pv * pc + nv * nc + (pv * nc + nv * pc) + h * P ≤ (m + h) * P
     most pv nv pc nc g = omega arith
 
-pub near-mul : (j : ℕ) (x y : Float) (S P : ℕ) (a c : ℤ) (e m : ℕ) → j ≤ 900 → Near x (S * P) a e m → Const y P c → m < below j
-    → Near (mul binary64 x y) S (a *ℤ c) (e + off j) (m + off j)
-near-mul j x y S P a c e m J p k s =
+pub approx-mul : (j : ℕ) (x y : Float) (S P : ℕ) (a c : ℤ) (e m : ℕ) → j ≤ 900 → Approx x (S * P) a e m → Const y P c → m < below j
+    → Approx (mul binary64 x y) S (a *ℤ c) (e + off j) (m + off j)
+approx-mul j x y S P a c e m J p k s =
     let v = p .v in
     let w = k .w in
     let w-le : natAbs w ≤ one = le-trans (le-of-eq (abs-is w)) (const-small (up w) (dn w) P (up c) (dn c) (k .some) (k .plus) (k .minus) (k .small)) in
     let r = mul-off j x y v w J (p .is) (k .is) (factor-lt (natAbs v) (natAbs w) m (below j) (le-trans (le-of-eq (abs-is v)) (p .size)) s w-le) in
     let u = r .0 in
-    near-product (mul binary64 x y) u v a c S P e m (off j) (r .1) (k .some) (k .small)
+    approx-product (mul binary64 x y) u v a c S P e m (off j) (r .1) (k .some) (k .small)
     (cancel (up u) (dn u) (up v) (dn v) (up w) (dn w) (up c) (dn c) P (off j) (k .plus) (k .minus) (r .2 .over))
     (rebound (up u) (dn u) (up v) (dn v) (up w) (dn w) (up c) (dn c) P (off j) (k .plus) (k .minus) (r .2 .under))
     (p .over) (p .under) (p .size)
 
 -- ---- half of a number: the error halves too
-pub near-half : (j : ℕ) (x y : Float) (S : ℕ) (a : ℤ) (e m : ℕ) → j ≤ 900 → Near x (S * 2) a (2 * e) (2 * m) → Const y 2 (pos 1) → 2 * m < below j
-    → Near (mul binary64 x y) S a (e + off j) (m + off j)
-near-half j x y S a e m J p k s =
+pub approx-half : (j : ℕ) (x y : Float) (S : ℕ) (a : ℤ) (e m : ℕ) → j ≤ 900 → Approx x (S * 2) a (2 * e) (2 * m) → Const y 2 (pos 1) → 2 * m < below j
+    → Approx (mul binary64 x y) S a (e + off j) (m + off j)
+approx-half j x y S a e m J p k s =
     let v = p .v in
     let w = k .w in
     let w-le : natAbs w ≤ one = le-trans (le-of-eq (abs-is w)) (const-small (up w) (dn w) 2 1 0 (k .some) (k .plus) (k .minus) (k .small)) in
@@ -150,7 +150,7 @@ near-half j x y S a e m J p k s =
         → up u * 2 + (up v * 0 + dn v * 1) ≤ dn u * 2 + (up v * 1 + dn v * 0) + off j * 2
         → dn u * 2 + (up v * 1 + dn v * 0) ≤ up u * 2 + (up v * 0 + dn v * 1) + off j * 2
         → up v + dn a * (S * 2) ≤ dn v + up a * (S * 2) + 2 * e → dn v + up a * (S * 2) ≤ up v + dn a * (S * 2) + 2 * e → up v + dn v ≤ 2 * m
-        → Near (mul binary64 x y) S a (e + off j) (m + off j)
+        → Approx (mul binary64 x y) S a (e + off j) (m + off j)
     finish u v i t1 t2 o d z =
         let o1 : up v + dn a * S * 2 ≤ dn v + up a * S * 2 + 2 * e = omega (arith, o, whole (up a), whole (dn a)) in
         let d1 : dn v + up a * S * 2 ≤ up v + dn a * S * 2 + 2 * e = omega (arith, d, whole (up a), whole (dn a)) in
@@ -163,6 +163,6 @@ near-half j x y S a e m J p k s =
           size = omega (arith, c, z);
         }
 
-pub near-weaken : (x : Float) (S : ℕ) (a : ℤ) (e b e' b' : ℕ) → e ≤ e' → b ≤ b' → Near x S a e b → Near x S a e' b'
-near-weaken x S a e b e' b' h k p =
+pub approx-weaken : (x : Float) (S : ℕ) (a : ℤ) (e b e' b' : ℕ) → e ≤ e' → b ≤ b' → Approx x S a e b → Approx x S a e' b'
+approx-weaken x S a e b e' b' h k p =
     record { v = p .v; is = p .is; over = omega (arith, p .over); under = omega (arith, p .under); size = le-trans (p .size) k }

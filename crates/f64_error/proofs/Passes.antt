@@ -7,36 +7,36 @@ use native.Mathlib.Omega.{arith}
 use lib.Ieee.{Float, mul, binary64}
 use lib.IntN.{ℤ, pos, _+ℤ_, _*ℤ_, *ℤ-comm, zero-*ℤ, *ℤ-zero}
 use Rattle.f64_error.proofs.Binary64.{below, off}
-use Rattle.f64_error.proofs.Nearness.{near-add, near-half, near-mul, near-weaken, near-zero}
+use Rattle.f64_error.proofs.Nearness.{approx-add, approx-half, approx-mul, approx-weaken, approx-zero}
 use Rattle.f64_error.proofs.Operations.{mul-swap}
-use Rattle.f64_error.specs.Near.{Const, Near}
+use Rattle.f64_error.specs.Approx.{Const, Approx}
 use Rattle.f64_error.specs.Series.{blockF, blockZ, half, pass, passZ, seriesF, seriesZ}
 use Rattle.f64_error.specs.Units.{Is, one}
 use Rattle.numbers.proofs.Integers.{*ℤ-+ℤ, *ℤ-assoc, +ℤ-*ℤ}
 
 -- the constant on the left
-pub near-mul-left : (j : ℕ) (x y : Float) (S P : ℕ) (a c : ℤ) (e m : ℕ) → j ≤ 900 → Near x (S * P) a e m → Const y P c → m < below j
-    → Near (mul binary64 y x) S (c *ℤ a) (e + off j) (m + off j)
-near-mul-left j x y S P a c e m J p k s =
-    subst (λ (z : Float). Near z S (c *ℤ a) (e + off j) (m + off j)) (mul-swap binary64 x y)
-    (subst (λ (z : ℤ). Near (mul binary64 x y) S z (e + off j) (m + off j)) (*ℤ-comm a c) (near-mul j x y S P a c e m J p k s))
+pub approx-mul-left : (j : ℕ) (x y : Float) (S P : ℕ) (a c : ℤ) (e m : ℕ) → j ≤ 900 → Approx x (S * P) a e m → Const y P c → m < below j
+    → Approx (mul binary64 y x) S (c *ℤ a) (e + off j) (m + off j)
+approx-mul-left j x y S P a c e m J p k s =
+    subst (λ (z : Float). Approx z S (c *ℤ a) (e + off j) (m + off j)) (mul-swap binary64 x y)
+    (subst (λ (z : ℤ). Approx (mul binary64 x y) S z (e + off j) (m + off j)) (*ℤ-comm a c) (approx-mul j x y S P a c e m J p k s))
 
 -- ---- c * x * k
-pub near-term : (j : ℕ) (c x k : Float) (S P : ℕ) (C a K : ℤ) (e m : ℕ) → j ≤ 900 → Near x (S * P * P) a e m → Const c P C → Const k P K → m + off j < below j
-    → Near (mul binary64 (mul binary64 c x) k) S (C *ℤ a *ℤ K) (e + 2 * off j) (m + 2 * off j)
-near-term j c x k S P C a K e m J p q r s =
-    near-weaken (mul binary64 (mul binary64 c x) k) S (C *ℤ a *ℤ K) (e + off j + off j) (m + off j + off j) (e + 2 * off j) (m + 2 * off j) (omega arith) (omega arith)
-    (near-mul j (mul binary64 c x) k S P (C *ℤ a) K (e + off j) (m + off j) J (near-mul-left j x c (S * P) P a C e m J p q (omega arith)) r s)
+pub approx-term : (j : ℕ) (c x k : Float) (S P : ℕ) (C a K : ℤ) (e m : ℕ) → j ≤ 900 → Approx x (S * P * P) a e m → Const c P C → Const k P K → m + off j < below j
+    → Approx (mul binary64 (mul binary64 c x) k) S (C *ℤ a *ℤ K) (e + 2 * off j) (m + 2 * off j)
+approx-term j c x k S P C a K e m J p q r s =
+    approx-weaken (mul binary64 (mul binary64 c x) k) S (C *ℤ a *ℤ K) (e + off j + off j) (m + off j + off j) (e + 2 * off j) (m + 2 * off j) (omega arith) (omega arith)
+    (approx-mul j (mul binary64 c x) k S P (C *ℤ a) K (e + off j) (m + off j) J (approx-mul-left j x c (S * P) P a C e m J p q (omega arith)) r s)
 
 -- ---- Lemma C: the sum of n terms
-pub near-sum : (j : ℕ) (S e b : ℕ) (t : ℕ → Float) (z : ℕ → ℤ) (n : ℕ) → j ≤ 900 → ((i : ℕ) → i < n → Near (t i) S (z i) e b) → n * (b + off j) < below j
-    → Near (seriesF t n) S (seriesZ z n) (n * (e + off j)) (n * (b + off j))
+pub approx-sum : (j : ℕ) (S e b : ℕ) (t : ℕ → Float) (z : ℕ → ℤ) (n : ℕ) → j ≤ 900 → ((i : ℕ) → i < n → Approx (t i) S (z i) e b) → n * (b + off j) < below j
+    → Approx (seriesF t n) S (seriesZ z n) (n * (e + off j)) (n * (b + off j))
 unfolding seriesF seriesZ
-near-sum j S e b t z zero J h s = near-weaken (seriesF t zero) S (pos 0) 0 0 (0 * (e + off j)) (0 * (b + off j)) (omega arith) (omega arith) (near-zero S)
-near-sum j S e b t z (suc n) J h s =
-    near-weaken (seriesF t (suc n)) S (seriesZ z (suc n)) (n * (e + off j) + e + off j) (n * (b + off j) + b + off j) (suc n * (e + off j)) (suc n * (b + off j)) (omega arith) (omega arith)
-    (near-add j (seriesF t n) (t n) S (seriesZ z n) (z n) (n * (e + off j)) e (n * (b + off j)) b J
-    (near-sum j S e b t z n J (λ (i : ℕ) (l : i < n). h i (le-trans l (le-suc n))) (omega arith))
+approx-sum j S e b t z zero J h s = approx-weaken (seriesF t zero) S (pos 0) 0 0 (0 * (e + off j)) (0 * (b + off j)) (omega arith) (omega arith) (approx-zero S)
+approx-sum j S e b t z (suc n) J h s =
+    approx-weaken (seriesF t (suc n)) S (seriesZ z (suc n)) (n * (e + off j) + e + off j) (n * (b + off j) + b + off j) (suc n * (e + off j)) (suc n * (b + off j)) (omega arith) (omega arith)
+    (approx-add j (seriesF t n) (t n) S (seriesZ z n) (z n) (n * (e + off j)) e (n * (b + off j)) b J
+    (approx-sum j S e b t z n J (λ (i : ℕ) (l : i < n). h i (le-trans l (le-suc n))) (omega arith))
     (h n (le-refl (suc n)))
     (omega arith))
 
@@ -49,19 +49,19 @@ half-const = record { w = pos (2 ^ 1073); is = (2 ^ 1073, refl, refl); plus = re
 abbrev pub after : ℕ → ℕ → ℕ → ℕ
 after j k e = 4 * (e + 2 * off j + off k) + off k
 
-pub near-pass : (j k S P e b : ℕ) (c x t : ℕ → Float) (C a K : ℕ → ℤ) → j ≤ 900 → k ≤ 900
-    → ((i : ℕ) → i < 8 → Near (x i) (S * 2 * P * P) (a i) e b) → ((i : ℕ) → i < 8 → Const (c i) P (C i)) → ((i : ℕ) → i < 8 → Const (t i) P (K i))
+pub approx-pass : (j k S P e b : ℕ) (c x t : ℕ → Float) (C a K : ℕ → ℤ) → j ≤ 900 → k ≤ 900
+    → ((i : ℕ) → i < 8 → Approx (x i) (S * 2 * P * P) (a i) e b) → ((i : ℕ) → i < 8 → Const (c i) P (C i)) → ((i : ℕ) → i < 8 → Const (t i) P (K i))
     → b + off j < below j → 8 * (b + 2 * off j + off k) < below k
-    → Near (pass c x t) S (passZ C a K) (after j k e) (after j k b)
-near-pass j k S P e b c x t C a K J L h q r s m =
+    → Approx (pass c x t) S (passZ C a K) (after j k e) (after j k b)
+approx-pass j k S P e b c x t C a K J L h q r s m =
     let f : ℕ → Float = λ i. mul binary64 (mul binary64 (c i) (x i)) (t i) in
     let z : ℕ → ℤ = λ i. C i *ℤ a i *ℤ K i in
-    let terms : (i : ℕ) → i < 8 → Near (f i) (S * 2) (z i) (e + 2 * off j) (b + 2 * off j) = λ i l. near-term j (c i) (x i) (t i) (S * 2) P (C i) (a i) (K i) e b J (h i l) (q i l) (r i l) s in
-    let acc = near-sum k (S * 2) (e + 2 * off j) (b + 2 * off j) f z 8 L terms m in
-    let d = near-half k (seriesF f 8) half S (seriesZ z 8) (4 * (e + 2 * off j + off k)) (4 * (b + 2 * off j + off k)) L
-    (near-weaken (seriesF f 8) (S * 2) (seriesZ z 8) (8 * (e + 2 * off j + off k)) (8 * (b + 2 * off j + off k)) (2 * (4 * (e + 2 * off j + off k))) (2 * (4 * (b + 2 * off j + off k))) (omega arith) (omega arith) acc)
+    let terms : (i : ℕ) → i < 8 → Approx (f i) (S * 2) (z i) (e + 2 * off j) (b + 2 * off j) = λ i l. approx-term j (c i) (x i) (t i) (S * 2) P (C i) (a i) (K i) e b J (h i l) (q i l) (r i l) s in
+    let acc = approx-sum k (S * 2) (e + 2 * off j) (b + 2 * off j) f z 8 L terms m in
+    let d = approx-half k (seriesF f 8) half S (seriesZ z 8) (4 * (e + 2 * off j + off k)) (4 * (b + 2 * off j + off k)) L
+    (approx-weaken (seriesF f 8) (S * 2) (seriesZ z 8) (8 * (e + 2 * off j + off k)) (8 * (b + 2 * off j + off k)) (2 * (4 * (e + 2 * off j + off k))) (2 * (4 * (b + 2 * off j + off k))) (omega arith) (omega arith) acc)
     half-const (omega arith) in
-    subst (λ (w : Float). Near w S (passZ C a K) (after j k e) (after j k b)) (mul-swap binary64 (seriesF f 8) half) d
+    subst (λ (w : Float). Approx w S (passZ C a K) (after j k e) (after j k b)) (mul-swap binary64 (seriesF f 8) half) d
 
 -- ---- two passes are the double sum
 sum-scaled : (a b : ℤ) (t : ℕ → ℤ) (n : ℕ) → a *ℤ seriesZ t n *ℤ b ≡ seriesZ (λ i. a *ℤ t i *ℤ b) n
@@ -84,14 +84,14 @@ nested c k F y x =
     (fun-ext (λ v. sum-scaled (c v) (k v y) (λ u. c u *ℤ F v u *ℤ k u x) 8 ∙ ap (λ (t : ℕ → ℤ). seriesZ t 8) (fun-ext (λ u. regroup (c v) (c u) (F v u) (k u x) (k v y)))))
 
 -- Lemma D: rows with products below 2 ^ i and sums below 2 ^ i', columns with j and j'
-pub near-block : (i i' j j' S P e b : ℕ) (c : ℕ → Float) (k F : ℕ → ℕ → Float) (C : ℕ → ℤ) (K A : ℕ → ℕ → ℤ) → i ≤ 900 → i' ≤ 900 → j ≤ 900 → j' ≤ 900
-    → ((v u : ℕ) → v < 8 → u < 8 → Near (F v u) (S * 2 * P * P * 2 * P * P) (A v u) e b) → ((u : ℕ) → u < 8 → Const (c u) P (C u)) → ((u x : ℕ) → u < 8 → x < 8 → Const (k u x) P (K u x))
+pub approx-block : (i i' j j' S P e b : ℕ) (c : ℕ → Float) (k F : ℕ → ℕ → Float) (C : ℕ → ℤ) (K A : ℕ → ℕ → ℤ) → i ≤ 900 → i' ≤ 900 → j ≤ 900 → j' ≤ 900
+    → ((v u : ℕ) → v < 8 → u < 8 → Approx (F v u) (S * 2 * P * P * 2 * P * P) (A v u) e b) → ((u : ℕ) → u < 8 → Const (c u) P (C u)) → ((u x : ℕ) → u < 8 → x < 8 → Const (k u x) P (K u x))
     → b + off i < below i → 8 * (b + 2 * off i + off i') < below i' → after i i' b + off j < below j → 8 * (after i i' b + 2 * off j + off j') < below j'
-    → (y x : ℕ) → y < 8 → x < 8 → Near (blockF c k F y x) S (blockZ C K A y x) (after j j' (after i i' e)) (after j j' (after i i' b))
-near-block i i' j j' S P e b c k F C K A I I' J J' h q r s s' t t' y x ly lx =
-    subst (λ (z : ℤ). Near (blockF c k F y x) S z (after j j' (after i i' e)) (after j j' (after i i' b))) (nested C K A y x)
-    (near-pass j j' S P (after i i' e) (after i i' b) c (λ v. pass c (F v) (λ u. k u x)) (λ v. k v y) C (λ v. passZ C (A v) (λ u. K u x)) (λ v. K v y) J J'
-    (λ v l. near-pass i i' (S * 2 * P * P) P e b c (F v) (λ u. k u x) C (A v) (λ u. K u x) I I' (λ u m. h v u l m) q (λ u m. r u x m lx) s s')
+    → (y x : ℕ) → y < 8 → x < 8 → Approx (blockF c k F y x) S (blockZ C K A y x) (after j j' (after i i' e)) (after j j' (after i i' b))
+approx-block i i' j j' S P e b c k F C K A I I' J J' h q r s s' t t' y x ly lx =
+    subst (λ (z : ℤ). Approx (blockF c k F y x) S z (after j j' (after i i' e)) (after j j' (after i i' b))) (nested C K A y x)
+    (approx-pass j j' S P (after i i' e) (after i i' b) c (λ v. pass c (F v) (λ u. k u x)) (λ v. k v y) C (λ v. passZ C (A v) (λ u. K u x)) (λ v. K v y) J J'
+    (λ v l. approx-pass i i' (S * 2 * P * P) P e b c (F v) (λ u. k u x) C (A v) (λ u. K u x) I I' (λ u m. h v u l m) q (λ u m. r u x m lx) s s')
     q
     (λ v l. r v y l ly)
     t

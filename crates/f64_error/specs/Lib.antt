@@ -2,4 +2,4 @@
 pub mod Units
 pub mod Series
 pub mod Wholes
-pub mod Near
+pub mod Approx

@@ -1,41 +1,70 @@
--- A pass sees its eight inputs only, and the two passes make the transform. Assumes nothing.
+-- A pass sees its eight inputs only, zeros give zeros, and the two passes make the transform. Assumes nothing.
 use mathlib.Core.List.{List, []}
 use mathlib.Core.Path.{_≡_, refl, sym, ap, _∙_, subst}
 use Prim.Native.Nat.{ℕ, zero, suc, _*_, _<_}
 use native.Mathlib.Nat.{le-trans, le-refl, le-suc}
-use lib.Ieee.{Float, binary64, add, mul, nan, ofInt}
-use lib.IntN.{ℤ}
+use native.Mathlib.Omega.{arith}
+use lib.Dec.{T, eqb→eq}
+use lib.Ieee.{Float, nan, binary64, add, mul, ofInt, ofBits, neg}
+use lib.IntN.{ℤ, pos, natAbs}
 use lib.ListN.{getD}
-use mir.Val.{bits}
-use Rattle.f64_error.specs.Series.{seriesF, half, pass}
-use Rattle.f64_error.specs.Units.{one, Bounded}
+use Rattle.f64_error.specs.Series.{half, pass, seriesF}
+use Rattle.f64_error.specs.Units.{Bounded, one}
 use Rattle.idct.proofs.Bounds.{bounded}
-use Rattle.idct.specs.Cosine.{cF, cosF}
+use Rattle.idct.specs.Cosines.{byTurnF, cosF, cF}
 use Rattle.idct.specs.Exact.{Modest}
-use Rattle.idct.specs.Rounding.{wholeOf, saturated}
-use Rattle.idct.specs.Transform.{cellF, valueF, idct1d, rowPass, columnPass, computed, whole, idct8x8}
-use Rattle.idct.specs.declared.HalfIntegerRounding.{HalfIntegerRounding}
-use Rattle.numbers.proofs.Fill.{getD-build, build-eq, block-eq, rows}
-use Rattle.numbers.specs.Grid.{build, block, cell}
+use Rattle.idct.specs.Limits.{saturated}
+use Rattle.idct.specs.Rounding.{wholeOf}
+use Rattle.idct.specs.Transform.{cellF, columnPass, computed, idct1d, isZero, rowIn, rowPass, whole, idct8x8}
+use Rattle.idct.specs.declared.rounding.HalfIntegerRounding.{HalfIntegerRounding}
+use Rattle.numbers.proofs.Every.{every, every-at}
+use Rattle.numbers.proofs.Fill.{block-eq, build-eq, getD-build, rows}
+use Rattle.numbers.proofs.Magnitudes.{zero-of-abs}
+use Rattle.numbers.specs.Grid.{block, build, cell}
 
-sum-ext : (t s : ℕ → Float) (n : ℕ) → ((i : ℕ) → i < n → t i ≡ s i) → seriesF t n ≡ seriesF s n
+series-ext : (t s : ℕ → Float) (n : ℕ) → ((i : ℕ) → i < n → t i ≡ s i) → seriesF t n ≡ seriesF s n
 unfolding seriesF
-sum-ext t s zero h = refl
-sum-ext t s (suc n) h = ap (λ (a : Float). add binary64 a (t n)) (sum-ext t s n (λ i l. h i (le-trans l (le-suc n)))) ∙ ap (λ (b : Float). add binary64 (seriesF s n) b) (h n (le-refl (suc n)))
+series-ext t s zero h = refl
+series-ext t s (suc n) h = ap (λ (a : Float). add binary64 a (t n)) (series-ext t s n (λ i l. h i (le-trans l (le-suc n)))) ∙ ap (λ (b : Float). add binary64 (seriesF s n) b) (h n (le-refl (suc n)))
 
 pub pass-ext : (x z k : ℕ → Float) → ((i : ℕ) → i < 8 → x i ≡ z i) → pass cF x k ≡ pass cF z k
 pass-ext x z k h =
     ap (λ (a : Float). mul binary64 half a)
-    (sum-ext (λ i. mul binary64 (mul binary64 (cF i) (x i)) (k i)) (λ i. mul binary64 (mul binary64 (cF i) (z i)) (k i)) 8
+    (series-ext (λ i. mul binary64 (mul binary64 (cF i) (x i)) (k i)) (λ i. mul binary64 (mul binary64 (cF i) (z i)) (k i)) 8
     (λ i l. ap (λ (a : Float). mul binary64 (mul binary64 (cF i) a) (k i)) (h i l)))
 
 -- the 1-D transform of a list by its elements
 pub idct1d-build : (g : ℕ → Float) → idct1d (build 8 g) ≡ build 8 (λ (x : ℕ). pass cF g (λ (u : ℕ). cosF u x))
 idct1d-build g =
-    build-eq 8 (valueF (build 8 g)) (λ (x : ℕ). pass cF g (λ (u : ℕ). cosF u x))
+    build-eq 8 (λ (x : ℕ). pass cF (λ (u : ℕ). getD (build 8 g) u nan) (λ (u : ℕ). cosF u x)) (λ (x : ℕ). pass cF g (λ (u : ℕ). cosF u x))
     (λ (x : ℕ) (h : x < 8). pass-ext (λ (u : ℕ). getD (build 8 g) u nan) g (λ (u : ℕ). cosF u x) (λ (u : ℕ) (l : u < 8). getD-build 8 g u nan l))
 
-cellF-block : (f : ℕ → ℕ → Float) (v u : ℕ) → v < 8 → u < 8 → cellF (block f) v u ≡ f v u
+-- ---- a row of zeros
+
+zero-pass : (x : ℕ) → x < 8 → pass cF (λ (u : ℕ). ofInt binary64 (pos 0)) (λ (u : ℕ). cosF u x) ≡ ofBits binary64 0
+unfolding seriesF cF byTurnF ofBits ofInt neg add mul
+zero-pass zero h = refl
+zero-pass (suc zero) h = refl
+zero-pass (suc (suc zero)) h = refl
+zero-pass (suc (suc (suc zero))) h = refl
+zero-pass (suc (suc (suc (suc zero)))) h = refl
+zero-pass (suc (suc (suc (suc (suc zero))))) h = refl
+zero-pass (suc (suc (suc (suc (suc (suc zero)))))) h = refl
+zero-pass (suc (suc (suc (suc (suc (suc (suc zero))))))) h = refl
+zero-pass (suc (suc (suc (suc (suc (suc (suc (suc x)))))))) h = absurd (omega arith)
+
+pub zeros : (row : List ℤ) → T (every isZero row) → build 8 (λ (x : ℕ). ofBits binary64 0) ≡ idct1d (rowIn row)
+zeros row t =
+    sym (idct1d-build (λ (u : ℕ). ofInt binary64 (getD row u (pos 0)))
+    ∙ build-eq 8 (λ (x : ℕ). pass cF (λ (u : ℕ). ofInt binary64 (getD row u (pos 0))) (λ (u : ℕ). cosF u x)) (λ (x : ℕ). ofBits binary64 0)
+    (λ (x : ℕ) (h : x < 8).
+    pass-ext (λ (u : ℕ). ofInt binary64 (getD row u (pos 0))) (λ (u : ℕ). ofInt binary64 (pos 0)) (λ (u : ℕ). cosF u x)
+    (λ (u : ℕ) (l : u < 8). ap (ofInt binary64) (zero-of-abs (getD row u (pos 0)) (eqb→eq (natAbs (getD row u (pos 0))) 0 (every-at isZero (pos 0) row tt t u))))
+    ∙ zero-pass x h))
+
+-- ---- two passes
+
+pub cellF-block : (f : ℕ → ℕ → Float) (v u : ℕ) → v < 8 → u < 8 → cellF (block f) v u ≡ f v u
 cellF-block f v u p q = ap (λ (r : List Float). getD r u nan) (getD-build 8 (λ (i : ℕ). build 8 (f i)) v [] p) ∙ getD-build 8 (f v) u nan q
 
 module _ (l : List (List ℤ)) where
@@ -52,8 +81,8 @@ module _ (l : List (List ℤ)) where
     pub columns-bounded : Modest l → (x y : ℕ) → x < 8 → y < 8 → Bounded (cellF columns x y) (1048576 * one)
     columns-bounded m x y p q = subst (λ (z : Float). Bounded z (1048576 * one)) (sym (columns-are x y p q)) (bounded l m y x q p)
 
-    pub samples-are : (bits : ℕ) (rounding : HalfIntegerRounding) → block (λ (y x : ℕ). saturated bits (wholeOf rounding (cellF columns x y))) ≡ idct8x8 rounding bits l
+    pub samples-are : (depth : ℕ) (rounding : HalfIntegerRounding) → block (λ (y x : ℕ). saturated depth (wholeOf rounding (cellF columns x y))) ≡ idct8x8 rounding depth l
     unfolding whole
-    samples-are bits rounding =
-        block-eq (λ (y x : ℕ). saturated bits (wholeOf rounding (cellF columns x y))) (λ (y x : ℕ). saturated bits (wholeOf rounding (computed l y x)))
-        (λ (y x : ℕ) (p : y < 8) (q : x < 8). ap (λ (z : Float). saturated bits (wholeOf rounding z)) (columns-are x y q p))
+    samples-are depth rounding =
+        block-eq (λ (y x : ℕ). saturated depth (wholeOf rounding (cellF columns x y))) (λ (y x : ℕ). saturated depth (wholeOf rounding (computed l y x)))
+        (λ (y x : ℕ) (p : y < 8) (q : x < 8). ap (λ (z : Float). saturated depth (wholeOf rounding z)) (columns-are x y q p))

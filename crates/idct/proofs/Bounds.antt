@@ -2,26 +2,27 @@
 use mathlib.Core.List.{List}
 use mathlib.Core.Path.{_≡_, refl, sym, ap, _∙_, subst}
 use Prim.Native.Nat.{ℕ, suc, _+_, _*_, _^_, _≤_, _<_}
-use native.Mathlib.Nat.{lt-of-le-of-lt, mul-lt-mul-of-pos-right, le-of-mul-le-mul-right, mul-assoc}
+use native.Mathlib.Nat.{lt-of-le-of-lt, mul-lt-mul-of-pos-right, le-of-mul-le-mul-right, mul-assoc, le-trans}
 use native.Mathlib.Omega.{arith}
-use lib.Dec.{T, lit<, le→leb}
+use lib.Dec.{T, lit≤, lit<, le→leb}
 use lib.Ieee.{binary64, ofInt, inFloat, size}
 use lib.IntN.{ℤ, pos, negsuc, negℤ, natAbs, _-ℤ_, _*ℤ_}
 use Rattle.f64_error.proofs.Binary64.{one-is, grain-pos, mesh-pos, one-factors, one-mesh, grain-mesh, is-unique, off, below}
-use Rattle.f64_error.proofs.FromIntegers.{near-int, times-up, times-dn}
-use Rattle.f64_error.proofs.Nearness.{near-weaken}
-use Rattle.f64_error.proofs.Passes.{near-block, after}
+use Rattle.f64_error.proofs.FromIntegers.{approx-int, times-up, times-dn}
+use Rattle.f64_error.proofs.Nearness.{approx-weaken}
+use Rattle.f64_error.proofs.Passes.{approx-block, after}
 use Rattle.f64_error.proofs.Sizes.{size-one}
-use Rattle.f64_error.specs.Near.{Near}
+use Rattle.f64_error.specs.Approx.{Approx}
 use Rattle.f64_error.specs.Units.{one, grain, mesh, Bounded}
 use Rattle.f64_error.specs.Wholes.{RoundOf, floorZ}
-use Rattle.idct.proofs.Rounds.{whole-near}
+use Rattle.idct.proofs.Refusals.{modest}
+use Rattle.idct.proofs.Rounds.{rounded-near}
 use Rattle.idct.proofs.Tables.{cos-const, c-const}
-use Rattle.idct.specs.Cosine.{cF, cZ, cosF, cosZ}
-use Rattle.idct.specs.Exact.{exact, Within, Modest}
+use Rattle.idct.specs.Cosines.{cF, cZ, cosF, cosZ}
+use Rattle.idct.specs.Exact.{exact, Within, Modest, Near}
 use Rattle.idct.specs.Rounding.{wholeOf}
 use Rattle.idct.specs.Transform.{computed, whole}
-use Rattle.idct.specs.declared.HalfIntegerRounding.{HalfIntegerRounding}
+use Rattle.idct.specs.declared.rounding.HalfIntegerRounding.{HalfIntegerRounding}
 use Rattle.numbers.proofs.Integers.{up, dn, neg-up, neg-dn, abs-is, add-is}
 use Rattle.numbers.specs.Grid.{cell}
 
@@ -84,11 +85,11 @@ distance n z K T a b =
 
 module _ (l : List (List ℤ)) (modest : Modest l) (y x : ℕ) (ly : y < 8) (lx : x < 8) where
   -- the f64 transform is within 3 * 2 ^ -31 of the exact one
-  pub transform-near : Near (computed l y x) mesh (exact l y x) (1610612736 * grain) (1048576 * one)
+  pub transform-near : Approx (computed l y x) mesh (exact l y x) (1610612736 * grain) (1048576 * one)
   transform-near =
-      near-weaken (computed l y x) mesh (exact l y x) (after 18 21 (after 16 19 0)) (after 18 21 (after 16 19 (32768 * one))) (1610612736 * grain) (1048576 * one) error-is size-is
-      (near-block 16 19 18 21 mesh (2 ^ 55) 0 (32768 * one) cF cosF (λ v u. ofInt binary64 (cell l v u)) cZ cosZ (cell l) (omega arith) (omega arith) (omega arith) (omega arith)
-      (λ v u i j. subst (λ (S : ℕ). Near (ofInt binary64 (cell l v u)) S (cell l v u) 0 (32768 * one)) (sym one-factors) (near-int (cell l v u) 32768 (in-float (cell l v u) (modest v u i j)) (modest v u i j)))
+      approx-weaken (computed l y x) mesh (exact l y x) (after 18 21 (after 16 19 0)) (after 18 21 (after 16 19 (32768 * one))) (1610612736 * grain) (1048576 * one) error-is size-is
+      (approx-block 16 19 18 21 mesh (2 ^ 55) 0 (32768 * one) cF cosF (λ v u. ofInt binary64 (cell l v u)) cZ cosZ (cell l) (omega arith) (omega arith) (omega arith) (omega arith)
+      (λ v u i j. subst (λ (S : ℕ). Approx (ofInt binary64 (cell l v u)) S (cell l v u) 0 (32768 * one)) (sym one-factors) (approx-int (cell l v u) 32768 (in-float (cell l v u) (modest v u i j)) (modest v u i j)))
       (λ u i. c-const u)
       (λ u w i j. cos-const u w)
       row-products
@@ -120,7 +121,11 @@ module _ (l : List (List ℤ)) (modest : Modest l) (y x : ℕ) (ly : y < 8) (lx 
         (unscale (up n) (dn n) (up (exact l y x)) (dn (exact l y x)) (2 ^ 222) (2 ^ 221 + 2 ^ 196) ((2 ^ 59 + 2 ^ 34) * grain) one one-mesh slack over)
         (unscale (dn n) (up n) (dn (exact l y x)) (up (exact l y x)) (2 ^ 222) (2 ^ 221 + 2 ^ 196) ((2 ^ 59 + 2 ^ 34) * grain) one one-mesh slack under)
 
-  -- each whole number is within 1/2 + 2 ^ -26 of the exact transform
-  pub near : (m : HalfIntegerRounding) → Within (whole m l y x) (exact l y x)
+  -- each whole number is within 1/2 + 1/2 ^ 26 of the exact transform
+  pub whole-within : (m : HalfIntegerRounding) → Within (whole m l y x) (exact l y x)
   unfolding whole
-  near m = within (wholeOf m (computed l y x)) (whole-near (computed l y x) bounded (floorZ (computed l y x)) refl m)
+  whole-within m = within (wholeOf m (computed l y x)) (rounded-near (computed l y x) bounded (floorZ (computed l y x)) refl m)
+
+  -- and so within the bound of document 01
+  pub whole-near : (m : HalfIntegerRounding) → Near (whole m l y x) (exact l y x)
+  whole-near m = le-trans (whole-within m) (lit≤ tt)

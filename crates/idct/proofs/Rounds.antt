@@ -17,7 +17,7 @@ use Rattle.f64_error.specs.Wholes.{FloorOf, RoundOf, floorZ, nearestZ, magF, ga
 use Rattle.idct.proofs.Loops.{zero-bits, half-bits}
 use Rattle.idct.proofs.TieRules.{back, add-fits, next-back, tied-either}
 use Rattle.idct.specs.Rounding.{tied, wholeOf}
-use Rattle.idct.specs.declared.HalfIntegerRounding.{HalfIntegerRounding}
+use Rattle.idct.specs.declared.rounding.HalfIntegerRounding.{HalfIntegerRounding}
 use Rattle.numbers.proofs.Integers.{up, dn, abs-is}
 
 pub mag-neg : (x : Float) → lt x (ofBits binary64 0) ≡ true → neg x ≡ magF x
@@ -62,8 +62,8 @@ module _ (x : Float) (h : Bounded x (1048576 * one)) (r : ℤ) (e : r ≡ floorZ
         ap (λ (c : Bool). cond c (tied m r) (nearestZ x)) (sym t)
         ∙ ap (λ (z : ℤ). cond (lt (magF (gapOf x z)) (ofBits binary64 0x3e45798ee2308c3a)) (tied m z) (nearestZ x)) e
 
-    pub whole-near : RoundOf x (wholeOf m x)
-    whole-near = go (atHalf x r) refl
+    pub rounded-near : RoundOf x (wholeOf m x)
+    rounded-near = go (atHalf x r) refl
       where
         go : (b : Bool) → atHalf x r ≡ b → RoundOf x (wholeOf m x)
         go true t = subst (λ (y : ℤ). RoundOf x y) (by-test true t) (tied-either (λ (y : ℤ). RoundOf x y) m r (half-down x r f size t) (half-up x r f size t))

@@ -8,7 +8,7 @@ use lib.Arith.{lt→nleb}
 use lib.Dec.{T, leb, eqb, le→leb, eqb→eq, not-T}
 use lib.Ieee.{nan, binary64, ofBits, neg}
 use lib.ListN.{getD}
-use Rattle.idct.specs.Cosine.{cosines, byTurnF, cF}
+use Rattle.idct.specs.Cosines.{cosines, byTurnF, cF}
 
 yes : {X : Type 0} (b : Bool) (x y : X) → T b → cond b x y ≡ x
 yes true x y t = refl

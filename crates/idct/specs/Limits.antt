@@ -1,47 +1,45 @@
--- What the transform refuses: a depth outside 4..12 (12), and a value outside the depth's limits (13). Definitions only.
-use mathlib.Core.Bool.{Bool, true, false, _&&_}
+-- The limits of a depth (7.4.4.4, 7.4.5), and what the transform refuses: a depth out of range (12), then a value outside the depth's limits (13). Definitions only.
+use mathlib.Core.Bool.{Bool, cond}
 use mathlib.Core.List.{List}
-use Prim.Native.Nat.{ℕ, zero, suc, _+_, _^_}
-use lib.Dec.{leb}
-use lib.IntN.{ℤ, pos, negℤ}
-use lib.Signed.{leZ, ltZ}
-use Rattle.idct.specs.declared.IdctAnswer.{IdctAnswer}
-use Rattle.idct.specs.declared.IdctAnswer.the-variants.{Transformed, DepthOutOfRange, ValueOutOfLimits}
-use Rattle.numbers.specs.Grid.{cell}
+use Prim.Native.Nat.{ℕ, _+_, _^_, min}
+use lib.IntN.{ℤ, pos, negℤ, _-ℤ_}
+use Rattle.idct.specs.declared.limits.IdctAnswer.{IdctAnswer}
+use Rattle.idct.specs.declared.limits.IdctAnswer.the-variants.{Transformed, DepthOutOfRange, ValueOutOfLimits}
+use Rattle.idct.specs.declared.limits.SaturationBounds.{SaturationBounds}
+use Rattle.numbers.specs.Limit.{clampZ}
+use Rattle.numbers.proofs.Every.{every}
+use Rattle.ranges.specs.Range.{within, depthFine}
 
--- a depth that the transform takes
-abbrev pub depthGood : ℕ → Bool
-depthGood d = leb 4 d && leb d 12
+-- -2 ^ b and 2 ^ b - 1
+abbrev pub lowest : ℕ → ℤ
+lowest b = negℤ (pos (2 ^ b))
 
--- -2 ^ (depth + 3) ..= 2 ^ (depth + 3) - 1
-unfoldable pub inLimits : ℕ → ℤ → Bool
-inLimits d z = leZ (negℤ (pos (2 ^ (d + 3)))) z && ltZ z (pos (2 ^ (d + 3)))
+abbrev pub highest : ℕ → ℤ
+highest b = pos (2 ^ b) -ℤ pos 1
 
--- f holds of 0, 1, .., n - 1
-unfoldable pub allBelow : (ℕ → Bool) → ℕ → Bool
-allBelow f zero = true
-allBelow f (suc n) = allBelow f n && f n
+abbrev pub boundsOf : ℕ → SaturationBounds
+boundsOf b = record { lo = lowest b; hi = highest b }
 
-abbrev pub rowGood : ℕ → List (List ℤ) → ℕ → Bool
-rowGood d l v = allBelow (λ (u : ℕ). inLimits d (cell l v u)) 8
+-- z brought into the bounds of b bits, from 30 on those of 30, so that they are i32s
+unfoldable pub saturated : ℕ → ℤ → ℤ
+saturated b z = clampZ z (lowest (min b 30)) (highest (min b 30))
 
-abbrev pub blockGood : ℕ → List (List ℤ) → Bool
-blockGood d l = allBelow (rowGood d l) 8
+abbrev pub inBounds : ℕ → ℤ → Bool
+inBounds b z = within (lowest b) (highest b) z
 
--- the answer, by the depth first
-abbrev pub byTests : Bool → Bool → IdctAnswer
-byTests false b = DepthOutOfRange
-byTests true false = ValueOutOfLimits
-byTests true true = Transformed
+-- each value is one of a depth's limits, which are the bounds of three bits more
+abbrev pub valuesFine : ℕ → List (List ℤ) → Bool
+valuesFine depth l = every (every (inBounds (depth + 3))) l
 
-abbrev pub answerOf : ℕ → List (List ℤ) → IdctAnswer
-answerOf d l = byTests (depthGood d) (blockGood d l)
+-- document 01's number of an answer; 0 where nothing was refused
+abbrev pub numberOf : IdctAnswer → ℕ
+numberOf Transformed = 0
+numberOf DepthOutOfRange = 12
+numberOf ValueOutOfLimits = 13
 
--- the paper's number of a refusal
-abbrev pub refusalNumber : IdctAnswer → ℕ
-refusalNumber Transformed = 0
-refusalNumber DepthOutOfRange = 12
-refusalNumber ValueOutOfLimits = 13
+-- the number that a call is due, by the depth first
+abbrev pub numberDue : ℕ → List (List ℤ) → ℕ
+numberDue depth l = cond (depthFine depth) (cond (valuesFine depth l) 0 13) 12
 
 -- what the lent block holds afterwards: a refusal leaves it as it was
 abbrev pub blockAfter : IdctAnswer → List (List ℤ) → List (List ℤ) → List (List ℤ)

@@ -1,33 +1,35 @@
--- The transform in f64, each operation rounded once, in the order of `idct_1d`: rows, then columns. Definitions only.
+-- The transform of Annex A.1 in f64, each operation rounded once: rows, then columns; and the whole numbers and samples of a block (7.4.5). Definitions only.
+use mathlib.Core.Bool.{Bool}
 use mathlib.Core.List.{List, []}
 use Prim.Native.Nat.{ℕ}
+use lib.Dec.{eqb}
 use lib.Ieee.{Float, nan, binary64, ofInt}
-use lib.IntN.{ℤ}
+use lib.IntN.{ℤ, pos, natAbs}
 use lib.ListN.{getD}
-use mir.Val.{bits}
 use Rattle.f64_error.specs.Series.{pass, blockF}
-use Rattle.idct.specs.Cosine.{cF, cosF}
-use Rattle.idct.specs.Rounding.{wholeOf, saturated}
-use Rattle.idct.specs.declared.HalfIntegerRounding.{HalfIntegerRounding}
+use Rattle.idct.specs.Cosines.{cF, cosF}
+use Rattle.idct.specs.Limits.{saturated}
+use Rattle.idct.specs.Rounding.{wholeOf}
+use Rattle.idct.specs.declared.rounding.HalfIntegerRounding.{HalfIntegerRounding}
 use Rattle.numbers.proofs.Fill.{rows}
 use Rattle.numbers.specs.Grid.{build, block, cell}
 
 abbrev pub cellF : List (List Float) → ℕ → ℕ → Float
 cellF b v u = getD (getD b v []) u nan
 
--- one value of the 1-D transform, and all eight
-abbrev pub valueF : List Float → ℕ → Float
-valueF input x = pass cF (λ (u : ℕ). getD input u nan) (λ (u : ℕ). cosF u x)
-
+-- the 1-D transform: at x half the sum over u of C(u) F(u) cos((2x + 1) u pi / 16)
 abbrev pub idct1d : List Float → List Float
-idct1d input = build 8 (valueF input)
+idct1d input = build 8 (λ (x : ℕ). pass cF (λ (u : ℕ). getD input u nan) (λ (u : ℕ). cosF u x))
 
--- row v of the coefficients, and column x of what the rows gave
-abbrev pub rowIn : List (List ℤ) → ℕ → List Float
-rowIn l v = build 8 (λ (u : ℕ). ofInt binary64 (cell l v u))
+-- a row of coefficients, and column x of what the rows gave
+abbrev pub rowIn : List ℤ → List Float
+rowIn row = build 8 (λ (u : ℕ). ofInt binary64 (getD row u (pos 0)))
 
 abbrev pub columnIn : List (List Float) → ℕ → List Float
 columnIn rows x = build 8 (λ (v : ℕ). cellF rows v x)
+
+abbrev pub isZero : ℤ → Bool
+isZero z = eqb (natAbs z) 0
 
 -- the transform of each row, and then of each column: list x of the second is column x
 abbrev pub rowPass : List (List ℤ) → List (List Float)
@@ -40,13 +42,13 @@ columnPass rows = block (λ (x y : ℕ). pass cF (λ (v : ℕ). cellF rows v x) 
 abbrev pub computed : List (List ℤ) → ℕ → ℕ → Float
 computed l y x = blockF cF cosF (λ (v u : ℕ). ofInt binary64 (cell l v u)) y x
 
--- the whole number at row y and column x, before limiting
+-- the whole number at row y and column x, before it is limited
 unfoldable pub whole : HalfIntegerRounding → List (List ℤ) → ℕ → ℕ → ℤ
 whole m l y x = wholeOf m (computed l y x)
 
--- the whole numbers of a block, and its samples
+-- the whole numbers of a block, and the same saturated to a depth
 abbrev pub wholes : HalfIntegerRounding → List (List ℤ) → List (List ℤ)
 wholes m l = block (whole m l)
 
 abbrev pub idct8x8 : HalfIntegerRounding → ℕ → List (List ℤ) → List (List ℤ)
-idct8x8 m bits l = block (λ (y x : ℕ). saturated bits (whole m l y x))
+idct8x8 m depth l = block (λ (y x : ℕ). saturated depth (whole m l y x))

@@ -1,58 +1,58 @@
--- `idct::idct_8x8_rounded` meets its contract. Assumes nothing.
-use mathlib.Core.Path.{sym, ap, _∙_}
-use native.Mathlib.Omega.{arith}
+-- `idct::idct_8x8_rounded` meets its contract: each test decides a number. Assumes nothing.
 use borrow.Author.Needs.{needs}
-use Rattle.idct.proofs.LimitTests.{too-shallow, too-deep, good, bad, good-modest, is-T}
 use Rattle.idct.proofs.idct_8x8_rounded.Statement.{statement}
-use Rattle.idct.specs.Limits.{blockAfter}
-use Rattle.idct.specs.Transform.{idct8x8}
-use Rattle.idct.specs.declared.IdctAnswer.{IdctAnswer}
 use Rattle.idct.proofs.idct_8x8_rounded.Tie as tie
-use Rattle.idct.proofs.idct_8x8_rounded.Reads as reads
-use Rattle.idct.proofs.idct_8x8_rounded.Lts as lts
-use Rattle.idct.proofs.block_good.Reads as block-good-reads
-use Rattle.idct.proofs.transform.Reads as transform-reads
+use mathlib.Core.Bool.{true}
+use mathlib.Core.Path.{_≡_, refl, sym, _∙_}
+use Prim.Native.Nat.{_<_}
+use native.Mathlib.Omega.{arith}
+use Rattle.ranges.specs.Range.{depthFine}
+use Rattle.idct.specs.Exact.{Modest}
+use Rattle.idct.specs.Limits.{valuesFine}
+use Rattle.idct.proofs.Bounds.{whole-near}
+use Rattle.idct.proofs.Refusals.{depth-least, modest, due-0, due-12, due-13}
 
--- src/lib.rt:274:9
+-- what the tests told
+depth-told : (c : tie.Then1) → depthFine (c .before .before .args .bits-per-pixel) ≡ true
+depth-told c = sym (c .before .fine .ensures) ∙ c .if1 .taken
+
+fine-depth : (c : tie.Then1) → c .before .before .args .bits-per-pixel < 13
+fine-depth c = depth-least (c .before .before .args .bits-per-pixel) (depth-told c)
+
+values-told : (c : tie.Then2) → valuesFine (c .before .before .before .before .args .bits-per-pixel) (c .before .before .before .before .args .coefficients) ≡ true
+values-told c = sym (c .before .values-fine .ensures) ∙ c .if2 .taken
+
+small : (c : tie.Then2) → Modest (c .before .before .before .before .args .coefficients)
+small c =
+    let a = c .before .before .before .before .args in
+    modest (a .bits-per-pixel) (a .coefficients) (fine-depth (c .before .before)) (values-told c)
+
+fine-requires : tie.Need-fine-requires
+fine-requires c κs = search needs
+
+values-fine-requires : tie.Need-values-fine-requires
+values-fine-requires c κs = fine-depth c
+
+samples-requires : tie.Need-samples-requires
+samples-requires c κs = small c
+
 returns : tie.Need-returns
 returns c =
-    let a = c .before .args in
-    let e = too-shallow (a .depth) (a .coefficients) (omega arith) in
-    (e, ap (λ (r : IdctAnswer). blockAfter r (idct8x8 (a .rounding) (a .depth) (a .coefficients)) (a .out .now)) e)
-
--- src/lib.rt:277:9
-returns-2 : tie.Need-returns-2
-returns-2 c =
-    let a = c .before .before .args in
-    let e = too-deep (a .depth) (a .coefficients) (omega arith) (omega arith) in
-    (e, ap (λ (r : IdctAnswer). blockAfter r (idct8x8 (a .rounding) (a .depth) (a .coefficients)) (a .out .now)) e)
-
--- src/lib.rt:279:8
-block-good-requires : tie.Need-block-good-requires
-block-good-requires c κs = search needs
-
--- src/lib.rt:280:16
-transform-requires : tie.Need-transform-requires
-transform-requires c κs =
-    let a = c .before .before .before .before .args in
-    (omega arith, good-modest (a .depth) (a .coefficients) (omega arith) (is-T _ (sym (c .before .block-good .ensures) ∙ c .if3 .taken)))
-
--- src/lib.rt:265:1
-returns-3 : tie.Need-returns-3
-returns-3 c =
     let t = c .before in
     let a = t .before .before .before .before .args in
-    let e = good (a .depth) (a .coefficients) (omega arith) (omega arith) (sym (t .before .block-good .ensures) ∙ t .if3 .taken) in
-    (e, c .transform .ensures ∙ ap (λ (r : IdctAnswer). blockAfter r (idct8x8 (a .rounding) (a .depth) (a .coefficients)) (a .out .now)) e)
+    (due-0 (a .bits-per-pixel) (a .coefficients) (depth-told (t .before .before)) (values-told t), (c .samples .ensures, λ e y x p q. whole-near (a .coefficients) (small t) y x p q (a .rounding)))
 
--- src/lib.rt:265:1
-returns-4 : tie.Need-returns-4
-returns-4 c =
+returns-2 : tie.Need-returns-2
+returns-2 c =
     let a = c .before .before .before .before .args in
-    let e = bad (a .depth) (a .coefficients) (omega arith) (omega arith) (sym (c .before .block-good .ensures) ∙ c .if3 .left) in
-    (e, ap (λ (r : IdctAnswer). blockAfter r (idct8x8 (a .rounding) (a .depth) (a .coefficients)) (a .out .now)) e)
+    (due-13 (a .bits-per-pixel) (a .coefficients) (depth-told (c .before .before)) (sym (c .before .values-fine .ensures) ∙ c .if2 .left), (refl, λ e. absurd (omega (arith, e))))
+
+returns-3 : tie.Need-returns-3
+returns-3 c =
+    let a = c .before .before .args in
+    (due-12 (a .bits-per-pixel) (a .coefficients) (sym (c .before .fine .ensures) ∙ c .if1 .left), (refl, λ e. absurd (omega (arith, e))))
 
 pub idct-8x8-rounded-spec : {M : Type 1} → statement M
 idct-8x8-rounded-spec =
     tie.close
-    (tie.spec returns returns-2 block-good-requires transform-requires returns-3 returns-4)
+    (tie.spec fine-requires values-fine-requires samples-requires returns returns-2 returns-3)

@@ -1,0 +1,23 @@
+-- An f64 that stands for an exact number, and how far off it is. Definitions only.
+use mathlib.Core.Path.{_≡_}
+use Prim.Native.Nat.{ℕ, _+_, _*_, _≤_, _<_}
+use lib.Ieee.{Float}
+use lib.IntN.{ℤ}
+use Rattle.f64_error.specs.Units.{Is, one}
+use Rattle.numbers.proofs.Integers.{dn, up}
+
+pub record Approx (x : Float) (S : ℕ) (a : ℤ) (e b : ℕ) : Type 0 where
+  pub v : ℤ
+  pub is : Is x v
+  pub over : up v + dn a * S ≤ dn v + up a * S + e
+  pub under : dn v + up a * S ≤ up v + dn a * S + e
+  pub size : up v + dn v ≤ b
+
+-- y is c / P, and at most 1 in size
+pub record Const (y : Float) (P : ℕ) (c : ℤ) : Type 0 where
+  pub w : ℤ
+  pub is : Is y w
+  pub plus : up w * P ≡ up c * one
+  pub minus : dn w * P ≡ dn c * one
+  pub small : up c + dn c ≤ P
+  pub some : 0 < P

@@ -1,0 +1,83 @@
+-- Which values are refused: what the tests tell of sizes, which number is due, and what a caller shows of values that are taken. Assumes nothing.
+use mathlib.Core.Bool.{Bool, true, false, cond, _&&_}
+use mathlib.Core.List.{List, []}
+use mathlib.Core.Path.{_≡_, refl, sym, ap, _∙_}
+use Prim.Native.Nat.{ℕ, zero, suc, _+_, _^_, _≤_, _<_}
+use native.Mathlib.Nat.{le-trans}
+use native.Mathlib.Omega.{arith}
+use lib.Dec.{T, leb}
+use lib.Ieee.Bits.{is-true}
+use lib.IntN.{ℤ, pos, natAbs}
+use lib.ListN.{getD}
+use lib.Pow.{pow-mono, pow-pos}
+use lib.Signed.{leZ, _≤ℤ_}
+use mir.Facts.{and-yes}
+use borrow.Author.Tests.{leb-true}
+use Rattle.idct.proofs.Scans.{is-T}
+use Rattle.idct.specs.Exact.{Modest}
+use Rattle.idct.specs.Limits.{highest, inBounds, lowest, numberDue, valuesFine, numberOf}
+use Rattle.idct.specs.declared.limits.IdctAnswer.{IdctAnswer}
+use Rattle.idct.specs.declared.limits.IdctAnswer.the-variants.{DepthOutOfRange, Transformed, ValueOutOfLimits}
+use Rattle.numbers.proofs.Every.{every, every-at}
+use Rattle.numbers.proofs.Integers.{diff-is, le-in, le-leZ, le-out, le-true, neg-dn, neg-up, zarith}
+use Rattle.numbers.proofs.Magnitudes.{abs-within}
+use Rattle.numbers.specs.Grid.{block, build, cell}
+use Rattle.ranges.specs.Range.{depthFine}
+
+-- ---- one value
+
+pub inside : (b : ℕ) (z : ℤ) → lowest b ≤ℤ z → z ≤ℤ highest b → inBounds b z ≡ true
+inside b z p q = simp (le-leZ (lowest b) z p, le-leZ z (highest b) q)
+
+zero-inside : (b : ℕ) → T (inBounds b (pos 0))
+zero-inside b =
+    let h : 0 < 2 ^ b = pow-pos b in
+    is-T (inBounds b (pos 0)) (inside b (pos 0) (le-in (omega (arith, neg-up (pos (2 ^ b)), neg-dn (pos (2 ^ b))))) (le-in (omega (arith, diff-is (pos (2 ^ b)) (pos 1)))))
+
+size : (b : ℕ) (z : ℤ) → T (inBounds b z) → natAbs z ≤ 2 ^ b
+size b z t =
+    let s = and-yes (leZ (lowest b) z) (leZ z (highest b)) t in
+    let p : lowest b ≤ℤ z = le-true (lowest b) z (is-true (leZ (lowest b) z) (s .0)) in
+    let q : z ≤ℤ highest b = le-true z (highest b) (is-true (leZ z (highest b)) (s .1)) in
+    abs-within z (2 ^ b) p (le-in (omega (zarith, le-out q, diff-is (pos (2 ^ b)) (pos 1))))
+
+-- ---- a block
+
+pub depth-least : (d : ℕ) → depthFine d ≡ true → d < 13
+depth-least d e = let l = leb-true d 12 (is-true (leb d 12) (and-yes (leb 4 d) (leb d 12) (is-T (depthFine d) e) .1)) in omega arith
+
+pub modest : (d : ℕ) (l : List (List ℤ)) → d < 13 → valuesFine d l ≡ true → Modest l
+modest d l h e v u i j =
+    let p = inBounds (d + 3) in
+    let g : d + 3 ≤ 15 = omega arith in
+    le-trans (size (d + 3) (cell l v u) (every-at p (pos 0) (getD l v []) (zero-inside (d + 3)) (every-at (every p) [] l tt (is-T (valuesFine d l) e) v) u)) (pow-mono g)
+
+-- ---- the number that is due
+
+module _ (d : ℕ) (l : List (List ℤ)) where
+  pub due-12 : depthFine d ≡ false → 12 ≡ numberDue d l
+  due-12 e = sym (ap (λ (b : Bool). cond b (cond (valuesFine d l) 0 13) 12) e)
+
+  pub due-13 : depthFine d ≡ true → valuesFine d l ≡ false → 13 ≡ numberDue d l
+  due-13 e g = sym (ap (λ (b : Bool). cond b (cond (valuesFine d l) 0 13) 12) e ∙ ap (λ (b : Bool). cond b 0 13) g)
+
+  pub due-0 : depthFine d ≡ true → valuesFine d l ≡ true → 0 ≡ numberDue d l
+  due-0 e g = sym (ap (λ (b : Bool). cond b (cond (valuesFine d l) 0 13) 12) e ∙ ap (λ (b : Bool). cond b 0 13) g)
+
+-- the number tells the answer
+pub transformed : (r : IdctAnswer) → numberOf r ≡ 0 → r ≡ Transformed
+transformed Transformed e = refl
+transformed DepthOutOfRange e = absurd (omega arith)
+transformed ValueOutOfLimits e = absurd (omega arith)
+
+-- ---- for callers: a block whose cells are within a depth's limits is taken
+
+every-build : {A : Type 0} (p : A → Bool) (n : ℕ) (f : ℕ → A) → ((i : ℕ) → i < n → p (f i) ≡ true) → every p (build n f) ≡ true
+unfolding build
+every-build p zero f h = refl
+every-build p (suc n) f h = ap (λ (b : Bool). b && every p (build n (λ (k : ℕ). f (suc k)))) (h 0 (omega arith)) ∙ every-build p n (λ (k : ℕ). f (suc k)) (λ (i : ℕ) (l : i < n). h (suc i) (omega arith))
+
+pub values-taken : (d : ℕ) (f : ℕ → ℕ → ℤ) → ((v u : ℕ) → v < 8 → u < 8 → inBounds (d + 3) (f v u) ≡ true) → valuesFine d (block f) ≡ true
+values-taken d f h =
+    every-build (every (inBounds (d + 3))) 8 (λ (v : ℕ). build 8 (f v))
+    (λ (v : ℕ) (p : v < 8). every-build (inBounds (d + 3)) 8 (f v) (λ (u : ℕ) (q : u < 8). h v u p q))

@@ -1,0 +1,63 @@
+// How an f64 becomes a whole number.
+ghost use mathlib.Core.Path.{_≡_};
+ghost use Prim.Native.Nat.{_*_, _≤_};
+ghost use lib.IntN.{natAbs};
+ghost use Rattle.f64_error.specs.Units.{one, Bounded};
+ghost use Rattle.f64_error.specs.Wholes.{floorZ, magF};
+ghost use Rattle.idct.specs.Rounding.{tied, wholeOf};
+
+// How a value half-way between two whole numbers is rounded.
+pub enum HalfIntegerRounding {
+    AwayFromZero,
+    ToEven,
+}
+
+impl HalfIntegerRounding {
+    pub const DEFAULT: HalfIntegerRounding = HalfIntegerRounding::AwayFromZero;
+}
+
+// The distance from one half below which a value counts as half-way.
+const HALF_INTEGER_TOLERANCE: f64 = 1e-8;
+
+// The whole number at or below x.
+fn floor_of(x: f64) -> i32
+    requires { ⌜ Bounded x (1048576 * one) ⌝ }
+    ensures { λ r. ⌜ r ≡ floorZ x ⌝ }
+{
+    let t = std::num::truncating_f64_to_i64(x) as i32;
+    if x < (t as f64) { t - 1 } else { t }
+}
+
+// |x|
+fn magnitude(x: f64) -> f64
+    ensures { λ r. ⌜ r ≡ magF x ⌝ }
+{
+    if x < 0.0 { -x } else { x }
+}
+
+// The neighbour of `below` and a half that the rule picks.
+fn tie(below: i32, rounding: HalfIntegerRounding) -> i32
+    requires { ⌜ natAbs below ≤ 1048577 ⌝ }
+    ensures { λ r. ⌜ r ≡ tied rounding below ⌝ }
+{
+    match rounding {
+        HalfIntegerRounding::AwayFromZero => if below < 0 { below } else { below + 1 },
+        HalfIntegerRounding::ToEven => if below % 2 == 0 { below } else { below + 1 },
+    }
+}
+
+// The whole number nearest to `value`. One that is half-way, within the tolerance, goes by `rounding`.
+pub(crate) fn round_to_integer(value: f64, rounding: HalfIntegerRounding) -> i32
+    requires { ⌜ Bounded value (1048576 * one) ⌝ }
+    ensures { λ r. ⌜ r ≡ wholeOf rounding value ⌝ }
+{
+    let below = floor_of(value);
+    let d = value - (below as f64) - 0.5;
+    if magnitude(d) < HALF_INTEGER_TOLERANCE {
+        tie(below, rounding)
+    } else if d < 0.0 {
+        below
+    } else {
+        below + 1
+    }
+}

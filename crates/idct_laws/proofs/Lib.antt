@@ -1,0 +1,5 @@
+-- Laws of the whole numbers that no function of `idct` needs.
+pub mod Distances
+pub mod Nearest
+pub mod Halves
+pub mod Settled
