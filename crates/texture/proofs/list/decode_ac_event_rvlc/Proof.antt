@@ -1,0 +1,53 @@
+-- `texture::list::decode_ac_event_rvlc` meets its contract: one event where the data may be read. Assumes nothing.
+use mathlib.Core.Bool.{true}
+use mathlib.Core.Path.{_∙_, sym}
+use lib.ListN.{length}
+use denote.Ref.{now}
+use borrow.Author.Needs.{needs}
+use borrow.Author.Tests.{not-false, not-true}
+use Rattle.bits.proofs.CursorLaws.{in-data-yes}
+use Rattle.texture.proofs.ChainLaws.{event-in, event-out}
+use Rattle.texture.proofs.list.decode_ac_event_rvlc.Statement.{statement}
+use Rattle.texture.proofs.list.decode_ac_event_rvlc.Tie as tie
+
+readable-requires : tie.Need-readable-requires
+readable-requires c κs = search needs
+
+returns : tie.Need-returns
+returns c =
+    let a = c .before .before .before .args in
+    event-out (now (a .«data»)) (a .c .«bit_pos») true (a .table) (sym (c .before .readable .ensures) ∙ not-true _ (c .if1 .taken))
+
+rvlc-codes-requires : tie.Need-rvlc-codes-requires
+rvlc-codes-requires c κs = search needs
+
+rvlc-lens-requires : tie.Need-rvlc-lens-requires
+rvlc-lens-requires c κs = search needs
+
+rvlc-events-requires : tie.Need-rvlc-events-requires
+rvlc-events-requires c κs = search needs
+
+slice-aggregate-read-event : tie.Need-slice-aggregate-read-event
+slice-aggregate-read-event c = search needs
+
+slice-aggregate-read-event-2 : tie.Need-slice-aggregate-read-event-2
+slice-aggregate-read-event-2 c = search needs
+
+slice-aggregate-read-event-3 : tie.Need-slice-aggregate-read-event-3
+slice-aggregate-read-event-3 c = search needs
+
+read-event-requires : tie.Need-read-event-requires
+read-event-requires c κs =
+    let a = c .before .before .before .before .before .before .before .before .before .args in
+    let e = c .before .before .before .before .before .before in
+    let h = in-data-yes (length (now (a .«data»))) (a .c .«bit_pos») (sym (e .before .readable .ensures) ∙ not-false _ (e .if1 .left)) in
+    ((h .1, h .0), (c .before .before .before .before .before .rvlc-codes .ensures, c .before .before .before .before .rvlc-lens .ensures, c .before .before .before .rvlc-events .ensures))
+
+returns-2 : tie.Need-returns-2
+returns-2 c =
+    let a = c .before .before .before .before .before .before .before .before .before .before .args in
+    let e = c .before .before .before .before .before .before .before in
+    event-in (now (a .«data»)) (a .c .«bit_pos») true (a .table) (sym (e .before .readable .ensures) ∙ not-false _ (e .if1 .left)) _ (c .read-event .ensures)
+
+pub decode-ac-event-rvlc-spec : {M : Type 1} → statement M
+decode-ac-event-rvlc-spec = tie.close (tie.spec readable-requires returns rvlc-codes-requires rvlc-lens-requires rvlc-events-requires slice-aggregate-read-event slice-aggregate-read-event-2 slice-aggregate-read-event-3 read-event-requires returns-2)

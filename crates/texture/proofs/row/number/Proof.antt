@@ -1,0 +1,22 @@
+-- `texture::row::number` meets its contract: past the end it is 0. Assumes nothing.
+use mathlib.Core.Path.{sym}
+use denote.Ref.{now}
+use borrow.Author.Needs.{needs}
+use Rattle.texture.proofs.RowLaws.{getD-past}
+use Rattle.texture.proofs.row.number.Statement.{statement}
+use Rattle.texture.proofs.row.number.Tie as tie
+
+mul-result : tie.Need-mul-result
+mul-result c = search needs
+
+shared-slice-read-result : tie.Need-shared-slice-read-result
+shared-slice-read-result c = search needs
+
+returns : tie.Need-returns
+returns c = search needs
+
+returns-2 : tie.Need-returns-2
+returns-2 c = sym (getD-past (now (c .before .args .events)) (c .before .args .at) (c .if1 .left))
+
+pub number-spec : {M : Type 1} → statement M
+number-spec = tie.close (tie.spec mul-result shared-slice-read-result returns returns-2)

@@ -1,0 +1,248 @@
+// Event lists into 64 places, and events one at a time.
+ghost use mathlib.Core.Path.{_≡_};
+ghost use mathlib.Core.Bool.{false, true};
+ghost use Prim.Native.Nat.{_≤_};
+ghost use lib.ListN.{length};
+ghost use Rattle.bits.specs.Bits.{bitsFrom};
+ghost use Rattle.bits.specs.Cursor.{inData};
+ghost use Rattle.texture.specs.Reader.{mapped};
+ghost use Rattle.texture.specs.Event.{valueOf};
+ghost use Rattle.texture.specs.EventReader.{event};
+ghost use Rattle.texture.specs.Events.{firstPlace};
+ghost use Rattle.texture.specs.Answer.{Readable, SaysEvent, TablesOf, closed, eventAnswer, keptOf, listAnswer, listedBy, placesAfter, putOf, refusedBy};
+use crate::error::TextureParseError;
+use crate::event::EventRead;
+use bits::Cursor;
+use codes::TcoefTable;
+
+// The cursor after a list, or a refusal.
+pub enum EventsRead {
+    Read(Cursor),
+    Refused(TextureParseError),
+}
+
+// What a list gave: the answer and its 64 places, zeros where it refused.
+pub struct ListRead {
+    pub answer: EventsRead,
+    pub qfs: [i32; 64],
+}
+
+// The places filled so far: the next place, the first bad landing or 0, and the levels.
+pub struct State {
+    pub place: usize,
+    pub bad: usize,
+    pub qfs: [i32; 64],
+}
+
+// Whether data may be read from a cursor on.
+pub(crate) fn readable(data: &[u8], c: Cursor) -> bool
+    ensures { λ r. ⌜ r ≡ inData (length (now («data» .entry))) (c .«bit_pos») ⌝ }
+{
+    if Cursor::MOST_BYTES < data.len() {
+        return false;
+    }
+    c.bit_pos <= 8 * data.len()
+}
+
+// One event of the coding in use.
+fn read_event(
+    data: &[u8],
+    c: Cursor,
+    reversible: bool,
+    table: TcoefTable,
+    codes: &[u32],
+    lens: &[u32],
+    events: &[u32],
+) -> EventRead
+    requires { ⌜ Readable (now «data») c × TablesOf reversible table (now codes) (now lens) (now events) ⌝ }
+    ensures { λ r. ⌜ SaysEvent (now («data» .entry)) r (mapped (valueOf table) (event reversible (bitsFrom (now («data» .entry)) (c .«bit_pos»)))) ⌝ }
+{
+    if reversible {
+        return crate::rvlc::read_rvlc(data, c, table, codes, lens, events);
+    }
+    crate::event::read_plain(data, c, table, codes, lens, events)
+}
+
+// One event into its place; the first bad landing is remembered.
+fn put(st: State, run: u32, level: i32) -> State
+    requires { ⌜ (st .place ≤ 64) × (run ≤ 1024) ⌝ }
+    ensures { λ r. ⌜ r ≡ putOf st run level ⌝ }
+{
+    let place = st.place;
+    let bad = st.bad;
+    if bad != 0 {
+        return st;
+    }
+    let land = place + run as usize;
+    let mut qfs = st.qfs;
+    if land < 64 {
+        qfs[land] = level;
+        return State {
+            place: land + 1,
+            bad: 0,
+            qfs,
+        };
+    }
+    State {
+        place,
+        bad: land,
+        qfs,
+    }
+}
+
+fn refusal(e: TextureParseError) -> ListRead
+    ensures { λ r. ⌜ r ≡ refusedBy e ⌝ }
+{
+    ListRead {
+        answer: EventsRead::Refused(e),
+        qfs: [0i32; 64],
+    }
+}
+
+// The answer once the list is read through.
+fn close(st: State, next: Cursor) -> ListRead
+    requires { ⌜ st .bad ≤ 2000 ⌝ }
+    ensures { λ r. ⌜ r ≡ closed st next ⌝ }
+{
+    let bad = st.bad;
+    if bad == 0 {
+        let qfs = st.qfs;
+        return ListRead {
+            answer: EventsRead::Read(next),
+            qfs,
+        };
+    }
+    refusal(TextureParseError::Overflow {
+        position: bad as u32,
+    })
+}
+
+// A list through its last event.
+fn read_list(
+    data: &[u8],
+    c: Cursor,
+    reversible: bool,
+    table: TcoefTable,
+    codes: &[u32],
+    lens: &[u32],
+    events: &[u32],
+    first: usize,
+) -> ListRead
+    requires { ⌜ Readable (now «data») c × TablesOf reversible table (now codes) (now lens) (now events) × (first ≤ 1) ⌝ }
+    ensures { λ r. ⌜ r ≡ listedBy (now («data» .entry)) reversible table first (bitsFrom (now («data» .entry)) (c .«bit_pos»)) ⌝ }
+{
+    let mut st = State {
+        place: first,
+        bad: 0,
+        qfs: [0i32; 64],
+    };
+    let mut at = c;
+    loop {
+        let e = read_event(data, at, reversible, table, codes, lens, events);
+        match e {
+            EventRead::Refused(why) => {
+                return refusal(why);
+            }
+            EventRead::Event(v, next) => {
+                st = put(st, v.run, v.level);
+                at = next;
+                if v.last {
+                    return close(st, at);
+                }
+            }
+        }
+    }
+}
+
+// The first place of a list: 1 after a DC code, 0 without one.
+fn first_place(dc_coded: bool) -> usize
+    ensures { λ r. ⌜ (r ≡ firstPlace «dc_coded») × (r ≤ 1) ⌝ }
+{
+    if dc_coded {
+        return 1;
+    }
+    0
+}
+
+// One plain event at a cursor.
+pub fn decode_ac_event(data: &[u8], c: Cursor, table: TcoefTable) -> EventRead
+    ensures { λ r. ⌜ r ≡ eventAnswer (now («data» .entry)) (c .«bit_pos») false table ⌝ }
+{
+    if !readable(data, c) {
+        return EventRead::Refused(TextureParseError::OutOfRange);
+    }
+    let codes = codes::tcoef_codes();
+    let lens = codes::tcoef_lens();
+    let events = codes::tcoef_events(table);
+    read_event(data, c, false, table, &codes, &lens, &events)
+}
+
+// One reversible event at a cursor.
+pub fn decode_ac_event_rvlc(data: &[u8], c: Cursor, table: TcoefTable) -> EventRead
+    ensures { λ r. ⌜ r ≡ eventAnswer (now («data» .entry)) (c .«bit_pos») true table ⌝ }
+{
+    if !readable(data, c) {
+        return EventRead::Refused(TextureParseError::OutOfRange);
+    }
+    let codes = codes::rvlc_codes();
+    let lens = codes::rvlc_lens();
+    let events = codes::rvlc_events(table);
+    read_event(data, c, true, table, &codes, &lens, &events)
+}
+
+// The places of a list that was accepted, into lent ones.
+fn keep(one: ListRead, qfs: &mut [i32; 64]) -> EventsRead
+    ensures { λ r. ⌜ (r ≡ one .answer) × (now (qfs .exit) ≡ keptOf one (now (qfs .entry))) ⌝ }
+{
+    let answer = one.answer;
+    match answer {
+        EventsRead::Refused(e) => EventsRead::Refused(e),
+        EventsRead::Read(next) => {
+            let places = one.qfs;
+            *qfs = places;
+            EventsRead::Read(next)
+        }
+    }
+}
+
+// A list of plain events at a cursor, into 64 places that start at 1 after a DC code.
+pub fn decode_ac_events(
+    data: &[u8],
+    c: Cursor,
+    table: TcoefTable,
+    dc_coded: bool,
+    qfs: &mut [i32; 64],
+) -> EventsRead
+    ensures { λ r. ⌜ (r ≡ listAnswer (now («data» .entry)) (c .«bit_pos») false table «dc_coded») × (now (qfs .exit) ≡ placesAfter (now («data» .entry)) (c .«bit_pos») false table «dc_coded» (now (qfs .entry))) ⌝ }
+{
+    if !readable(data, c) {
+        return EventsRead::Refused(TextureParseError::OutOfRange);
+    }
+    let codes = codes::tcoef_codes();
+    let lens = codes::tcoef_lens();
+    let events = codes::tcoef_events(table);
+    let first = first_place(dc_coded);
+    let one = read_list(data, c, false, table, &codes, &lens, &events, first);
+    keep(one, qfs)
+}
+
+// A list of reversible events at a cursor, into 64 places that start at 1 after a DC code.
+pub fn decode_ac_events_rvlc(
+    data: &[u8],
+    c: Cursor,
+    table: TcoefTable,
+    dc_coded: bool,
+    qfs: &mut [i32; 64],
+) -> EventsRead
+    ensures { λ r. ⌜ (r ≡ listAnswer (now («data» .entry)) (c .«bit_pos») true table «dc_coded») × (now (qfs .exit) ≡ placesAfter (now («data» .entry)) (c .«bit_pos») true table «dc_coded» (now (qfs .entry))) ⌝ }
+{
+    if !readable(data, c) {
+        return EventsRead::Refused(TextureParseError::OutOfRange);
+    }
+    let codes = codes::rvlc_codes();
+    let lens = codes::rvlc_lens();
+    let events = codes::rvlc_events(table);
+    let first = first_place(dc_coded);
+    let one = read_list(data, c, true, table, &codes, &lens, &events, first);
+    keep(one, qfs)
+}
