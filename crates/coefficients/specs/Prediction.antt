@@ -1,6 +1,5 @@
 -- Intra prediction (7.4.3): the direction, Table 7-1, and the prediction of each place as a value by itself. Definitions only.
-use mathlib.Core.Bool.{Bool, true, false, cond, _&&_}
-use mathlib.Core.List.{List}
+use mathlib.Core.Bool.{Bool, false, cond}
 use Prim.Native.Nat.{ℕ, zero, suc, _+_, _-_, _*_, _/_, _^_, min}
 use lib.Dec.{leb, ltb}
 use lib.ListN.{getD, replicate}

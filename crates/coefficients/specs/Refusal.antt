@@ -1,10 +1,7 @@
 -- What the stages refuse: the numbers of a refusal, and the tests behind them. Definitions only.
-use mathlib.Core.Bool.{Bool, true, false, cond, _&&_}
+use mathlib.Core.Bool.{Bool, true, false, _&&_}
 use mathlib.Core.List.{List, [], _∷_}
 use Prim.Native.Nat.{ℕ}
-use lib.Dec.{leb}
-use lib.IntN.{ℤ, pos, negsuc}
-use lib.Signed.{leZ}
 use Rattle.coefficients.specs.declared.refusal.CoefficientError.{CoefficientError}
 use Rattle.coefficients.specs.declared.refusal.CoefficientError.the-variants.{Context, OutOfRange}
 use Rattle.coefficients.specs.declared.refusal.Stage.{Stage}

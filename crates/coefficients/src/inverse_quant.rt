@@ -1,8 +1,7 @@
 // Inverse quantisation (inverse_quant.rs; 7.4.4).
 ghost use mathlib.Core.Path.{_≡_};
-ghost use mathlib.Core.Bool.{Bool, true, false};
+ghost use mathlib.Core.Bool.{true, false};
 ghost use Prim.Native.Nat.{ℕ, _≤_, _<_};
-ghost use lib.ListN.{length};
 ghost use lib.IntN.{natAbs};
 ghost use Rattle.numbers.specs.Grid.{cell};
 ghost use Rattle.coefficients.specs.Refusal.{after, all};
@@ -261,7 +260,6 @@ fn method1_block(
     control: bool,
     out: &mut [[i32; 8]; 8],
 ) -> Stage
-    requires { ⌜ length (now out) ≡ 8 ⌝ }
     ensures { λ r. ⌜ (r ≡ answer1 ctx w qf) × (now (out .exit) ≡ after (answer1 ctx w qf) (dequantised1 control ctx w qf) (now (out .entry))) ⌝ }
 {
     if !context_fine(ctx) {

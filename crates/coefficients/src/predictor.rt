@@ -2,7 +2,7 @@
 ghost use mathlib.Core.Path.{_≡_};
 ghost use Prim.Native.Nat.{ℕ, _≤_, _<_, min};
 ghost use lib.Dec.{T};
-ghost use lib.ListN.{getD, length};
+ghost use lib.ListN.{getD};
 ghost use lib.IntN.{natAbs, pos};
 ghost use Rattle.numbers.specs.Grid.{block};
 ghost use Rattle.ranges.specs.Range.{levelFine};
@@ -226,7 +226,6 @@ fn predict_intra_ac(
     qp_x: u32,
     out: &mut [i32; 7],
 ) -> Stage
-    requires { ⌜ length (now out) ≡ 7 ⌝ }
     ensures { λ r. ⌜ (r ≡ acAnswer pqfx has qf qp «qp_x») × (now (out .exit) ≡ after (acAnswer pqfx has qf qp «qp_x») (acAdded pqfx has qf qp «qp_x») (now (out .entry))) ⌝ }
 {
     if !ranges::Quantiser::fine(qp_x) {

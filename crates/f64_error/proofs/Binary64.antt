@@ -11,10 +11,10 @@ use lib.Ieee.Exact.{HasValue}
 use lib.Ieee.Fits.{down-pos}
 use lib.IntN.{ℤ, pos, negℤ, natAbs, _+ℤ_, negsuc, _*ℤ_}
 use lib.Pow.{pow-add, pow-lt}
+use Rattle.numbers.proofs.Integers.{dn, up}
 use Rattle.f64_error.proofs.Operations.{Close, Times, add-val, mul-val, neg-val, val-of}
 use Rattle.f64_error.proofs.Order.{Le, Lt, lt-holds, lt-no, lt-yes, toSigned-val}
 use Rattle.f64_error.specs.Units.{Is, grain, mesh, one, sgn}
-use Rattle.numbers.proofs.Integers.{dn, up}
 
 pub one-is : one ≡ 2 ^ 60 * grain
 unfolding one grain
@@ -71,7 +71,7 @@ pub neg-is : (x : Float) (a : ℤ) → Is x a → Is (neg x) (negℤ a)
 unfolding Is
 neg-is x a h = neg-val binary64 x a h
 
--- ---- an integer numer to 2 ^ 53 is a value exactly
+-- ---- an integer up to 2 ^ 53 is a value exactly
 scale-up : (x : Float) (s : Bool) (n : ℕ) → HasValue x s n 1 → HasValue x s (n * one) (2 ^ low binary64)
 unfolding one
 scale-up nan s n h = h
@@ -103,7 +103,7 @@ pub nlt-is : (x y : Float) (a b : ℤ) → Is x a → Is y b → lt x y ≡ fals
 unfolding Is
 nlt-is x y a b h g e = lt-no binary64 x y a b h g e
 
--- a number that is within less than 1 of v
+-- t is less than 1 from v
 pub record Part (v t : ℤ) : Type 0 where
   pub over : up v + dn t * one < dn v + up t * one + one
   pub under : dn v + up t * one < up v + dn t * one + one

@@ -9,10 +9,10 @@ use lib.Dec.{T, lit<, leb→le, eqb, leb, eqb→eq}
 use lib.Ieee.{Float, nan, inf, fin, up as numer, down as denom, neg}
 use lib.Ieee.Fits.{and-l, and-r}
 use lib.IntN.{ℤ, pos, negℤ, natAbs, negsuc}
+use Rattle.numbers.proofs.Integers.{eq-in, neg-dn, neg-up, up}
 use Rattle.f64_error.proofs.Binary64.{neg-is}
 use Rattle.f64_error.specs.Approx.{Const}
 use Rattle.f64_error.specs.Units.{Is, one, sgn}
-use Rattle.numbers.proofs.Integers.{eq-in, neg-dn, neg-up, up}
 
 -- 2 ^ 55 of these are 1.0
 unfoldable pub constUnit : ℕ

@@ -4,20 +4,20 @@ use Prim.Native.Nat.{ℕ, suc, _+_, _*_, _≤_, _<_}
 use native.Mathlib.Nat.{lt-of-mul-lt-mul-right}
 use native.Mathlib.Omega.{arith}
 use lib.Ieee.{Float}
-use lib.IntN.{ℤ, pos, negℤ, negsuc, _-ℤ_}
+use lib.IntN.{ℤ, pos, negℤ, negsuc, _-ℤ_, natAbs}
+use Rattle.numbers.proofs.Integers.{add-is, dn, up}
 use Rattle.f64_error.proofs.Binary64.{Part}
 use Rattle.f64_error.specs.Units.{Is, one}
 use Rattle.f64_error.specs.Wholes.{FloorOf}
-use Rattle.numbers.proofs.Integers.{add-is, dn, up}
 
-pub part-size : (v t : ℤ) (B : ℕ) → Part v t → up v + dn v ≤ B * one → up t + dn t ≤ B
+pub part-size : (v t : ℤ) (B : ℕ) → Part v t → up v + dn v ≤ B * one → natAbs t ≤ B
 part-size v (pos n) B p h = cancel (omega (arith, p .under))
   where
-    cancel : n * one < suc B * one → n + 0 ≤ B
+    cancel : n * one < suc B * one → n ≤ B
     cancel g = let l : n < suc B = lt-of-mul-lt-mul-right one g in omega arith
 part-size v (negsuc n) B p h = cancel (omega (arith, p .over))
   where
-    cancel : suc n * one < suc B * one → 0 + suc n ≤ B
+    cancel : suc n * one < suc B * one → suc n ≤ B
     cancel g = let l : suc n < suc B = lt-of-mul-lt-mul-right one g in omega arith
 
 -- t is x without its fraction: where x is below t, t - 1 is the floor, and otherwise t

@@ -1,22 +1,22 @@
--- Rounding by the difference from the floor and a half: within the limit either neighbour will do, beyond it the sign of the f64 difference tells the nearest. Assumes nothing.
+-- Rounding by the difference from the floor and a half: within the tolerance either neighbour will do, beyond it the sign of the f64 difference tells the nearest. Assumes nothing.
 use mathlib.Core.Bool.{Bool, true, false, cond}
 use mathlib.Core.Path.{_≡_, refl, sym, ap, subst}
 use Prim.Native.Nat.{ℕ, suc, _+_, _*_, _^_, _≤_, _<_}
-use native.Mathlib.Nat.{lt-of-le-of-lt, mul-lt-mul-of-pos-right, le-of-mul-le-mul-right}
+use native.Mathlib.Nat.{lt-of-le-of-lt, mul-lt-mul-of-pos-right, le-of-mul-le-mul-right, le-of-eq, le-trans, mul-le-mul-right}
 use native.Mathlib.Omega.{arith}
-use lib.Dec.{T, lit<, lit≤, le→leb}
-use lib.Ieee.{Float, fin, low, neg, lt, binary64, sub, ofInt, inFloat, ofBits, size}
+use lib.Dec.{lit<, lit≤}
+use lib.Ieee.{Float, fin, neg, lt, binary64, sub, ofInt, ofBits}
 use lib.Ieee.Bits.{is-true}
 use lib.IntN.{ℤ, pos, negℤ, natAbs, _+ℤ_, negsuc, _*ℤ_}
+use Rattle.numbers.proofs.Integers.{abs-is, add-is, dn, neg-dn, neg-up, up}
 use Rattle.f64_error.proofs.Binary64.{below, grain-pos, half-is, int-is, lt-is, lt-shown, neg-is, nlt-is, off, one-is, one-pos, sub-off, zero-is}
-use Rattle.f64_error.proofs.FromIntegers.{times-dn, times-up}
+use Rattle.f64_error.proofs.FromIntegers.{times-dn, times-up, in-float}
 use Rattle.f64_error.proofs.Nearest.{floor-is, nearest-is, nearest-of, nearest-within}
 use Rattle.f64_error.proofs.Operations.{Close}
 use Rattle.f64_error.proofs.Sizes.{size-one}
 use Rattle.f64_error.specs.Series.{half}
 use Rattle.f64_error.specs.Units.{Is, grain, one}
 use Rattle.f64_error.specs.Wholes.{FloorOf, RoundOf, atHalf, floorZ, gapOf, nearestZ, tolerance}
-use Rattle.numbers.proofs.Integers.{abs-is, add-is, dn, neg-dn, neg-up, up}
 
 -- the tolerance, in units
 unfoldable pub limit : ℕ
@@ -34,26 +34,15 @@ pub limit-ge : 11529215046 * grain ≤ limit
 unfolding limit grain
 limit-ge = lit≤ tt
 
-pub floor-size : (x : Float) (r : ℤ) (f : FloorOf x r) → up (f .v) + dn (f .v) ≤ 1048576 * one → up r + dn r ≤ 1048577
+pub floor-size : (x : Float) (r : ℤ) (f : FloorOf x r) → up (f .v) + dn (f .v) ≤ 1048576 * one → natAbs r ≤ 1048577
 floor-size x (pos n) f h = le-of-mul-le-mul-right (line (f .low)) one-pos
   where
-    line : n * one + dn (f .v) ≤ up (f .v) + 0 * one → (n + 0) * one ≤ 1048577 * one
+    line : n * one + dn (f .v) ≤ up (f .v) + 0 * one → n * one ≤ 1048577 * one
     line g = omega arith
 floor-size x (negsuc n) f h = le-of-mul-le-mul-right (line (f .high)) one-pos
   where
-    line : up (f .v) + suc n * one < dn (f .v) + 0 * one + one → (0 + suc n) * one ≤ 1048577 * one
+    line : up (f .v) + suc n * one < dn (f .v) + 0 * one + one → suc n * one ≤ 1048577 * one
     line g = omega arith
-
-in-float : (z : ℤ) → up z + dn z ≤ 1048577 → T (inFloat binary64 z)
-unfolding inFloat
-in-float (pos n) l = le→leb n (2 ^ 53) (near n l)
-  where
-    near : (n : ℕ) → n + 0 ≤ 1048577 → n ≤ 2 ^ 53
-    near n l = omega arith
-in-float (negsuc n) l = le→leb (suc n) (2 ^ 53) (near n l)
-  where
-    near : (n : ℕ) → 0 + suc n ≤ 1048577 → suc n ≤ 2 ^ 53
-    near n l = omega arith
 
 fits-3 : (n : ℕ) → n ≤ one + 0 + (one + off 22) → n + 2 ^ 59 * grain < below 22
 fits-3 n h = lt-of-le-of-lt (line n one h one-is) (mul-lt-mul-of-pos-right (lit< tt) grain-pos)
@@ -71,7 +60,7 @@ record Diff (d : Float) (v r : ℤ) : Type 0 where
 module _ (x : Float) (r : ℤ) (f : FloorOf x r) (size : up (f .v) + dn (f .v) ≤ 1048576 * one) where
   diff : Diff (gapOf x r) (f .v) r
   diff =
-      let ri = int-is r (in-float r (floor-size x r f size)) in
+      let ri = int-is r (in-float r (le-trans (floor-size x r f size) (lit≤ tt))) in
       let v = f .v in
       let q = r *ℤ pos one in
       let a = sub-off 22 x (ofInt binary64 r) v q (omega arith) (f .is) ri (fits-1 v (floor-size x r f size) size) in
@@ -79,9 +68,9 @@ module _ (x : Float) (r : ℤ) (f : FloorOf x r) (size : up (f .v) + dn (f .v) �
       let b = sub-off 22 (sub binary64 x (ofInt binary64 r)) half u (pos (2 ^ 59 * grain)) (omega arith) (a .1) half-is (fits-2 u v (f .low) (f .high) (a .2)) in
       finish (b .0) (b .1) u v (a .2) (b .2)
     where
-      fits-1 : (v : ℤ) → up r + dn r ≤ 1048577 → up v + dn v ≤ 1048576 * one → natAbs v + natAbs (r *ℤ pos one) < below 22
+      fits-1 : (v : ℤ) → natAbs r ≤ 1048577 → up v + dn v ≤ 1048576 * one → natAbs v + natAbs (r *ℤ pos one) < below 22
       fits-1 v h g =
-          let l : (up r + dn r) * one ≤ 1048577 * one = native.Mathlib.Nat.mul-le-mul-right one h in
+          let l : (up r + dn r) * one ≤ 1048577 * one = mul-le-mul-right one (le-trans (le-of-eq (sym (abs-is r))) h) in
           omega (arith, abs-is v, abs-is (r *ℤ pos one), times-up r one, times-dn r one, one-is, grain-pos)
 
       near : (u v : ℤ) → Close u (v +ℤ negℤ (r *ℤ pos one)) (off 22) → (up u + dn v + up r * one ≤ dn u + up v + dn r * one + off 22) × (dn u + up v + dn r * one ≤ up u + dn v + up r * one + off 22)
@@ -112,7 +101,7 @@ module _ (x : Float) (r : ℤ) (f : FloorOf x r) (size : up (f .v) + dn (f .v) �
   plus-one : (up (r +ℤ pos 1) + (dn r + 0)) * one ≡ (dn (r +ℤ pos 1) + (up r + 1)) * one
   plus-one = ap (λ (z : ℕ). z * one) (add-is r (pos 1))
 
-  -- within the limit of the half: either way will do
+  -- within the tolerance of the half the difference is small
   small : atHalf x r ≡ true → (up (diff .w) ≤ dn (diff .w) + 11529215047 * grain) × (dn (diff .w) ≤ up (diff .w) + 11529215047 * grain)
   small t = go (lt (gapOf x r) (fin false 0 (pos 0))) refl t
     where
@@ -140,7 +129,7 @@ module _ (x : Float) (r : ℤ) (f : FloorOf x r) (size : up (f .v) + dn (f .v) �
       let s2 = s .1 in
       record { v = f .v; is = f .is; over = omega (arith, s1, s2, diff .over, plus-one, one-is); under = omega (arith, f .high, plus-one) }
 
-  -- beyond the limit the f64 difference has the sign of the exact one: the nearest whole number
+  -- beyond the tolerance the f64 difference has the sign of the exact one: the nearest whole number
   pub down-nearest : atHalf x r ≡ false → lt (gapOf x r) (fin false 0 (pos 0)) ≡ true → r ≡ nearestZ x
   down-nearest t u =
       let g : lt (neg (gapOf x r)) tolerance ≡ false = subst (λ (b : Bool). lt (cond b (neg (gapOf x r)) (gapOf x r)) tolerance ≡ false) u t in
@@ -153,7 +142,7 @@ module _ (x : Float) (r : ℤ) (f : FloorOf x r) (size : up (f .v) + dn (f .v) �
       let m = nlt-is (gapOf x r) tolerance (diff .w) (pos limit) (diff .is) limit-is g in
       nearest-is x (f .v) (r +ℤ pos 1) (f .is) (omega (arith, m, diff .over, limit-ge, one-is, grain-pos, plus-one)) (omega (arith, f .high, plus-one, one-pos))
 
-  -- within 10992344133 grain of r and a half the f64 difference is within the limit
+  -- within 10992344133 grain of r and a half the f64 difference is within the tolerance
   pub close-tie : up (f .v) + dn r * one ≤ dn (f .v) + up r * one + 2 ^ 59 * grain + 10992344133 * grain → dn (f .v) + up r * one + 2 ^ 59 * grain ≤ up (f .v) + dn r * one + 10992344133 * grain
       → atHalf x r ≡ true
   close-tie a b = go (lt (gapOf x r) (fin false 0 (pos 0)))
@@ -174,7 +163,7 @@ nearest-near x v i =
     let w = nearest-within x (nearestZ x) (nearest-of x v i) in
     record { v = w .v; is = w .is; over = omega (arith, w .over, one-is); under = omega (arith, w .under, one-is) }
 
--- x within 10992344133 grain, which is more than 2 ^ -27 and the transform's error, of k and a half: its floor is k, and the tie's rule is used
+-- where x is within 10992344133 grain of k and a half, which is more than 2 ^ -27 and 3 * 2 ^ -31, its floor is k, and it counts as half-way
 pub tie-at : (x : Float) (v k : ℤ) → Is x v → up v + dn v ≤ 1048576 * one → up v + dn k * one ≤ dn v + up k * one + 2 ^ 59 * grain + 10992344133 * grain → dn v + up k * one + 2 ^ 59 * grain ≤ up v + dn k * one + 10992344133 * grain
     → (k ≡ floorZ x) × (atHalf x k ≡ true)
 tie-at x v k i s a b =

@@ -8,11 +8,11 @@ use lib.Ieee.{Float, nan, inf, fin, Format, low, up as numer, down as denom, bin
 use lib.Ieee.Fits.{down-pos}
 use lib.IntN.{ℤ, pos, negℤ}
 use lib.Pow.{pow-pos}
+use Rattle.numbers.proofs.Integers.{dn, eq-in, neg-dn, neg-up, up}
 use Rattle.f64_error.proofs.Binary64.{is-unique}
 use Rattle.f64_error.proofs.Order.{le-units, lt-units}
 use Rattle.f64_error.specs.Units.{Is, Val, one, sgn}
 use Rattle.f64_error.specs.Wholes.{FloorOf, NearestOf, WithinHalf, floorZ, nearestZ}
-use Rattle.numbers.proofs.Integers.{dn, eq-in, neg-dn, neg-up, up}
 
 -- a / d is n / L
 module _ (a d n L : ℕ) (D : 0 < d) (l : 0 < L) (h : a * L ≡ n * d) where

@@ -6,12 +6,12 @@ use native.Mathlib.Nat.{le-trans, le-of-eq, lt-of-le-of-lt, mul-assoc, add-mul, 
 use native.Mathlib.Omega.{arith}
 use lib.Ieee.{Float, fin, add, mul, binary64, size}
 use lib.IntN.{ℤ, pos, natAbs, _+ℤ_, negsuc, _*ℤ_}
+use Rattle.numbers.proofs.Integers.{abs-is, add-is, dn, mul-dn, mul-up, up}
 use Rattle.f64_error.proofs.Binary64.{add-off, below, mul-off, off, one-pos, zero-is}
 use Rattle.f64_error.proofs.Operations.{Close}
 use Rattle.f64_error.proofs.Sizes.{size-one}
 use Rattle.f64_error.specs.Approx.{Const, Approx}
 use Rattle.f64_error.specs.Units.{Is, one}
-use Rattle.numbers.proofs.Integers.{abs-is, add-is, dn, mul-dn, mul-up, up}
 
 -- v is within h of X - Y, in units of 1 / P
 size-of : (v : ℤ) (P X Y h : ℕ) → up v * P + Y ≤ dn v * P + X + h * P → dn v * P + X ≤ up v * P + Y + h * P → (up v + dn v) * P ≤ X + Y + h * P

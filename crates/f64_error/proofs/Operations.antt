@@ -10,16 +10,16 @@ use lib.Ieee.Exact.{HasValue}
 use lib.Ieee.Fits.{down-pos}
 use lib.IntN.{ℤ, pos, negℤ, natAbs, _+ℤ_}
 use lib.Pow.{pow-pos}
+use Rattle.numbers.proofs.Integers.{add-is, dn, neg-dn, neg-up, up}
 use Rattle.f64_error.proofs.Rounded.{Off, round-off}
 use Rattle.f64_error.specs.Units.{Val, sgn}
-use Rattle.numbers.proofs.Integers.{add-is, den, dn, neg-dn, neg-up, up}
 
 pub val-of : (f : Format) (x : Float) (s : Bool) (n : ℕ) → HasValue x s n (2 ^ low f) → Val f x (sgn s n)
 val-of f nan s n h = h
 val-of f (inf t) s n h = h
 val-of f (fin t m e) s n h = (n, h .1, ap (λ (b : Bool). sgn b n) (sym (h .0)))
 
--- the magnitude of a signed number
+-- the magnitude of a number with a sign
 pub abs-sgn : (s : Bool) (n : ℕ) → natAbs (sgn s n) ≡ n
 abs-sgn false n = refl
 abs-sgn true zero = refl
@@ -137,7 +137,7 @@ module _ (f : Format) (k : ℕ) (fine : 2 ^ (prec f + suc k) < 2 ^ (low f + suc 
     sum-ok false true = apart false (ltb A B) (λ (h : T (ltb A B)). le-of-lt (ltb→lt A B h)) (nltb→le A B)
     sum-ok true false = apart true (ltb A B) (λ (h : T (ltb A B)). le-of-lt (ltb→lt A B h)) (nltb→le A B)
 
-  -- Lemma B, `add`
+  -- `add`
   pub add-val : (x y : Float) (a b : ℤ) → Val f x a → Val f y b → natAbs a + natAbs b < 2 ^ (prec f + suc k) → (v : ℤ) × Val f (add f x y) v × Close v (a +ℤ b) (2 ^ k)
   unfolding add AddOk
   add-val nan y a b h g small = absurd h
@@ -182,7 +182,7 @@ scaled-off N P D L r h d e o =
     down' a e = omega arith
 
 module _ (f : Format) (k : ℕ) (fine : 2 ^ (prec f + suc k) < 2 ^ (low f + suc (emax f))) where
-  -- Lemma B, `mul`
+  -- `mul`
   pub mul-val : (x y : Float) (a b : ℤ) → Val f x a → Val f y b → natAbs a * natAbs b < 2 ^ (prec f + suc k) * 2 ^ low f → (v : ℤ) × Val f (mul f x y) v × Times v a b (2 ^ low f) (2 ^ k)
   unfolding mul
   mul-val nan y a b h g small = absurd h

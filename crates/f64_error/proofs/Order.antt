@@ -10,9 +10,9 @@ use lib.Ieee.Fits.{down-pos}
 use lib.Ieee.Nearest.{div-same}
 use lib.IntN.{ℤ, pos, negℤ, natAbs}
 use lib.Pow.{pow-pos}
+use Rattle.numbers.proofs.Integers.{dn, neg-dn, neg-up, up}
 use Rattle.f64_error.proofs.Operations.{abs-sgn, at-l, at-r}
 use Rattle.f64_error.specs.Units.{Val, sgn}
-use Rattle.numbers.proofs.Integers.{dn, neg-dn, neg-up, up}
 
 -- a < b, as `omega` reads it
 abbrev pub Lt : ℤ → ℤ → Type 0

@@ -6,13 +6,13 @@ use native.Mathlib.Nat.{le-trans, le-refl, le-suc}
 use native.Mathlib.Omega.{arith}
 use lib.Ieee.{Float, mul, binary64}
 use lib.IntN.{ℤ, pos, _+ℤ_, _*ℤ_, *ℤ-comm, zero-*ℤ, *ℤ-zero}
+use Rattle.numbers.proofs.Integers.{*ℤ-+ℤ, *ℤ-assoc, +ℤ-*ℤ}
 use Rattle.f64_error.proofs.Binary64.{below, off}
 use Rattle.f64_error.proofs.Nearness.{approx-add, approx-half, approx-mul, approx-weaken, approx-zero}
 use Rattle.f64_error.proofs.Operations.{mul-swap}
 use Rattle.f64_error.specs.Approx.{Const, Approx}
 use Rattle.f64_error.specs.Series.{blockF, blockZ, half, pass, passZ, seriesF, seriesZ}
 use Rattle.f64_error.specs.Units.{Is, one}
-use Rattle.numbers.proofs.Integers.{*ℤ-+ℤ, *ℤ-assoc, +ℤ-*ℤ}
 
 -- the constant on the left
 pub approx-mul-left : (j : ℕ) (x y : Float) (S P : ℕ) (a c : ℤ) (e m : ℕ) → j ≤ 900 → Approx x (S * P) a e m → Const y P c → m < below j
@@ -28,7 +28,7 @@ approx-term j c x k S P C a K e m J p q r s =
     approx-weaken (mul binary64 (mul binary64 c x) k) S (C *ℤ a *ℤ K) (e + off j + off j) (m + off j + off j) (e + 2 * off j) (m + 2 * off j) (omega arith) (omega arith)
     (approx-mul j (mul binary64 c x) k S P (C *ℤ a) K (e + off j) (m + off j) J (approx-mul-left j x c (S * P) P a C e m J p q (omega arith)) r s)
 
--- ---- Lemma C: the sum of n terms
+-- ---- the sum of n terms
 pub approx-sum : (j : ℕ) (S e b : ℕ) (t : ℕ → Float) (z : ℕ → ℤ) (n : ℕ) → j ≤ 900 → ((i : ℕ) → i < n → Approx (t i) S (z i) e b) → n * (b + off j) < below j
     → Approx (seriesF t n) S (seriesZ z n) (n * (e + off j)) (n * (b + off j))
 unfolding seriesF seriesZ
@@ -40,7 +40,7 @@ approx-sum j S e b t z (suc n) J h s =
     (h n (le-refl (suc n)))
     (omega arith))
 
--- ---- a pass, and Lemma D
+-- ---- a pass
 pub half-const : Const half 2 (pos 1)
 unfolding Is one
 half-const = record { w = pos (2 ^ 1073); is = (2 ^ 1073, refl, refl); plus = refl; minus = refl; small = omega arith; some = omega arith }
@@ -83,7 +83,7 @@ nested c k F y x =
     ap (λ (t : ℕ → ℤ). seriesZ t 8)
     (fun-ext (λ v. sum-scaled (c v) (k v y) (λ u. c u *ℤ F v u *ℤ k u x) 8 ∙ ap (λ (t : ℕ → ℤ). seriesZ t 8) (fun-ext (λ u. regroup (c v) (c u) (F v u) (k u x) (k v y)))))
 
--- Lemma D: rows with products below 2 ^ i and sums below 2 ^ i', columns with j and j'
+-- rows with products below 2 ^ i and sums below 2 ^ i', columns with j and j'
 pub approx-block : (i i' j j' S P e b : ℕ) (c : ℕ → Float) (k F : ℕ → ℕ → Float) (C : ℕ → ℤ) (K A : ℕ → ℕ → ℤ) → i ≤ 900 → i' ≤ 900 → j ≤ 900 → j' ≤ 900
     → ((v u : ℕ) → v < 8 → u < 8 → Approx (F v u) (S * 2 * P * P * 2 * P * P) (A v u) e b) → ((u : ℕ) → u < 8 → Const (c u) P (C u)) → ((u x : ℕ) → u < 8 → x < 8 → Const (k u x) P (K u x))
     → b + off i < below i → 8 * (b + 2 * off i + off i') < below i' → after i i' b + off j < below j → 8 * (after i i' b + 2 * off j + off j') < below j'

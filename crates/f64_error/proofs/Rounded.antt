@@ -12,7 +12,6 @@ use lib.Ieee.Exact.{HasValue, units-val}
 use lib.Ieee.Fits.{nearest-le, kept-lt, round-is}
 use lib.Ieee.Nearest.{closest}
 use lib.Pow.{pow-pos, pow-add, pow-mono}
-use Rattle.numbers.proofs.Integers.{den}
 
 -- ---- what `compare` says
 abbrev Cmp : Ordering → ℕ → ℕ → Type 0

@@ -3,9 +3,10 @@ use mathlib.Core.Path.{_≡_}
 use Prim.Native.Nat.{ℕ, _+_, _*_, _≤_, _<_}
 use lib.Ieee.{Float}
 use lib.IntN.{ℤ}
-use Rattle.f64_error.specs.Units.{Is, one}
 use Rattle.numbers.proofs.Integers.{dn, up}
+use Rattle.f64_error.specs.Units.{Is, one}
 
+-- x is finite, within e units of a * S units, and at most b units in size
 pub record Approx (x : Float) (S : ℕ) (a : ℤ) (e b : ℕ) : Type 0 where
   pub v : ℤ
   pub is : Is x v

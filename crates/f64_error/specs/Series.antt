@@ -1,4 +1,4 @@
--- What a transform's loops compute in f64, one rounding to each operation, and the same sums over integers. Definitions only.
+-- What the loops of a transform compute in f64, one rounding to each operation, and the same sums over integers. Definitions only.
 use mathlib.Core.Bool.{false}
 use Prim.Native.Nat.{ℕ, zero, suc}
 use lib.Ieee.{Float, fin, add, mul, binary64}
@@ -9,6 +9,7 @@ unfoldable pub seriesF : (ℕ → Float) → ℕ → Float
 seriesF t zero = fin false 0 (pos 0)
 seriesF t (suc n) = add binary64 (seriesF t n) (t n)
 
+-- t(0) + .. + t(n - 1)
 unfoldable pub seriesZ : (ℕ → ℤ) → ℕ → ℤ
 seriesZ t zero = pos 0
 seriesZ t (suc n) = seriesZ t n +ℤ t n
@@ -25,7 +26,7 @@ pass c x k = mul binary64 half (seriesF (λ i. mul binary64 (mul binary64 (c i) 
 abbrev pub passZ : (ℕ → ℤ) → (ℕ → ℤ) → (ℕ → ℤ) → ℤ
 passZ c x k = seriesZ (λ i. c i *ℤ x i *ℤ k i) 8
 
--- Rows, then columns. F v u is the coefficient, c the factors C(u), k u x the cosine.
+-- rows, then columns: F v u is the coefficient, c the factors C(u), k u x the cosine
 abbrev pub blockF : (ℕ → Float) → (ℕ → ℕ → Float) → (ℕ → ℕ → Float) → ℕ → ℕ → Float
 blockF c k F y x = pass c (λ v. pass c (F v) (λ u. k u x)) (λ v. k v y)
 

@@ -1,33 +1,34 @@
 -- An f64 as a whole number of units of 2 ^ -1074, the least that binary64 holds; powers of two stay shut behind a name. Definitions only.
 use mathlib.Core.Bool.{Bool, true, false}
 use mathlib.Core.Path.{_≡_}
-use Prim.Native.Nat.{ℕ, _+_, _*_, _^_, _≤_}
+use Prim.Native.Nat.{ℕ, _*_, _^_, _≤_}
 use lib.Ieee.{Float, nan, inf, fin, Format, low, up as numer, down as denom, binary64}
-use lib.IntN.{ℤ, pos, negℤ}
-use Rattle.numbers.proofs.Integers.{dn, up}
+use lib.IntN.{ℤ, pos, negℤ, natAbs}
 
 -- n with a sign
 abbrev pub sgn : Bool → ℕ → ℤ
 sgn false n = pos n
 sgn true n = negℤ (pos n)
 
--- x is finite, and it is v units
+-- x is finite, and it is v of the format's units
 abbrev pub Val : Format → Float → ℤ → Type 0
 Val f nan v = ⊥
 Val f (inf s) v = ⊥
 Val f (fin s m e) v = (n : ℕ) × (m * numer e * 2 ^ low f ≡ n * denom e) × (v ≡ sgn s n)
 
+-- 1.0, in units
 unfoldable pub one : ℕ
 one = 2 ^ 1074
 
+-- 2 ^ -60, in which errors are counted
 unfoldable pub grain : ℕ
 grain = 2 ^ 1014
 
--- ---- the unit of the exact double sum: 2 ^ -222, which is mesh units
+-- 2 ^ -222, of which the exact double sum is a whole number
 unfoldable pub mesh : ℕ
 mesh = 2 ^ 852
 
--- x is finite, and is v units of 2 ^ -1074
+-- the same at binary64
 unfoldable pub Is : Float → ℤ → Type 0
 Is x v = Val binary64 x v
 
@@ -35,4 +36,4 @@ Is x v = Val binary64 x v
 pub record Bounded (x : Float) (b : ℕ) : Type 0 where
   pub v : ℤ
   pub is : Is x v
-  pub size : up v + dn v ≤ b
+  pub size : natAbs v ≤ b

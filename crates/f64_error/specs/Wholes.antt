@@ -4,9 +4,9 @@ use mathlib.Core.Path.{_≡_}
 use Prim.Native.Nat.{ℕ, _+_, _-_, _*_, _^_, _≤_, _<_, _/_}
 use lib.Ieee.{ofBits, Float, nan, inf, fin, low, up as numer, down as denom, neg, lt, binary64, sub, ofInt}
 use lib.IntN.{ℤ, pos, negℤ}
+use Rattle.numbers.proofs.Integers.{dn, up}
 use Rattle.f64_error.specs.Series.{half}
 use Rattle.f64_error.specs.Units.{Is, grain, one, sgn}
-use Rattle.numbers.proofs.Integers.{dn, up}
 
 -- the greatest whole number that is not above x (Rust's `floor`); 0 where x is not finite
 unfoldable pub floorZ : Float → ℤ
@@ -27,7 +27,6 @@ pub record FloorOf (x : Float) (r : ℤ) : Type 0 where
   pub low : up r * one + dn v ≤ up v + dn r * one
   pub high : up v + dn r * one < dn v + up r * one + one
 
--- ---- the nearest
 -- x is ± n units and r is ± q, of one sign, with q - 1/2 ≤ |x| < q + 1/2
 pub record NearestOf (x : Float) (r : ℤ) : Type 0 where
   pub negative : Bool
@@ -38,14 +37,14 @@ pub record NearestOf (x : Float) (r : ℤ) : Type 0 where
   pub low : 2 * (q * one) ≤ 2 * n + one
   pub high : 2 * n < 2 * (q * one) + one
 
--- |2 r - 2 x| ≤ 1
+-- r is within a half of x
 pub record WithinHalf (x : Float) (r : ℤ) : Type 0 where
   pub v : ℤ
   pub is : Is x v
   pub over : 2 * (up r * one + dn v) ≤ 2 * (dn r * one + up v) + one
   pub under : 2 * (dn r * one + up v) ≤ 2 * (up r * one + dn v) + one
 
--- the magnitude, as `if x < 0.0 { -x } else { x }` has it
+-- |x|, as `if x < 0.0 { -x } else { x }` has it
 abbrev pub magF : Float → Float
 magF x = cond (lt x (fin false 0 (pos 0))) (neg x) x
 
@@ -53,7 +52,7 @@ magF x = cond (lt x (fin false 0 (pos 0))) (neg x) x
 abbrev pub gapOf : Float → ℤ → Float
 gapOf x r = sub binary64 (sub binary64 x (ofInt binary64 r)) half
 
--- r is within a half, 1e-8 and 2 ^ -31 of x
+-- r is within 1/2 + 1e-8 + 2 ^ -31 of x
 pub record RoundOf (x : Float) (r : ℤ) : Type 0 where
   pub v : ℤ
   pub is : Is x v

@@ -1,26 +1,25 @@
 -- A pass sees its eight inputs only, zeros give zeros, and the two passes make the transform. Assumes nothing.
 use mathlib.Core.List.{List, []}
 use mathlib.Core.Path.{_≡_, refl, sym, ap, _∙_, subst}
-use Prim.Native.Nat.{ℕ, zero, suc, _*_, _<_}
+use Prim.Native.Nat.{ℕ, zero, suc, _<_}
 use native.Mathlib.Nat.{le-trans, le-refl, le-suc}
 use native.Mathlib.Omega.{arith}
 use lib.Dec.{T, eqb→eq}
 use lib.Ieee.{Float, nan, binary64, add, mul, ofInt, ofBits, neg}
 use lib.IntN.{ℤ, pos, natAbs}
 use lib.ListN.{getD}
+use Rattle.numbers.proofs.Every.{every, every-at}
+use Rattle.numbers.proofs.Fill.{block-eq, build-eq, getD-build}
+use Rattle.numbers.proofs.Magnitudes.{zero-of-abs}
+use Rattle.numbers.specs.Grid.{block, build, cell}
 use Rattle.f64_error.specs.Series.{half, pass, seriesF}
-use Rattle.f64_error.specs.Units.{Bounded, one}
-use Rattle.idct.proofs.Bounds.{bounded}
 use Rattle.idct.specs.Cosines.{byTurnF, cosF, cF}
 use Rattle.idct.specs.Exact.{Modest}
 use Rattle.idct.specs.Limits.{saturated}
-use Rattle.idct.specs.Rounding.{wholeOf}
+use Rattle.idct.specs.Rounding.{wholeOf, Roundable}
 use Rattle.idct.specs.Transform.{cellF, columnPass, computed, idct1d, isZero, rowIn, rowPass, whole, idct8x8}
 use Rattle.idct.specs.declared.rounding.HalfIntegerRounding.{HalfIntegerRounding}
-use Rattle.numbers.proofs.Every.{every, every-at}
-use Rattle.numbers.proofs.Fill.{block-eq, build-eq, getD-build, rows}
-use Rattle.numbers.proofs.Magnitudes.{zero-of-abs}
-use Rattle.numbers.specs.Grid.{block, build, cell}
+use Rattle.idct.proofs.Bounds.{bounded}
 
 series-ext : (t s : ℕ → Float) (n : ℕ) → ((i : ℕ) → i < n → t i ≡ s i) → seriesF t n ≡ seriesF s n
 unfolding seriesF
@@ -78,8 +77,8 @@ module _ (l : List (List ℤ)) where
     columns-are : (x y : ℕ) → x < 8 → y < 8 → cellF columns x y ≡ computed l y x
     columns-are x y p q = ap (λ (b : List (List Float)). cellF b x y) (c ∙ ap columnPass r) ∙ passes-are x y p q
 
-    pub columns-bounded : Modest l → (x y : ℕ) → x < 8 → y < 8 → Bounded (cellF columns x y) (1048576 * one)
-    columns-bounded m x y p q = subst (λ (z : Float). Bounded z (1048576 * one)) (sym (columns-are x y p q)) (bounded l m y x q p)
+    pub columns-bounded : Modest l → (x y : ℕ) → x < 8 → y < 8 → Roundable (cellF columns x y)
+    columns-bounded m x y p q = subst Roundable (sym (columns-are x y p q)) (bounded l m y x q p)
 
     pub samples-are : (depth : ℕ) (rounding : HalfIntegerRounding) → block (λ (y x : ℕ). saturated depth (wholeOf rounding (cellF columns x y))) ≡ idct8x8 rounding depth l
     unfolding whole

@@ -1,35 +1,28 @@
--- The whole bound, on plain values. Assumes nothing.
+-- How near the whole numbers are to the exact transform: the transform's own error, then what rounding adds. Assumes nothing.
 use mathlib.Core.List.{List}
 use mathlib.Core.Path.{_≡_, refl, sym, ap, _∙_, subst}
-use Prim.Native.Nat.{ℕ, suc, _+_, _*_, _^_, _≤_, _<_}
-use native.Mathlib.Nat.{lt-of-le-of-lt, mul-lt-mul-of-pos-right, le-of-mul-le-mul-right, mul-assoc, le-trans}
+use Prim.Native.Nat.{ℕ, _+_, _*_, _^_, _≤_, _<_}
+use native.Mathlib.Nat.{lt-of-le-of-lt, mul-lt-mul-of-pos-right, le-of-mul-le-mul-right, mul-assoc, le-trans, le-of-eq}
 use native.Mathlib.Omega.{arith}
-use lib.Dec.{T, lit≤, lit<, le→leb}
-use lib.Ieee.{binary64, ofInt, inFloat, size}
-use lib.IntN.{ℤ, pos, negsuc, negℤ, natAbs, _-ℤ_, _*ℤ_}
+use lib.Dec.{lit≤, lit<}
+use lib.Ieee.{binary64, ofInt}
+use lib.IntN.{ℤ, pos, natAbs, _-ℤ_, _*ℤ_}
+use Rattle.numbers.proofs.Integers.{up, dn, abs-is, diff-is, halves}
+use Rattle.numbers.specs.Grid.{cell}
 use Rattle.f64_error.proofs.Binary64.{one-is, grain-pos, mesh-pos, one-factors, one-mesh, grain-mesh, is-unique, off, below}
 use Rattle.f64_error.proofs.FromIntegers.{approx-int, times-up, times-dn}
 use Rattle.f64_error.proofs.Nearness.{approx-weaken}
 use Rattle.f64_error.proofs.Passes.{approx-block, after}
-use Rattle.f64_error.proofs.Sizes.{size-one}
 use Rattle.f64_error.specs.Approx.{Approx}
-use Rattle.f64_error.specs.Units.{one, grain, mesh, Bounded}
+use Rattle.f64_error.specs.Units.{one, grain, mesh, Is}
 use Rattle.f64_error.specs.Wholes.{RoundOf, floorZ}
-use Rattle.idct.proofs.Refusals.{modest}
-use Rattle.idct.proofs.Rounds.{rounded-near}
-use Rattle.idct.proofs.Tables.{cos-const, c-const}
 use Rattle.idct.specs.Cosines.{cF, cZ, cosF, cosZ}
-use Rattle.idct.specs.Exact.{exact, Within, Modest, Near}
-use Rattle.idct.specs.Rounding.{wholeOf}
+use Rattle.idct.specs.Exact.{exact, Within, Modest, Near, transformError}
+use Rattle.idct.specs.Rounding.{wholeOf, Roundable}
 use Rattle.idct.specs.Transform.{computed, whole}
 use Rattle.idct.specs.declared.rounding.HalfIntegerRounding.{HalfIntegerRounding}
-use Rattle.numbers.proofs.Integers.{up, dn, neg-up, neg-dn, abs-is, add-is}
-use Rattle.numbers.specs.Grid.{cell}
-
-in-float : (z : ℤ) → natAbs z ≤ 32768 → T (inFloat binary64 z)
-unfolding inFloat
-in-float (pos n) l = le→leb n (2 ^ 53) (omega arith)
-in-float (negsuc n) l = le→leb (suc n) (2 ^ 53) (omega arith)
+use Rattle.idct.proofs.Rounds.{rounded-near}
+use Rattle.idct.proofs.Tables.{cos-const, c-const}
 
 -- rows: products below 2 ^ 16, sums below 2 ^ 19; columns: below 2 ^ 18 and 2 ^ 21
 row-products : 32768 * one + off 16 < below 16
@@ -56,7 +49,7 @@ column-sums = lt-of-le-of-lt (line one one-is) (mul-lt-mul-of-pos-right (lit< tt
     line : (o : ℕ) → o ≡ 2 ^ 60 * grain → 8 * (after 16 19 (32768 * o) + 2 * off 18 + off 21) ≤ (2 ^ 80 + 2 ^ 40) * grain
     line o e = omega arith
 
-error-is : after 18 21 (after 16 19 0) ≤ 1610612736 * grain
+error-is : after 18 21 (after 16 19 0) ≤ transformError
 error-is = omega arith
 
 size-is : after 18 21 (after 16 19 (32768 * one)) ≤ 1048576 * one
@@ -75,21 +68,20 @@ unscale p n a b K T S o e g h = le-of-mul-le-mul-right (line (subst (λ (z : ℕ
 slack : (2 ^ 59 + 2 ^ 34) * grain ≡ (2 ^ 221 + 2 ^ 196) * mesh
 slack = ap (λ (w : ℕ). (2 ^ 59 + 2 ^ 34) * w) grain-mesh ∙ sym (mul-assoc (2 ^ 59 + 2 ^ 34) (2 ^ 162) mesh)
 
--- |n * K - z| ≤ T from the two bounds
-pub distance : (n z : ℤ) (K T : ℕ) → up n * K + dn z ≤ dn n * K + up z + T → dn n * K + up z ≤ up n * K + dn z + T → natAbs (n *ℤ pos K -ℤ z) ≤ T
-distance n z K T a b =
-    let d = n *ℤ pos K -ℤ z in
-    let e = add-is (n *ℤ pos K) (negℤ z) in
-    let s = size-one d 0 0 T (omega (arith, times-up n K, times-dn n K, neg-up z, neg-dn z)) (omega (arith, times-up n K, times-dn n K, neg-up z, neg-dn z)) in
-    omega (arith, abs-is d)
+-- from two bounds to a distance: of n * K from z, and of v from z * S
+distance : (n z : ℤ) (K T : ℕ) → up n * K + dn z ≤ dn n * K + up z + T → dn n * K + up z ≤ up n * K + dn z + T → natAbs (n *ℤ pos K -ℤ z) ≤ T
+distance n z K T a b = omega (arith, halves (n *ℤ pos K -ℤ z), diff-is (n *ℤ pos K) z, times-up n K, times-dn n K)
+
+apart : (v z : ℤ) (S e : ℕ) → up v + dn z * S ≤ dn v + up z * S + e → dn v + up z * S ≤ up v + dn z * S + e → natAbs (v -ℤ z *ℤ pos S) ≤ e
+apart v z S e a b = omega (arith, halves (v -ℤ z *ℤ pos S), diff-is v (z *ℤ pos S), times-up z S, times-dn z S)
 
 module _ (l : List (List ℤ)) (modest : Modest l) (y x : ℕ) (ly : y < 8) (lx : x < 8) where
   -- the f64 transform is within 3 * 2 ^ -31 of the exact one
-  pub transform-near : Approx (computed l y x) mesh (exact l y x) (1610612736 * grain) (1048576 * one)
+  pub transform-near : Approx (computed l y x) mesh (exact l y x) transformError (1048576 * one)
   transform-near =
-      approx-weaken (computed l y x) mesh (exact l y x) (after 18 21 (after 16 19 0)) (after 18 21 (after 16 19 (32768 * one))) (1610612736 * grain) (1048576 * one) error-is size-is
+      approx-weaken (computed l y x) mesh (exact l y x) (after 18 21 (after 16 19 0)) (after 18 21 (after 16 19 (32768 * one))) transformError (1048576 * one) error-is size-is
       (approx-block 16 19 18 21 mesh (2 ^ 55) 0 (32768 * one) cF cosF (λ v u. ofInt binary64 (cell l v u)) cZ cosZ (cell l) (omega arith) (omega arith) (omega arith) (omega arith)
-      (λ v u i j. subst (λ (S : ℕ). Approx (ofInt binary64 (cell l v u)) S (cell l v u) 0 (32768 * one)) (sym one-factors) (approx-int (cell l v u) 32768 (in-float (cell l v u) (modest v u i j)) (modest v u i j)))
+      (λ v u i j. subst (λ (S : ℕ). Approx (ofInt binary64 (cell l v u)) S (cell l v u) 0 (32768 * one)) (sym one-factors) (approx-int (cell l v u) 32768 (modest v u i j) (lit≤ tt)))
       (λ u i. c-const u)
       (λ u w i j. cos-const u w)
       row-products
@@ -101,8 +93,12 @@ module _ (l : List (List ℤ)) (modest : Modest l) (y x : ℕ) (ly : y < 8) (lx 
       ly
       lx)
 
-  pub bounded : Bounded (computed l y x) (1048576 * one)
-  bounded = record { v = transform-near .v; is = transform-near .is; size = transform-near .size }
+  -- the same as one distance: the value of the f64, in units, from the exact transform
+  pub transform-error : (v : ℤ) → Is (computed l y x) v → natAbs (v -ℤ exact l y x *ℤ pos mesh) ≤ transformError
+  transform-error v i = subst (λ (w : ℤ). natAbs (w -ℤ exact l y x *ℤ pos mesh) ≤ transformError) (is-unique (computed l y x) (transform-near .v) v (transform-near .is) i) (apart (transform-near .v) (exact l y x) mesh transformError (transform-near .over) (transform-near .under))
+
+  pub bounded : Roundable (computed l y x)
+  bounded = record { v = transform-near .v; is = transform-near .is; size = le-trans (le-of-eq (abs-is (transform-near .v))) (transform-near .size) }
 
   -- what the rounded number is, from the rounding's own bound
   module _ (n : ℤ) (o : RoundOf (computed l y x) n) where

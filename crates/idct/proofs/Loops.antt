@@ -8,11 +8,11 @@ use native.Mathlib.Omega.{arith}
 use lib.Ieee.{Float, fin, nan, binary64, mul, add, ofBits}
 use lib.IntN.{pos}
 use lib.ListN.{getD}
+use Rattle.numbers.proofs.Fill.{build-eq, getD-build}
+use Rattle.numbers.specs.Grid.{build}
 use Rattle.f64_error.specs.Series.{half, seriesF}
 use Rattle.idct.specs.Cosines.{cF, cosF}
 use Rattle.idct.specs.Transform.{idct1d}
-use Rattle.numbers.proofs.Fill.{build-eq, getD-build}
-use Rattle.numbers.specs.Grid.{build}
 
 pub zero-bits : ofBits binary64 0 ≡ fin false 0 (pos 0)
 unfolding ofBits

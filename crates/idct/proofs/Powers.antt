@@ -9,8 +9,8 @@ use mir.Facts.{toZ-ofZ}
 use mir.Syntax.{w32}
 use mir.Val.{SFits, toZ, ofZ}
 use Rattle.numbers.proofs.Expressions.{Sx, loc, lit, _⊟_, fits, back, val-fits}
-use Rattle.idct.specs.Limits.{highest, lowest}
 use Rattle.numbers.proofs.Words.{one-shl}
+use Rattle.idct.specs.Limits.{highest, lowest}
 
 module _ (b : ℕ) (h : b < 31) where
   -- as the machine has 2 ^ b

@@ -5,7 +5,7 @@ use mathlib.Core.Path.{_≡_, refl, sym, ap, _∙_}
 use Prim.Native.Nat.{ℕ, zero, suc, _+_, _^_, _≤_, _<_}
 use native.Mathlib.Nat.{le-trans}
 use native.Mathlib.Omega.{arith}
-use lib.Dec.{T, leb}
+use lib.Dec.{T, leb, lit≤}
 use lib.Ieee.Bits.{is-true}
 use lib.IntN.{ℤ, pos, natAbs}
 use lib.ListN.{getD}
@@ -13,21 +13,29 @@ use lib.Pow.{pow-mono, pow-pos}
 use lib.Signed.{leZ, _≤ℤ_}
 use mir.Facts.{and-yes}
 use borrow.Author.Tests.{leb-true}
-use Rattle.idct.proofs.Scans.{is-T}
-use Rattle.idct.specs.Exact.{Modest}
-use Rattle.idct.specs.Limits.{highest, inBounds, lowest, numberDue, valuesFine, numberOf}
-use Rattle.idct.specs.declared.limits.IdctAnswer.{IdctAnswer}
-use Rattle.idct.specs.declared.limits.IdctAnswer.the-variants.{DepthOutOfRange, Transformed, ValueOutOfLimits}
 use Rattle.numbers.proofs.Every.{every, every-at}
 use Rattle.numbers.proofs.Integers.{diff-is, le-in, le-leZ, le-out, le-true, neg-dn, neg-up, zarith}
+use Rattle.numbers.proofs.Limits.{clamp-high, clamp-low}
 use Rattle.numbers.proofs.Magnitudes.{abs-within}
 use Rattle.numbers.specs.Grid.{block, build, cell}
+use Rattle.numbers.specs.Limit.{clampZ}
 use Rattle.ranges.specs.Range.{depthFine}
+use Rattle.idct.specs.Exact.{Modest, Near, exact}
+use Rattle.idct.specs.Limits.{highest, inBounds, lowest, numberDue, valuesFine, numberOf}
+use Rattle.idct.specs.Transform.{whole}
+use Rattle.idct.specs.declared.limits.IdctAnswer.{IdctAnswer}
+use Rattle.idct.specs.declared.limits.IdctAnswer.the-variants.{DepthOutOfRange, Transformed, ValueOutOfLimits}
+use Rattle.idct.specs.declared.rounding.HalfIntegerRounding.{HalfIntegerRounding}
+use Rattle.idct.proofs.Bounds.{whole-near}
+use Rattle.idct.proofs.Scans.{is-T}
 
 -- ---- one value
 
 pub inside : (b : ℕ) (z : ℤ) → lowest b ≤ℤ z → z ≤ℤ highest b → inBounds b z ≡ true
 inside b z p q = simp (le-leZ (lowest b) z p, le-leZ z (highest b) q)
+
+ends : (b : ℕ) → lowest b ≤ℤ highest b
+ends b = let h : 0 < 2 ^ b = pow-pos b in le-in (omega (arith, neg-up (pos (2 ^ b)), neg-dn (pos (2 ^ b)), diff-is (pos (2 ^ b)) (pos 1)))
 
 zero-inside : (b : ℕ) → T (inBounds b (pos 0))
 zero-inside b =
@@ -50,7 +58,7 @@ pub modest : (d : ℕ) (l : List (List ℤ)) → d < 13 → valuesFine d l ≡ t
 modest d l h e v u i j =
     let p = inBounds (d + 3) in
     let g : d + 3 ≤ 15 = omega arith in
-    le-trans (size (d + 3) (cell l v u) (every-at p (pos 0) (getD l v []) (zero-inside (d + 3)) (every-at (every p) [] l tt (is-T (valuesFine d l) e) v) u)) (pow-mono g)
+    le-trans (size (d + 3) (cell l v u) (every-at p (pos 0) (getD l v []) (zero-inside (d + 3)) (every-at (every p) [] l tt (is-T (valuesFine d l) e) v) u)) (le-trans (pow-mono g) (lit≤ tt))
 
 -- ---- the number that is due
 
@@ -81,3 +89,15 @@ pub values-taken : (d : ℕ) (f : ℕ → ℕ → ℤ) → ((v u : ℕ) → v < 
 values-taken d f h =
     every-build (every (inBounds (d + 3))) 8 (λ (v : ℕ). build 8 (f v))
     (λ (v : ℕ) (p : v < 8). every-build (inBounds (d + 3)) 8 (f v) (λ (u : ℕ) (q : u < 8). h v u p q))
+
+pub taken : (d : ℕ) (f : ℕ → ℕ → ℤ) → depthFine d ≡ true → ((v u : ℕ) → v < 8 → u < 8 → inBounds (d + 3) (f v u) ≡ true) → numberDue d (block f) ≡ 0
+taken d f e h = sym (due-0 d (block f) e (values-taken d f h))
+
+-- a limited value is within
+pub limited-inside : (b : ℕ) (z : ℤ) → inBounds b (clampZ z (lowest b) (highest b)) ≡ true
+limited-inside b z = inside b (clampZ z (lowest b) (highest b)) (clamp-low z (lowest b) (highest b) (ends b)) (clamp-high z (lowest b) (highest b) (ends b))
+
+-- ---- what is taken stays near the exact transform
+
+pub taken-near : (d : ℕ) (l : List (List ℤ)) → depthFine d ≡ true → valuesFine d l ≡ true → (m : HalfIntegerRounding) (y x : ℕ) → y < 8 → x < 8 → Near (whole m l y x) (exact l y x)
+taken-near d l e g m y x p q = whole-near l (modest d l (depth-least d e) g) y x p q m

@@ -1,24 +1,24 @@
--- What `round_to_integer` needs, on plain values. Assumes nothing.
+-- The whole number of an f64, by the tests that `round_to_integer` makes. Assumes nothing.
 use mathlib.Core.Bool.{Bool, true, false, cond}
 use mathlib.Core.Path.{_≡_, refl, sym, ap, _∙_, subst}
 use Prim.Native.Nat.{_+_, _*_, _^_, _≤_, _<_}
-use native.Mathlib.Nat.{le-trans, le-of-eq}
+use native.Mathlib.Nat.{le-of-eq, le-trans}
 use lib.Ieee.{Float, fin, binary64, lt, neg, sub, ofInt, ofBits}
 use lib.IntN.{ℤ, pos, natAbs, _+ℤ_}
 use lib.Signed.{mag}
 use mir.Facts.{toZ-ofZ}
 use mir.Syntax.{w32}
 use mir.Val.{SFits, toZ, ofZ}
+use Rattle.numbers.proofs.Integers.{up, dn, abs-is}
 use Rattle.f64_error.proofs.Binary64.{is-unique}
 use Rattle.f64_error.proofs.Halves.{floor-size, down-nearest, up-nearest, half-down, half-up, nearest-near}
 use Rattle.f64_error.proofs.Nearest.{floor-of}
-use Rattle.f64_error.specs.Units.{one, Bounded}
+use Rattle.f64_error.specs.Units.{one}
 use Rattle.f64_error.specs.Wholes.{FloorOf, RoundOf, floorZ, nearestZ, magF, gapOf, atHalf}
+use Rattle.idct.specs.Rounding.{tied, wholeOf, Roundable}
+use Rattle.idct.specs.declared.rounding.HalfIntegerRounding.{HalfIntegerRounding}
 use Rattle.idct.proofs.Loops.{zero-bits, half-bits}
 use Rattle.idct.proofs.TieRules.{back, add-fits, next-back, tied-either}
-use Rattle.idct.specs.Rounding.{tied, wholeOf}
-use Rattle.idct.specs.declared.rounding.HalfIntegerRounding.{HalfIntegerRounding}
-use Rattle.numbers.proofs.Integers.{up, dn, abs-is}
 
 pub mag-neg : (x : Float) → lt x (ofBits binary64 0) ≡ true → neg x ≡ magF x
 mag-neg x h = sym (ap (λ (b : Bool). cond b (neg x) x) (ap (λ (z : Float). lt x z) (sym zero-bits) ∙ h))
@@ -27,15 +27,15 @@ pub mag-pos : (x : Float) → lt x (ofBits binary64 0) ≡ false → x ≡ magF 
 mag-pos x h = sym (ap (λ (b : Bool). cond b (neg x) x) (ap (λ (z : Float). lt x z) (sym zero-bits) ∙ h))
 
 -- r is what `floor_of` gave
-module _ (x : Float) (h : Bounded x (1048576 * one)) (r : ℤ) (e : r ≡ floorZ x) where
+module _ (x : Float) (h : Roundable x) (r : ℤ) (e : r ≡ floorZ x) where
   f : FloorOf x r
   f = subst (λ (z : ℤ). FloorOf x z) (sym e) (floor-of x (h .v) (h .is))
 
   size : up (f .v) + dn (f .v) ≤ 1048576 * one
-  size = subst (λ (v : ℤ). up v + dn v ≤ 1048576 * one) (is-unique x (h .v) (f .v) (h .is) (f .is)) (h .size)
+  size = subst (λ (v : ℤ). up v + dn v ≤ 1048576 * one) (is-unique x (h .v) (f .v) (h .is) (f .is)) (le-trans (le-of-eq (sym (abs-is (h .v)))) (h .size))
 
   small : natAbs r ≤ 1048577
-  small = le-trans (le-of-eq (abs-is r)) (floor-size x r f size)
+  small = floor-size x r f size
 
   pub tie-small : natAbs (toZ w32 (ofZ w32 r)) ≤ 1048577
   tie-small = subst (λ (z : ℤ). natAbs z ≤ 1048577) (sym (back r small)) small

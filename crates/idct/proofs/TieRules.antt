@@ -7,13 +7,13 @@ use lib.IntN.{ℤ, pos, natAbs, _+ℤ_}
 use lib.Signed.{ltZ, quotZ, remZ}
 use mir.Syntax.{w32}
 use mir.Val.{SFits, toZ, ofZ}
+use Rattle.numbers.proofs.Expressions.{Sx, loc, lit, _⊞_, _⊘_, _⊖_, fits, val-fits}
+use Rattle.numbers.proofs.Expressions as X
+use Rattle.numbers.proofs.Magnitudes.{rem-abs}
+use Rattle.numbers.proofs.Words.{zero-abs, nonzero-abs}
 use Rattle.idct.specs.Rounding.{tied}
 use Rattle.idct.specs.declared.rounding.HalfIntegerRounding.{HalfIntegerRounding}
 use Rattle.idct.specs.declared.rounding.HalfIntegerRounding.the-variants.{AwayFromZero, ToEven}
-use Rattle.numbers.proofs.Expressions.{Sx, loc, lit, _⊞_, _⊘_, _⊖_, fits, val-fits}
-use Rattle.numbers.proofs.Magnitudes.{rem-abs}
-use Rattle.numbers.proofs.Words.{zero-abs, nonzero-abs}
-use Rattle.numbers.proofs.Expressions as X
 
 nonzero : (r : ℕ) → (r ≡ 0 → ⊥) → eqb r 0 ≡ false
 nonzero zero h = absurd (h refl)

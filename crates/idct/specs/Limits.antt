@@ -3,12 +3,12 @@ use mathlib.Core.Bool.{Bool, cond}
 use mathlib.Core.List.{List}
 use Prim.Native.Nat.{ℕ, _+_, _^_, min}
 use lib.IntN.{ℤ, pos, negℤ, _-ℤ_}
+use Rattle.numbers.proofs.Every.{every}
+use Rattle.numbers.specs.Limit.{clampZ}
+use Rattle.ranges.specs.Range.{within, depthFine}
 use Rattle.idct.specs.declared.limits.IdctAnswer.{IdctAnswer}
 use Rattle.idct.specs.declared.limits.IdctAnswer.the-variants.{Transformed, DepthOutOfRange, ValueOutOfLimits}
 use Rattle.idct.specs.declared.limits.SaturationBounds.{SaturationBounds}
-use Rattle.numbers.specs.Limit.{clampZ}
-use Rattle.numbers.proofs.Every.{every}
-use Rattle.ranges.specs.Range.{within, depthFine}
 
 -- -2 ^ b and 2 ^ b - 1
 abbrev pub lowest : ℕ → ℤ

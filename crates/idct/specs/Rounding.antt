@@ -1,13 +1,18 @@
 -- How an f64 becomes a whole number: nearest, and by the chosen rule where it counts as half-way. Definitions only.
 use mathlib.Core.Bool.{cond}
-use Prim.Native.Nat.{_%_}
+use Prim.Native.Nat.{_*_, _%_}
 use lib.Dec.{eqb}
 use lib.Ieee.{Float}
 use lib.IntN.{ℤ, pos, natAbs, _+ℤ_}
 use lib.Signed.{ltZ}
+use Rattle.f64_error.specs.Units.{one, Bounded}
 use Rattle.f64_error.specs.Wholes.{floorZ, nearestZ, atHalf}
 use Rattle.idct.specs.declared.rounding.HalfIntegerRounding.{HalfIntegerRounding}
 use Rattle.idct.specs.declared.rounding.HalfIntegerRounding.the-variants.{AwayFromZero, ToEven}
+
+-- x is finite, and at most 2 ^ 20 in size
+abbrev pub Roundable : Float → Type 0
+Roundable x = Bounded x (1048576 * one)
 
 -- of b and b + 1, the one farther from zero, or the even one
 abbrev pub tied : HalfIntegerRounding → ℤ → ℤ

@@ -6,13 +6,13 @@ use lib.Dec.{eqb}
 use lib.Ieee.{Float, nan, binary64, ofInt}
 use lib.IntN.{ℤ, pos, natAbs}
 use lib.ListN.{getD}
+use Rattle.numbers.proofs.Fill.{rows}
+use Rattle.numbers.specs.Grid.{build, block, cell}
 use Rattle.f64_error.specs.Series.{pass, blockF}
 use Rattle.idct.specs.Cosines.{cF, cosF}
 use Rattle.idct.specs.Limits.{saturated}
 use Rattle.idct.specs.Rounding.{wholeOf}
 use Rattle.idct.specs.declared.rounding.HalfIntegerRounding.{HalfIntegerRounding}
-use Rattle.numbers.proofs.Fill.{rows}
-use Rattle.numbers.specs.Grid.{build, block, cell}
 
 abbrev pub cellF : List (List Float) → ℕ → ℕ → Float
 cellF b v u = getD (getD b v []) u nan

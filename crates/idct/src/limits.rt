@@ -24,11 +24,13 @@ impl IdctAnswer {
     }
 }
 
+// The least and the greatest number.
 pub struct SaturationBounds {
     pub lo: i32,
     pub hi: i32,
 }
 
+// -2^bits ..= 2^bits - 1
 fn bounds_of(bits: u32) -> SaturationBounds
     requires { ⌜ bits < 31 ⌝ }
     ensures { λ r. ⌜ r ≡ boundsOf bits ⌝ }
@@ -40,7 +42,8 @@ fn bounds_of(bits: u32) -> SaturationBounds
     }
 }
 
-// -2^bits_per_pixel ..= 2^bits_per_pixel - 1 (7.4.5), where that is an i32; from 30 bits on as at 30.
+// -2^bits_per_pixel ..= 2^bits_per_pixel - 1 (7.4.5). From 30 bits on they are those of 30, the widest
+// that an i32 has.
 pub fn idct_saturation_bounds(bits_per_pixel: u32) -> SaturationBounds
     ensures { λ r. ⌜ r ≡ boundsOf (min «bits_per_pixel» 30) ⌝ }
 {
@@ -68,12 +71,13 @@ fn value_within(value: i32, bits: u32) -> bool
     ranges::inside(value, bounds.lo, bounds.hi)
 }
 
+// The same of each value of a row.
 fn row_within(row: [i32; 8], bits: u32) -> bool
     requires { ⌜ bits < 31 ⌝ }
     ensures { λ r. ⌜ r ≡ every (inBounds bits) row ⌝ }
 {
     for u in 0..8 {
-        if value_within(row[u], bits) {} else {
+        if !value_within(row[u], bits) {
             return false;
         }
     }
@@ -89,7 +93,7 @@ pub(crate) fn values_fine(coefficients: [[i32; 8]; 8], bits_per_pixel: u32) -> b
     let bits = bits_per_pixel + 3;
     for v in 0..8 {
         let row = coefficients[v];
-        if row_within(row, bits) {} else {
+        if !row_within(row, bits) {
             return false;
         }
     }

@@ -1,10 +1,9 @@
 // How an f64 becomes a whole number.
 ghost use mathlib.Core.Path.{_≡_};
-ghost use Prim.Native.Nat.{_*_, _≤_};
+ghost use Prim.Native.Nat.{_≤_};
 ghost use lib.IntN.{natAbs};
-ghost use Rattle.f64_error.specs.Units.{one, Bounded};
 ghost use Rattle.f64_error.specs.Wholes.{floorZ, magF};
-ghost use Rattle.idct.specs.Rounding.{tied, wholeOf};
+ghost use Rattle.idct.specs.Rounding.{Roundable, tied, wholeOf};
 
 // How a value half-way between two whole numbers is rounded.
 pub enum HalfIntegerRounding {
@@ -21,7 +20,7 @@ const HALF_INTEGER_TOLERANCE: f64 = 1e-8;
 
 // The whole number at or below x.
 fn floor_of(x: f64) -> i32
-    requires { ⌜ Bounded x (1048576 * one) ⌝ }
+    requires { ⌜ Roundable x ⌝ }
     ensures { λ r. ⌜ r ≡ floorZ x ⌝ }
 {
     let t = std::num::truncating_f64_to_i64(x) as i32;
@@ -48,7 +47,7 @@ fn tie(below: i32, rounding: HalfIntegerRounding) -> i32
 
 // The whole number nearest to `value`. One that is half-way, within the tolerance, goes by `rounding`.
 pub(crate) fn round_to_integer(value: f64, rounding: HalfIntegerRounding) -> i32
-    requires { ⌜ Bounded value (1048576 * one) ⌝ }
+    requires { ⌜ Roundable value ⌝ }
     ensures { λ r. ⌜ r ≡ wholeOf rounding value ⌝ }
 {
     let below = floor_of(value);

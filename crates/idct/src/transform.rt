@@ -1,14 +1,13 @@
 // The transform of Annex A.1: rows first, then columns, each operation rounded once.
 ghost use mathlib.Core.Path.{_≡_};
-ghost use Prim.Native.Nat.{ℕ, _*_, _<_};
+ghost use Prim.Native.Nat.{ℕ, _<_};
 ghost use lib.Ieee.{nan, binary64, mul};
 ghost use lib.ListN.{getD};
 ghost use Rattle.numbers.specs.Grid.{build, block};
 ghost use Rattle.numbers.proofs.Every.{every};
 ghost use Rattle.f64_error.specs.Series.{half};
-ghost use Rattle.f64_error.specs.Units.{one, Bounded};
 ghost use Rattle.idct.specs.Cosines.{cosF};
-ghost use Rattle.idct.specs.Rounding.{wholeOf};
+ghost use Rattle.idct.specs.Rounding.{Roundable, wholeOf};
 ghost use Rattle.idct.specs.Limits.{saturated};
 ghost use Rattle.idct.specs.Transform.{cellF, idct1d, rowIn, columnIn, rowPass, columnPass, idct8x8, isZero};
 ghost use Rattle.idct.specs.Exact.{Modest};
@@ -29,7 +28,8 @@ fn halves(sums: [f64; 8]) -> [f64; 8]
     output
 }
 
-// The 1-D transform: at x, half the sum over u of C(u) F(u) cos((2x + 1) u pi / 16), where C(u) F(u) serves every x.
+// The 1-D transform: at x, half the sum over u of C(u) F(u) cos((2x + 1) u pi / 16). The terms are added
+// from u = 0 up, at every x in one go, since C(u) F(u) serves every x.
 fn idct_1d(input: [f64; 8], cos: &[[f64; 8]; 8]) -> [f64; 8]
     requires { ⌜ now cos ≡ block cosF ⌝ }
     ensures { λ r. ⌜ r ≡ idct1d input ⌝ }
@@ -55,6 +55,7 @@ fn row_in(row: [i32; 8]) -> [f64; 8]
     input
 }
 
+// Whether a row has zeros only.
 fn all_zero(row: [i32; 8]) -> bool
     ensures { λ r. ⌜ r ≡ every isZero row ⌝ }
 {
@@ -122,7 +123,7 @@ fn to_samples(
     bits_per_pixel: u32,
     rounding: HalfIntegerRounding,
 ) -> [[i32; 8]; 8]
-    requires { ⌜ ((x y : ℕ) → x < 8 → y < 8 → Bounded (cellF columns x y) (1048576 * one)) ⌝ }
+    requires { ⌜ ((x y : ℕ) → x < 8 → y < 8 → Roundable (cellF columns x y)) ⌝ }
     ensures { λ r. ⌜ r ≡ block (λ (y x : ℕ). saturated «bits_per_pixel» (wholeOf rounding (cellF columns x y))) ⌝ }
 {
     let mut out = [[0i32; 8]; 8];

@@ -6,6 +6,7 @@ use Prim.Native.Nat.{ℕ, _+_, _*_, _^_, _≤_, _<_}
 use native.Mathlib.Nat.{mul-assoc, mul-le-mul-right}
 use native.Mathlib.Omega.{arith}
 use lib.IntN.{ℤ, pos, negℤ, natAbs, _-ℤ_, _*ℤ_}
+use Rattle.numbers.proofs.Integers.{up, dn, neg-up, neg-dn, abs-is, add-is}
 use Rattle.f64_error.proofs.Binary64.{one-mesh, grain-mesh}
 use Rattle.f64_error.proofs.FromIntegers.{times-up, times-dn}
 use Rattle.f64_error.proofs.Halves.{tie-at}
@@ -17,7 +18,6 @@ use Rattle.idct.specs.Rounding.{tied}
 use Rattle.idct.specs.Transform.{computed, whole}
 use Rattle.idct.specs.declared.rounding.HalfIntegerRounding.{HalfIntegerRounding}
 use Rattle.idct_laws.specs.Ties.{HalfWay}
-use Rattle.numbers.proofs.Integers.{up, dn, neg-up, neg-dn, abs-is, add-is}
 
 -- |z - k * K - H| ≤ T as two bounds
 apart : (z k : ℤ) (K H T : ℕ) → natAbs (z -ℤ k *ℤ pos K -ℤ pos H) ≤ T → (up z + dn k * K ≤ dn z + up k * K + H + T) × (dn z + up k * K + H ≤ up z + dn k * K + T)

@@ -5,15 +5,15 @@ use Prim.Native.Nat.{ℕ, _+_, _*_, _^_, _≤_, _<_}
 use native.Mathlib.Nat.{le-of-eq, lt-of-le-of-lt, lt-of-mul-lt-mul-right}
 use native.Mathlib.Omega.{arith}
 use lib.IntN.{ℤ, pos, natAbs, _-ℤ_, _*ℤ_}
+use Rattle.numbers.proofs.Integers.{eq-in, diff-is}
+use Rattle.numbers.proofs.Integers as Z
+use Rattle.numbers.proofs.Magnitudes.{abs-mul}
 use Rattle.idct.proofs.Bounds.{whole-within}
 use Rattle.idct.specs.Exact.{exact, Modest}
 use Rattle.idct.specs.Transform.{whole}
 use Rattle.idct.specs.declared.rounding.HalfIntegerRounding.{HalfIntegerRounding}
-use Rattle.idct_laws.proofs.Distances.{triangle, abs-swap, sub-right}
 use Rattle.idct_laws.specs.Ties.{Settled}
-use Rattle.numbers.proofs.Integers.{eq-in, diff-is}
-use Rattle.numbers.proofs.Magnitudes.{abs-mul}
-use Rattle.numbers.proofs.Integers as Z
+use Rattle.idct_laws.proofs.Distances.{triangle, abs-swap, sub-right}
 
 same : (n k : ℤ) → natAbs (n -ℤ k) < 1 → n ≡ k
 same n k h = eq-in (omega (arith, Z.halves (n -ℤ k), diff-is n k))

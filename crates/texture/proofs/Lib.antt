@@ -10,3 +10,4 @@ pub mod RvlcLaws
 pub mod ListLaws
 pub mod LoopLaws
 pub mod DcLaws
+pub mod Sentences

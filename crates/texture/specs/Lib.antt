@@ -8,3 +8,4 @@ pub mod Events
 pub mod Places
 pub mod Compose
 pub mod Answer
+pub mod Sentences

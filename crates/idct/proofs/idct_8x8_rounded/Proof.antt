@@ -1,16 +1,16 @@
 -- `idct::idct_8x8_rounded` meets its contract: each test decides a number. Assumes nothing.
-use borrow.Author.Needs.{needs}
-use Rattle.idct.proofs.idct_8x8_rounded.Statement.{statement}
-use Rattle.idct.proofs.idct_8x8_rounded.Tie as tie
 use mathlib.Core.Bool.{true}
 use mathlib.Core.Path.{_≡_, refl, sym, _∙_}
 use Prim.Native.Nat.{_<_}
 use native.Mathlib.Omega.{arith}
+use borrow.Author.Needs.{needs}
 use Rattle.ranges.specs.Range.{depthFine}
 use Rattle.idct.specs.Exact.{Modest}
 use Rattle.idct.specs.Limits.{valuesFine}
 use Rattle.idct.proofs.Bounds.{whole-near}
 use Rattle.idct.proofs.Refusals.{depth-least, modest, due-0, due-12, due-13}
+use Rattle.idct.proofs.idct_8x8_rounded.Statement.{statement}
+use Rattle.idct.proofs.idct_8x8_rounded.Tie as tie
 
 -- what the tests told
 depth-told : (c : tie.Then1) → depthFine (c .before .before .args .bits-per-pixel) ≡ true

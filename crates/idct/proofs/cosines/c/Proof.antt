@@ -1,4 +1,4 @@
--- `idct::c` meets its contract. Assumes nothing.
+-- `idct::cosines::c` meets its contract. Assumes nothing.
 use Rattle.idct.proofs.Turns.{c-zero, c-other}
 use Rattle.idct.proofs.cosines.c.Statement.{statement}
 use Rattle.idct.proofs.cosines.c.Tie as tie

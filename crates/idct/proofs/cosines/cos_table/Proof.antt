@@ -1,13 +1,13 @@
 -- `idct::cosines::cos_table` meets its contract, row by row. Assumes nothing.
-use Rattle.idct.proofs.cosines.cos_table.Statement.{statement}
-use Rattle.idct.proofs.cosines.cos_table.Tie as tie
 use mathlib.Core.Path.{_≡_, refl}
 use Prim.Native.Nat.{ℕ, _-_, _≤_, _<_}
 use native.Mathlib.Omega.{arith}
 use lib.Ieee.{Float, nan, binary64, ofBits}
-use Rattle.numbers.specs.Grid.{build}
 use Rattle.numbers.proofs.Fill.{rows, filled, rows-none, rows-all, row-begins, row-ends, fill-more}
+use Rattle.numbers.specs.Grid.{build}
 use Rattle.idct.specs.Cosines.{cosF}
+use Rattle.idct.proofs.cosines.cos_table.Statement.{statement}
+use Rattle.idct.proofs.cosines.cos_table.Tie as tie
 
 abbrev z : ℕ → ℕ → Float
 z u x = ofBits binary64 0

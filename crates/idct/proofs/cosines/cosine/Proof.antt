@@ -1,9 +1,9 @@
--- `idct::cosine` meets its contract. Assumes nothing.
+-- `idct::cosines::cosine` meets its contract, a quarter of the turn at a time. Assumes nothing.
 use borrow.Author.Needs.{needs}
+use Rattle.idct.specs.Cosines.{turn}
 use Rattle.idct.proofs.Floors.{fits}
 use Rattle.idct.proofs.Turns.{turn-1, turn-2, turn-3, turn-4, turn-fits}
 use Rattle.idct.proofs.cosines.cosine.Statement.{statement}
-use Rattle.idct.specs.Cosines.{turn}
 use Rattle.idct.proofs.cosines.cosine.Tie as tie
 
 mul-m : tie.Need-mul-m

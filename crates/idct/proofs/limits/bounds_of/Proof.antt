@@ -1,8 +1,8 @@
 -- `idct::limits::bounds_of` meets its contract. Assumes nothing.
 use borrow.Author.Needs.{needs}
+use Rattle.idct.proofs.Powers.{cast-fits, low-fits, high-fits, low-is, high-is}
 use Rattle.idct.proofs.limits.bounds_of.Statement.{statement}
 use Rattle.idct.proofs.limits.bounds_of.Tie as tie
-use Rattle.idct.proofs.Powers.{cast-fits, low-fits, high-fits, low-is, high-is}
 
 shl-mag : tie.Need-shl-mag
 shl-mag c = search needs

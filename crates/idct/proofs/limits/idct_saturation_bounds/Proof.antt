@@ -1,11 +1,11 @@
 -- `idct::limits::idct_saturation_bounds` meets its contract. Assumes nothing.
-use borrow.Author.Needs.{needs}
-use Rattle.idct.proofs.limits.idct_saturation_bounds.Statement.{statement}
-use Rattle.idct.proofs.limits.idct_saturation_bounds.Tie as tie
 use mathlib.Core.Path.{_≡_, ap, _∙_}
 use Prim.Native.Nat.{min}
 use native.Mathlib.Omega.{arith}
+use borrow.Author.Needs.{needs}
 use Rattle.idct.specs.Limits.{boundsOf}
+use Rattle.idct.proofs.limits.idct_saturation_bounds.Statement.{statement}
+use Rattle.idct.proofs.limits.idct_saturation_bounds.Tie as tie
 
 bounds-of-requires : tie.Need-bounds-of-requires
 bounds-of-requires c κs = search needs

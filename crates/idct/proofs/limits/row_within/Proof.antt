@@ -1,15 +1,16 @@
 -- `idct::limits::row_within` meets its contract, one test a turn. Assumes nothing.
-use Rattle.idct.proofs.limits.row_within.Statement.{statement}
-use Rattle.idct.proofs.limits.row_within.Tie as tie
 use mathlib.Core.Path.{_≡_, refl, sym, ap, _∙_}
 use Prim.Native.Nat.{_-_, _≤_}
 use native.Mathlib.Omega.{arith}
 use lib.IntN.{pos}
 use lib.ListN.{drop}
-use Rattle.numbers.proofs.Every.{every}
-use Rattle.idct.proofs.Scans.{goes-on, stops, ends}
-use Rattle.idct.specs.Limits.{inBounds}
 use borrow.Author.Needs.{needs}
+use borrow.Author.Tests.{not-true, not-false}
+use Rattle.numbers.proofs.Every.{every}
+use Rattle.idct.specs.Limits.{inBounds}
+use Rattle.idct.proofs.Scans.{goes-on, stops, ends}
+use Rattle.idct.proofs.limits.row_within.Statement.{statement}
+use Rattle.idct.proofs.limits.row_within.Tie as tie
 
 abbrev Inv-loop : tie.InvT-loop
 Inv-loop bits row u₀ u = (u ≤ 8) × (every (inBounds bits) row ≡ every (inBounds bits) (drop u row))
@@ -34,7 +35,7 @@ returns c =
     let l = c .before .before .before .before .loop in
     let a = c .before .before .before .before .before .args in
     let k = c .before .before .value-within-arg .given in
-    stops (inBounds (a .bits)) (pos 0) (a .t1) (l .u) (omega arith) (l .inv .1) (sym (ap (inBounds (a .bits)) (search needs)) ∙ sym (c .before .value-within .ensures) ∙ c .if1 .left)
+    stops (inBounds (a .bits)) (pos 0) (a .t1) (l .u) (omega arith) (l .inv .1) (sym (ap (inBounds (a .bits)) (search needs)) ∙ sym (c .before .value-within .ensures) ∙ not-true _ (c .if1 .taken))
 
 add-u : tie.Need-add-u Inv-loop μ-loop
 add-u c = omega arith
@@ -47,7 +48,7 @@ loop-again c =
     let l = c .before .before .before .before .loop in
     let a = c .before .before .before .before .before .args in
     let k = c .before .before .value-within-arg .given in
-    (omega arith, goes-on (inBounds (a .bits)) (pos 0) (a .t1) (l .u) (omega arith) (l .inv .1) (sym (ap (inBounds (a .bits)) (search needs)) ∙ sym (c .before .value-within .ensures) ∙ c .if1 .taken))
+    (omega arith, goes-on (inBounds (a .bits)) (pos 0) (a .t1) (l .u) (omega arith) (l .inv .1) (sym (ap (inBounds (a .bits)) (search needs)) ∙ sym (c .before .value-within .ensures) ∙ not-false _ (c .if1 .left)))
 
 returns-2 : tie.Need-returns-2 Inv-loop μ-loop
 returns-2 c = ends (inBounds (c .before .before .args .bits)) (pos 0) _ (c .before .loop .u) (omega arith) (c .before .loop .inv .1)

@@ -1,17 +1,17 @@
 -- `idct::limits::saturate_idct_sample` meets its contract. Assumes nothing.
-use borrow.Author.Needs.{needs}
-use Rattle.idct.proofs.limits.saturate_idct_sample.Statement.{statement}
-use Rattle.idct.proofs.limits.saturate_idct_sample.Tie as tie
-use Rattle.idct.specs.declared.limits.SaturationBounds.{SaturationBounds}
-use Rattle.idct.specs.Limits.{saturated}
-use mathlib.Core.Path.{_≡_, ap, _∙_}
+use mathlib.Core.Path.{ap, _∙_}
 use Prim.Native.Nat.{min, _<_}
 use native.Mathlib.Omega.{arith}
 use mir.Facts.{toZ-ofZ}
 use mir.Syntax.{w32}
 use mir.Val.{toZ, ofZ}
+use borrow.Author.Needs.{needs}
 use Rattle.numbers.specs.Limit.{clampZ}
+use Rattle.idct.specs.Limits.{saturated}
+use Rattle.idct.specs.declared.limits.SaturationBounds.{SaturationBounds}
 use Rattle.idct.proofs.Powers.{low-back, high-back}
+use Rattle.idct.proofs.limits.saturate_idct_sample.Statement.{statement}
+use Rattle.idct.proofs.limits.saturate_idct_sample.Tie as tie
 
 idct-saturation-bounds-requires : tie.Need-idct-saturation-bounds-requires
 idct-saturation-bounds-requires c κs = search needs

@@ -1,14 +1,14 @@
 -- `idct::limits::value_within` meets its contract. Assumes nothing.
-use borrow.Author.Needs.{needs}
-use Rattle.idct.proofs.limits.value_within.Statement.{statement}
-use Rattle.idct.proofs.limits.value_within.Tie as tie
-use Rattle.idct.specs.declared.limits.SaturationBounds.{SaturationBounds}
 use mathlib.Core.Path.{ap, _∙_}
 use mir.Facts.{toZ-ofZ}
 use mir.Syntax.{w32}
 use mir.Val.{toZ, ofZ}
+use borrow.Author.Needs.{needs}
 use Rattle.ranges.specs.Range.{within}
+use Rattle.idct.specs.declared.limits.SaturationBounds.{SaturationBounds}
 use Rattle.idct.proofs.Powers.{low-back, high-back}
+use Rattle.idct.proofs.limits.value_within.Statement.{statement}
+use Rattle.idct.proofs.limits.value_within.Tie as tie
 
 bounds-of-requires : tie.Need-bounds-of-requires
 bounds-of-requires c κs = search needs

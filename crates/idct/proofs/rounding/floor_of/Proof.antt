@@ -1,4 +1,4 @@
--- `idct::floor_of` meets its contract. Assumes nothing.
+-- `idct::rounding::floor_of` meets its contract: the cast drops the fraction, and a negative one costs 1 more. Assumes nothing.
 use mathlib.Core.Bool.{true, false}
 use mathlib.Core.Path.{_≡_, sym, ap, _∙_, subst}
 use lib.Ieee.{binary64, lt, ofInt}

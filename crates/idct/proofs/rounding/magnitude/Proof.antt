@@ -1,4 +1,4 @@
--- `idct::magnitude` meets its contract. Assumes nothing.
+-- `idct::rounding::magnitude` meets its contract. Assumes nothing.
 use Rattle.idct.proofs.Rounds.{mag-neg, mag-pos}
 use Rattle.idct.proofs.rounding.magnitude.Statement.{statement}
 use Rattle.idct.proofs.rounding.magnitude.Tie as tie

@@ -1,4 +1,4 @@
--- `idct::round_to_integer` meets its contract. Assumes nothing.
+-- `idct::rounding::round_to_integer` meets its contract: each test picks the definition's case. Assumes nothing.
 use borrow.Author.Needs.{needs}
 use Rattle.idct.proofs.Rounds.{tie-small, next-fits, at-tie, plain-up, plain-down}
 use Rattle.idct.proofs.rounding.round_to_integer.Statement.{statement}
@@ -14,19 +14,37 @@ magnitude-requires : tie.Need-magnitude-requires
 magnitude-requires c κs = search needs
 
 tie-requires : tie.Need-tie-requires
-tie-requires c κs = tie-small (c .before .before .before .before .args .value) (c .before .before .before .before .pre) (c .before .before .before .floor-of .result) (c .before .before .before .floor-of .ensures)
+tie-requires c κs =
+    let s = c .before .before .before .before in
+    let b = c .before .before .before .floor-of in
+    tie-small (s .args .value) (s .pre) (b .result) (b .ensures)
 
 add-result : tie.Need-add-result
-add-result c = next-fits (c .before .before .before .before .before .args .value) (c .before .before .before .before .before .pre) (c .before .before .before .before .floor-of .result) (c .before .before .before .before .floor-of .ensures)
+add-result c =
+    let s = c .before .before .before .before .before in
+    let b = c .before .before .before .before .floor-of in
+    next-fits (s .args .value) (s .pre) (b .result) (b .ensures)
 
 returns : tie.Need-returns
-returns c = at-tie (c .before .before .before .before .before .args .value) (c .before .before .before .before .before .pre) (c .before .before .before .before .floor-of .result) (c .before .before .before .before .floor-of .ensures) (c .before .before .before .before .before .args .rounding) (c .before .before .magnitude .result) (c .before .before .magnitude .ensures) (c .before .if1 .taken) (c .tie .result) (c .tie .ok) (c .tie .ensures)
+returns c =
+    let s = c .before .before .before .before .before in
+    let b = c .before .before .before .before .floor-of in
+    let g = c .before .before .magnitude in
+    at-tie (s .args .value) (s .pre) (b .result) (b .ensures) (s .args .rounding) (g .result) (g .ensures) (c .before .if1 .taken) (c .tie .result) (c .tie .ok) (c .tie .ensures)
 
 returns-2 : tie.Need-returns-2
-returns-2 c = plain-down (c .before .before .before .before .before .args .value) (c .before .before .before .before .before .pre) (c .before .before .before .before .floor-of .result) (c .before .before .before .before .floor-of .ensures) (c .before .before .before .before .before .args .rounding) (c .before .before .magnitude .result) (c .before .before .magnitude .ensures) (c .before .if1 .left) (c .if2 .taken)
+returns-2 c =
+    let s = c .before .before .before .before .before in
+    let b = c .before .before .before .before .floor-of in
+    let g = c .before .before .magnitude in
+    plain-down (s .args .value) (s .pre) (b .result) (b .ensures) (s .args .rounding) (g .result) (g .ensures) (c .before .if1 .left) (c .if2 .taken)
 
 returns-3 : tie.Need-returns-3
-returns-3 c = plain-up (c .before .before .before .before .before .args .value) (c .before .before .before .before .before .pre) (c .before .before .before .before .floor-of .result) (c .before .before .before .before .floor-of .ensures) (c .before .before .before .before .before .args .rounding) (c .before .before .magnitude .result) (c .before .before .magnitude .ensures) (c .before .if1 .left) (c .if2 .left)
+returns-3 c =
+    let s = c .before .before .before .before .before in
+    let b = c .before .before .before .before .floor-of in
+    let g = c .before .before .magnitude in
+    plain-up (s .args .value) (s .pre) (b .result) (b .ensures) (s .args .rounding) (g .result) (g .ensures) (c .before .if1 .left) (c .if2 .left)
 
 pub round-to-integer-spec : {M : Type 1} → statement M
 round-to-integer-spec =

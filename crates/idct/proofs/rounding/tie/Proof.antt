@@ -1,4 +1,4 @@
--- `idct::tie` meets its contract. Assumes nothing.
+-- `idct::rounding::tie` meets its contract, rule by rule. Assumes nothing.
 use borrow.Author.Needs.{needs}
 use Rattle.idct.proofs.TieRules.{add-fits, rem-fits, away-down, away-up, even-down, even-up}
 use Rattle.idct.proofs.rounding.tie.Statement.{statement}
@@ -20,16 +20,16 @@ add-result-2 : tie.Need-add-result-2
 add-result-2 c = add-fits (c .before .before .before .args .below) (c .before .before .before .pre)
 
 returns : tie.Need-returns
-returns c = away-down (c .before .before .before .args .below) (c .before .before .before .pre) (c .before .before .before .args .rounding) (c .before .enum-told .given .1) (c .if1 .taken)
+returns c = let s = c .before .before .before in away-down (s .args .below) (s .pre) (s .args .rounding) (c .before .enum-told .given .1) (c .if1 .taken)
 
 returns-2 : tie.Need-returns-2
-returns-2 c = away-up (c .before .before .before .args .below) (c .before .before .before .pre) (c .before .before .before .args .rounding) (c .before .enum-told .given .1) (c .if1 .left)
+returns-2 c = let s = c .before .before .before in away-up (s .args .below) (s .pre) (s .args .rounding) (c .before .enum-told .given .1) (c .if1 .left)
 
 returns-3 : tie.Need-returns-3
-returns-3 c = even-down (c .before .before .before .args .below) (c .before .before .before .pre) (c .before .before .before .args .rounding) (c .before .enum-told2 .given .1) (c .if2 .taken)
+returns-3 c = let s = c .before .before .before in even-down (s .args .below) (s .pre) (s .args .rounding) (c .before .enum-told2 .given .1) (c .if2 .taken)
 
 returns-4 : tie.Need-returns-4
-returns-4 c = even-up (c .before .before .before .args .below) (c .before .before .before .pre) (c .before .before .before .args .rounding) (c .before .enum-told2 .given .1) (c .if2 .left)
+returns-4 c = let s = c .before .before .before in even-up (s .args .below) (s .pre) (s .args .rounding) (c .before .enum-told2 .given .1) (c .if2 .left)
 
 pub tie-spec : {M : Type 1} → statement M
 tie-spec =

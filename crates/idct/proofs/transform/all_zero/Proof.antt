@@ -1,18 +1,18 @@
 -- `idct::transform::all_zero` meets its contract, one test a turn. Assumes nothing.
-use Rattle.idct.proofs.transform.all_zero.Statement.{statement}
-use Rattle.idct.proofs.transform.all_zero.Tie as tie
 use mathlib.Core.Path.{_≡_, refl}
 use Prim.Native.Nat.{_-_, _≤_}
 use native.Mathlib.Omega.{arith}
 use lib.IntN.{pos, natAbs}
 use lib.ListN.{drop, getD}
-use Rattle.numbers.proofs.Every.{every}
-use Rattle.idct.proofs.Scans.{goes-on, stops, ends}
 use mir.Syntax.{w32}
 use borrow.Author.Needs.{needs}
 use borrow.Author.Tests.{eq-eqb, ne-eqb}
+use Rattle.numbers.proofs.Every.{every}
 use Rattle.numbers.proofs.Words.{zero-abs, nonzero-abs}
 use Rattle.idct.specs.Transform.{isZero}
+use Rattle.idct.proofs.Scans.{goes-on, stops, ends}
+use Rattle.idct.proofs.transform.all_zero.Statement.{statement}
+use Rattle.idct.proofs.transform.all_zero.Tie as tie
 
 abbrev Inv-loop : tie.InvT-loop
 Inv-loop row u₀ u = (u ≤ 8) × (every isZero row ≡ every isZero (drop u row))

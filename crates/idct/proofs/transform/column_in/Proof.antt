@@ -1,13 +1,13 @@
 -- `idct::transform::column_in` meets its contract, one store a turn. Assumes nothing.
-use Rattle.idct.proofs.transform.column_in.Statement.{statement}
-use Rattle.idct.proofs.transform.column_in.Tie as tie
 use mathlib.Core.Path.{_≡_, refl}
 use Prim.Native.Nat.{ℕ, _-_, _≤_}
 use native.Mathlib.Omega.{arith}
 use lib.Ieee.{Float, nan, binary64, ofBits}
-use Rattle.numbers.specs.Grid.{build}
 use Rattle.numbers.proofs.Fill.{part, cells-none, cells-more, cells-all}
+use Rattle.numbers.specs.Grid.{build}
 use Rattle.idct.specs.Transform.{cellF}
+use Rattle.idct.proofs.transform.column_in.Statement.{statement}
+use Rattle.idct.proofs.transform.column_in.Tie as tie
 
 abbrev z : ℕ → Float
 z k = ofBits binary64 0

@@ -1,17 +1,17 @@
 -- `idct::transform::column_pass` meets its contract, one column a turn. Assumes nothing.
-use Rattle.idct.proofs.transform.column_pass.Statement.{statement}
-use Rattle.idct.proofs.transform.column_pass.Tie as tie
 use mathlib.Core.List.{List, []}
 use mathlib.Core.Path.{_≡_, refl, ap, _∙_}
 use Prim.Native.Nat.{ℕ, _-_, _≤_}
 use native.Mathlib.Omega.{arith}
 use lib.Ieee.{Float, binary64, ofBits}
-use Rattle.numbers.specs.Grid.{build}
 use Rattle.numbers.proofs.Fill.{part, cells-none, cells-more, cells-all}
+use Rattle.numbers.specs.Grid.{build}
 use Rattle.f64_error.specs.Series.{pass}
 use Rattle.idct.specs.Cosines.{cF, cosF}
 use Rattle.idct.specs.Transform.{idct1d, cellF}
 use Rattle.idct.proofs.Blocks.{idct1d-build}
+use Rattle.idct.proofs.transform.column_pass.Statement.{statement}
+use Rattle.idct.proofs.transform.column_pass.Tie as tie
 
 abbrev f : List (List Float) → ℕ → List Float
 f rows x = build 8 (λ (y : ℕ). pass cF (λ (v : ℕ). cellF rows v x) (λ (v : ℕ). cosF v y))

@@ -1,16 +1,16 @@
 -- `idct::transform::halves` meets its contract, one store a turn. Assumes nothing.
-use Rattle.idct.proofs.transform.halves.Statement.{statement}
-use Rattle.idct.proofs.transform.halves.Tie as tie
+use mathlib.Core.List.{List}
 use mathlib.Core.Path.{_≡_, refl, ap}
 use Prim.Native.Nat.{ℕ, _-_, _≤_}
 use native.Mathlib.Omega.{arith}
 use lib.Ieee.{Float, nan, binary64, ofBits, mul}
-use Rattle.numbers.specs.Grid.{build}
-use Rattle.numbers.proofs.Fill.{part, cells-none, cells-more, cells-all}
-use mathlib.Core.List.{List}
 use lib.ListN.{getD}
+use Rattle.numbers.proofs.Fill.{part, cells-none, cells-more, cells-all}
+use Rattle.numbers.specs.Grid.{build}
 use Rattle.f64_error.specs.Series.{half}
 use Rattle.idct.proofs.Loops.{half-bits}
+use Rattle.idct.proofs.transform.halves.Statement.{statement}
+use Rattle.idct.proofs.transform.halves.Tie as tie
 
 abbrev z : ℕ → Float
 z k = ofBits binary64 0

@@ -1,18 +1,18 @@
 -- `idct::transform::idct_1d` meets its contract: one term a turn, at every x. Assumes nothing.
-use Rattle.idct.proofs.transform.idct_1d.Statement.{statement}
-use Rattle.idct.proofs.transform.idct_1d.Tie as tie
+use mathlib.Core.List.{List}
 use mathlib.Core.Path.{_≡_, ap, _∙_}
 use Prim.Native.Nat.{ℕ, _+_, _-_, _≤_, _<_}
 use native.Mathlib.Omega.{arith}
 use lib.Ieee.{Float, nan, binary64, mul, ofBits}
 use lib.ListN.{getD}
-use Rattle.numbers.specs.Grid.{build}
 use Rattle.numbers.proofs.Fill.{part, part-above, build-eq, cells-none, cells-more, cells-all}
+use Rattle.numbers.specs.Grid.{build}
 use Rattle.idct.specs.Cosines.{cF, cosF}
 use Rattle.idct.specs.Transform.{cellF}
 use Rattle.idct.proofs.Blocks.{cellF-block}
 use Rattle.idct.proofs.Loops.{sumAt, no-terms, one-more, all-terms}
-use mathlib.Core.List.{List}
+use Rattle.idct.proofs.transform.idct_1d.Statement.{statement}
+use Rattle.idct.proofs.transform.idct_1d.Tie as tie
 
 abbrev Inv-loop2 : tie.InvT-loop2
 Inv-loop2 cos input sums₀ u f x₀ sums x = (u < 8) × (x ≤ 8) × (f ≡ mul binary64 (cF u) (getD input u nan)) × (sums ≡ part 8 (sumAt input (u + 1)) (sumAt input u) x)

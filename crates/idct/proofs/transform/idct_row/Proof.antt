@@ -1,12 +1,12 @@
 -- `idct::transform::idct_row` meets its contract. Assumes nothing.
-use borrow.Author.Needs.{needs}
-use Rattle.idct.proofs.transform.idct_row.Statement.{statement}
-use Rattle.idct.proofs.transform.idct_row.Tie as tie
 use mathlib.Core.Path.{ap, sym, _∙_}
+use borrow.Author.Needs.{needs}
 use Rattle.numbers.specs.Grid.{build}
 use Rattle.idct.specs.Transform.{idct1d}
 use Rattle.idct.proofs.Blocks.{zeros}
 use Rattle.idct.proofs.Scans.{is-T}
+use Rattle.idct.proofs.transform.idct_row.Statement.{statement}
+use Rattle.idct.proofs.transform.idct_row.Tie as tie
 
 all-zero-requires : tie.Need-all-zero-requires
 all-zero-requires c κs = search needs

@@ -1,15 +1,15 @@
 -- `idct::transform::row_in` meets its contract, one store a turn. Assumes nothing.
-use Rattle.idct.proofs.transform.row_in.Statement.{statement}
-use Rattle.idct.proofs.transform.row_in.Tie as tie
 use mathlib.Core.Path.{_≡_, refl, ap}
 use Prim.Native.Nat.{ℕ, _-_, _≤_}
 use native.Mathlib.Omega.{arith}
 use lib.Ieee.{Float, nan, binary64, ofBits, ofInt}
-use Rattle.numbers.specs.Grid.{build}
-use Rattle.numbers.proofs.Fill.{part, cells-none, cells-more, cells-all}
-use lib.ListN.{getD}
 use lib.IntN.{pos}
+use lib.ListN.{getD}
 use borrow.Author.Needs.{needs}
+use Rattle.numbers.proofs.Fill.{part, cells-none, cells-more, cells-all}
+use Rattle.numbers.specs.Grid.{build}
+use Rattle.idct.proofs.transform.row_in.Statement.{statement}
+use Rattle.idct.proofs.transform.row_in.Tie as tie
 
 abbrev z : ℕ → Float
 z k = ofBits binary64 0

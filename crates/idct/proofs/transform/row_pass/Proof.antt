@@ -1,17 +1,17 @@
 -- `idct::transform::row_pass` meets its contract, one row a turn. Assumes nothing.
-use Rattle.idct.proofs.transform.row_pass.Statement.{statement}
-use Rattle.idct.proofs.transform.row_pass.Tie as tie
 use mathlib.Core.List.{List, []}
 use mathlib.Core.Path.{_≡_, refl, _∙_}
 use Prim.Native.Nat.{ℕ, _-_, _≤_}
 use native.Mathlib.Omega.{arith}
 use lib.Ieee.{Float, binary64, ofBits, ofInt}
-use Rattle.numbers.specs.Grid.{build, cell}
+use lib.IntN.{ℤ}
 use Rattle.numbers.proofs.Fill.{part, cells-none, cells-more, cells-all}
+use Rattle.numbers.specs.Grid.{build, cell}
 use Rattle.f64_error.specs.Series.{pass}
 use Rattle.idct.specs.Cosines.{cF, cosF}
 use Rattle.idct.proofs.Blocks.{idct1d-build}
-use lib.IntN.{ℤ}
+use Rattle.idct.proofs.transform.row_pass.Statement.{statement}
+use Rattle.idct.proofs.transform.row_pass.Tie as tie
 
 abbrev f : List (List ℤ) → ℕ → List Float
 f l v = build 8 (λ (x : ℕ). pass cF (λ (u : ℕ). ofInt binary64 (cell l v u)) (λ (u : ℕ). cosF u x))

@@ -1,9 +1,9 @@
 -- `idct::transform::samples` meets its contract: the two passes are the definition, and bounded. Assumes nothing.
+use mathlib.Core.Path.{_∙_}
 use borrow.Author.Needs.{needs}
+use Rattle.idct.proofs.Blocks.{columns-bounded, samples-are}
 use Rattle.idct.proofs.transform.samples.Statement.{statement}
 use Rattle.idct.proofs.transform.samples.Tie as tie
-use mathlib.Core.Path.{_∙_}
-use Rattle.idct.proofs.Blocks.{columns-bounded, samples-are}
 
 cos-table-requires : tie.Need-cos-table-requires
 cos-table-requires c κs = search needs

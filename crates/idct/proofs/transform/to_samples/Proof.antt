@@ -1,20 +1,20 @@
 -- `idct::transform::to_samples` meets its contract, row by row. Assumes nothing.
-use Rattle.idct.proofs.transform.to_samples.Statement.{statement}
-use Rattle.idct.proofs.transform.to_samples.Tie as tie
 use mathlib.Core.List.{List}
 use mathlib.Core.Path.{_≡_, refl, ap, _∙_}
 use Prim.Native.Nat.{ℕ, _-_, _≤_, _<_}
 use native.Mathlib.Omega.{arith}
-use lib.IntN.{ℤ, pos}
 use lib.Ieee.{Float}
+use lib.IntN.{ℤ, pos}
 use mir.Facts.{toZ-ofZ}
 use mir.Syntax.{w32}
-use Rattle.numbers.specs.Grid.{build}
 use Rattle.numbers.proofs.Fill.{rows, filled, rows-none, rows-all, row-begins, row-ends, fill-more}
-use Rattle.idct.specs.declared.rounding.HalfIntegerRounding.{HalfIntegerRounding}
+use Rattle.numbers.specs.Grid.{build}
 use Rattle.idct.specs.Limits.{saturated}
 use Rattle.idct.specs.Rounding.{wholeOf}
 use Rattle.idct.specs.Transform.{cellF}
+use Rattle.idct.specs.declared.rounding.HalfIntegerRounding.{HalfIntegerRounding}
+use Rattle.idct.proofs.transform.to_samples.Statement.{statement}
+use Rattle.idct.proofs.transform.to_samples.Tie as tie
 
 abbrev f : ℕ → HalfIntegerRounding → List (List Float) → ℕ → ℕ → ℤ
 f bits rounding columns y x = saturated bits (wholeOf rounding (cellF columns x y))

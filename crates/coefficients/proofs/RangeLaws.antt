@@ -1,0 +1,65 @@
+-- A range's test as bounds, and back. Assumes nothing.
+use mathlib.Core.Bool.{true, _&&_}
+use mathlib.Core.Path.{_≡_}
+use Prim.Native.Nat.{ℕ, _+_, _≤_, _<_}
+use native.Mathlib.Omega.{arith}
+use lib.Dec.{leb}
+use lib.IntN.{ℤ, pos, negsuc, natAbs}
+use lib.Signed.{leZ, _≤ℤ_}
+use borrow.Author.Tests.{leb-true, le-leb}
+use Rattle.numbers.proofs.Integers.{halves, le-in, le-leZ, le-yes}
+use Rattle.ranges.specs.Range.{within, depthFine, quantiserFine, levelFine, differenceFine, dcFine}
+use Rattle.coefficients.proofs.Tests.{both-true, true-both}
+
+pub within-of : (lo hi z : ℤ) → lo ≤ℤ z → z ≤ℤ hi → within lo hi z ≡ true
+within-of lo hi z l h = true-both (le-leZ lo z l) (le-leZ z hi h)
+
+-- ---- signed ranges by the magnitude: -(n + 1) .. m
+
+module _ (n m : ℕ) (z : ℤ) where
+  within-abs : (B : ℕ) → n < B → m ≤ B → within (negsuc n) (pos m) z ≡ true → natAbs z ≤ B
+  within-abs B h k e =
+      let w = both-true (leZ (negsuc n) z) (leZ z (pos m)) e in
+      omega (arith, halves z, le-yes (negsuc n) z (w .0), le-yes z (pos m) (w .1))
+
+  abs-within : (B : ℕ) → B ≤ n + 1 → B ≤ m → natAbs z ≤ B → within (negsuc n) (pos m) z ≡ true
+  abs-within B h k l = within-of (negsuc n) (pos m) z (le-in (omega (arith, halves z))) (le-in (omega (arith, halves z)))
+
+pub level-abs : (z : ℤ) → levelFine z ≡ true → natAbs z ≤ 2048
+level-abs z = within-abs 2047 2047 z 2048 (omega arith) (omega arith)
+
+pub abs-level : (z : ℤ) → natAbs z ≤ 2047 → levelFine z ≡ true
+abs-level z = abs-within 2047 2047 z 2047 (omega arith) (omega arith)
+
+pub difference-abs : (z : ℤ) → differenceFine z ≡ true → natAbs z ≤ 4095
+difference-abs z = within-abs 4094 4095 z 4095 (omega arith) (omega arith)
+
+pub abs-difference : (z : ℤ) → natAbs z ≤ 4095 → differenceFine z ≡ true
+abs-difference z = abs-within 4094 4095 z 4095 (omega arith) (omega arith)
+
+pub dc-abs : (z : ℤ) → dcFine z ≡ true → natAbs z ≤ 65536
+dc-abs z = within-abs 65535 65536 z 65536 (omega arith) (omega arith)
+
+pub abs-dc : (z : ℤ) → natAbs z ≤ 65536 → dcFine z ≡ true
+abs-dc z = abs-within 65535 65536 z 65536 (omega arith) (omega arith)
+
+-- ---- quantiser and depth
+
+module _ (lo hi n : ℕ) where
+  leb-range : (leb lo n && leb n hi) ≡ true → (lo ≤ n) × (n ≤ hi)
+  leb-range e = let b = both-true (leb lo n) (leb n hi) e in (leb-true lo n (b .0), leb-true n hi (b .1))
+
+  range-leb : lo ≤ n → n ≤ hi → (leb lo n && leb n hi) ≡ true
+  range-leb l h = true-both (le-leb lo n l) (le-leb n hi h)
+
+pub quantiser-range : (q : ℕ) → quantiserFine q ≡ true → (1 ≤ q) × (q ≤ 31)
+quantiser-range = leb-range 1 31
+
+pub range-quantiser : (q : ℕ) → 1 ≤ q → q ≤ 31 → quantiserFine q ≡ true
+range-quantiser = range-leb 1 31
+
+pub depth-range : (d : ℕ) → depthFine d ≡ true → (4 ≤ d) × (d ≤ 12)
+depth-range = leb-range 4 12
+
+pub range-depth : (d : ℕ) → 4 ≤ d → d ≤ 12 → depthFine d ≡ true
+range-depth = range-leb 4 12

@@ -1,0 +1,55 @@
+-- The grids of Figure 7-4: each is a permutation of 0 to 63, by one computed test, so that the cells of a scan are its places. Assumes nothing.
+use mathlib.Core.Bool.{Bool, true, cond, _&&_}
+use mathlib.Core.List.{List, [], _∷_, _++_}
+use Prim.Native.Nat.{ℕ, zero, suc, _<_, _≤_}
+use native.Mathlib.Omega.{arith}
+use lib.Dec.{T, eqb, ltb, ltb→lt}
+use lib.IntN.{ℤ, pos, natAbs}
+use lib.ListN.{length, getD}
+use Rattle.numbers.specs.Grid.{block, cell, cellN}
+use Rattle.numbers.proofs.Every.{cell-at}
+use Rattle.numbers.proofs.Fill.{cell-block}
+use Rattle.coefficients.specs.declared.scan.ScanType.{ScanType}
+use Rattle.coefficients.specs.declared.scan.ScanType.the-variants.{AlternateHorizontal, AlternateVertical, Zigzag}
+use Rattle.coefficients.specs.Scan.{gridOf, altHorizontal, altVertical, zigzag, scanned}
+use Rattle.coefficients.proofs.BlockLaws.{each-cell, square-block}
+
+-- the cells of a grid, row by row, and how often a number is among them
+abbrev pub cellsOf : List (List ℕ) → List ℕ
+cellsOf [] = []
+cellsOf (r ∷ rs) = r ++ cellsOf rs
+
+abbrev pub times : ℕ → List ℕ → ℕ
+times n [] = 0
+times n (x ∷ xs) = cond (eqb n x) (suc (times n xs)) (times n xs)
+
+-- whether each number below n is there once
+abbrev once : ℕ → List ℕ → Bool
+once zero xs = true
+once (suc n) xs = eqb (times n xs) 1 && once n xs
+
+-- 64 cells, and each number below 64 in one of them
+abbrev pub permutation : List (List ℕ) → Bool
+permutation g = eqb (length (cellsOf g)) 64 && once 64 (cellsOf g)
+
+pub grid-permutes : (s : ScanType) → T (permutation (gridOf s))
+unfolding altHorizontal altVertical zigzag
+grid-permutes AlternateHorizontal = tt
+grid-permutes AlternateVertical = tt
+grid-permutes Zigzag = tt
+
+abbrev below64 : ℕ → Bool
+below64 n = ltb n 64
+
+pub grid-below : (s : ScanType) (v u : ℕ) → cellN (gridOf s) v u < 64
+unfolding altHorizontal altVertical zigzag
+grid-below AlternateHorizontal v u = ltb→lt _ _ (cell-at below64 altHorizontal tt tt v u)
+grid-below AlternateVertical v u = ltb→lt _ _ (cell-at below64 altVertical tt tt v u)
+grid-below Zigzag v u = ltb→lt _ _ (cell-at below64 zigzag tt tt v u)
+
+-- what bounds the 64 places bounds the cells
+pub scanned-bound : (B : ℕ) (qfs : List ℤ) (s : ScanType) → ((k : ℕ) → k < 64 → natAbs (getD qfs k (pos 0)) ≤ B) → (v u : ℕ) → natAbs (cell (scanned qfs s) v u) ≤ B
+scanned-bound B qfs s h =
+    let f : ℕ → ℕ → ℤ = λ (v u : ℕ). getD qfs (cellN (gridOf s) v u) (pos 0) in
+    each-cell (λ (z : ℤ). natAbs z ≤ B) (block f) (square-block f) (omega arith)
+    (λ (v u : ℕ) (p : v < 8) (q : u < 8). rw (cell-block f v u p q) (h (cellN (gridOf s) v u) (grid-below s v u)))

@@ -1,0 +1,396 @@
+// Runs the edges that document 01 names for bits and codes through the public functions, one a line.
+use bits::Cursor;
+use codes::DcComponent;
+use codes::TcoefTable;
+use libc::STDOUT_FILENO;
+use texture::DcRead;
+use texture::EventRead;
+use texture::EventsRead;
+use texture::TextureParseError;
+
+fn text(s: &[u8]) {
+    io::write_all(STDOUT_FILENO, s);
+}
+
+fn number(n: u64) {
+    text(b" ");
+    io::print_decimal(STDOUT_FILENO, n);
+}
+
+fn signed(n: i32) {
+    text(b" ");
+    if n < 0 {
+        text(b"-");
+    }
+    io::print_decimal(STDOUT_FILENO, numbers::abs(n) as u64);
+}
+
+fn flag(set: bool) {
+    if set {
+        number(1);
+    } else {
+        number(0);
+    }
+}
+
+fn refused(e: TextureParseError) {
+    text(b" refused");
+    number(e.number() as u64);
+    number(e.figure() as u64);
+}
+
+fn at_bit(at: usize) -> Cursor {
+    Cursor { bit_pos: at }
+}
+
+fn named(kind: &[u8], name: &[u8]) {
+    text(kind);
+    text(b": ");
+    text(name);
+    text(b":");
+}
+
+fn dc(name: &[u8], data: &[u8], at: usize, component: DcComponent) {
+    named(b"dc", name);
+    let answer = texture::decode_intra_dc(data, at_bit(at), component);
+    match answer {
+        DcRead::Refused(e) => refused(e),
+        DcRead::Dc(d, next) => {
+            number(d.size as u64);
+            signed(d.differential);
+            number(next.bit_pos as u64);
+        }
+    }
+    text(b"\n");
+}
+
+fn print_event(answer: EventRead) {
+    match answer {
+        EventRead::Refused(e) => refused(e),
+        EventRead::Event(v, next) => {
+            flag(v.last);
+            number(v.run as u64);
+            signed(v.level);
+            number(next.bit_pos as u64);
+        }
+    }
+    text(b"\n");
+}
+
+fn event(name: &[u8], data: &[u8], at: usize, table: TcoefTable) {
+    named(b"event", name);
+    print_event(texture::decode_ac_event(data, at_bit(at), table));
+}
+
+fn event_rvlc(name: &[u8], data: &[u8], at: usize, table: TcoefTable) {
+    named(b"event rvlc", name);
+    print_event(texture::decode_ac_event_rvlc(data, at_bit(at), table));
+}
+
+fn print_list(answer: EventsRead, qfs: [i32; 64]) {
+    match answer {
+        EventsRead::Refused(e) => refused(e),
+        EventsRead::Read(next) => number(next.bit_pos as u64),
+    }
+    for i in 0..64 {
+        if qfs[i] != 0 {
+            number(i as u64);
+            signed(qfs[i]);
+        }
+    }
+    text(b"\n");
+}
+
+fn list(name: &[u8], data: &[u8], at: usize, dc_coded: bool) {
+    named(b"list", name);
+    let mut qfs = [0i32; 64];
+    let answer = texture::decode_ac_events(data, at_bit(at), TcoefTable::Intra, dc_coded, &mut qfs);
+    print_list(answer, qfs);
+}
+
+fn list_rvlc(name: &[u8], data: &[u8], at: usize, dc_coded: bool) {
+    named(b"list rvlc", name);
+    let mut qfs = [0i32; 64];
+    let answer = texture::decode_ac_events_rvlc(
+        data,
+        at_bit(at),
+        TcoefTable::Intra,
+        dc_coded,
+        &mut qfs,
+    );
+    print_list(answer, qfs);
+}
+
+// DC parts: size, difference and the position after it.
+fn dc_parts() {
+    dc(
+        b"no bits left, luminance",
+        &[0xFF],
+        8,
+        DcComponent::Luminance,
+    );
+    dc(
+        b"no bits left, chrominance",
+        &[0xFF],
+        8,
+        DcComponent::Chrominance,
+    );
+    dc(
+        b"one bit 0 left, luminance",
+        &[0xFE],
+        7,
+        DcComponent::Luminance,
+    );
+    dc(
+        b"one bit 0 left, chrominance",
+        &[0xFE],
+        7,
+        DcComponent::Chrominance,
+    );
+    dc(b"P1", &[0xC0], 0, DcComponent::Luminance);
+    dc(b"P1", &[0xE0], 0, DcComponent::Luminance);
+    dc(b"P2", &[0x01, 0x80, 0x40], 0, DcComponent::Luminance);
+    dc(
+        b"P2 with a final 0",
+        &[0x01, 0x80, 0x00],
+        0,
+        DcComponent::Luminance,
+    );
+    dc(
+        b"P2 with no final bit",
+        &[0xFE, 0x03, 0x00],
+        7,
+        DcComponent::Luminance,
+    );
+    dc(
+        b"P2 with one bit less",
+        &[0x01, 0x80],
+        0,
+        DcComponent::Luminance,
+    );
+}
+
+// DC parts: size, difference and the position after it.
+fn dc_parts_2() {
+    dc(b"no code", &[0x00, 0x00], 0, DcComponent::Luminance);
+    dc(b"start past the end", &[0xFF], 9, DcComponent::Luminance);
+}
+
+// Plain events: last, run, level and the position after it.
+fn events() {
+    event(b"no bits left, intra", &[0xFF], 8, TcoefTable::Intra);
+    event(b"no bits left, inter", &[0xFF], 8, TcoefTable::Inter);
+    event(b"start past the end", &[0xFF], 9, TcoefTable::Intra);
+    event(b"P3", &[0x78], 0, TcoefTable::Intra);
+    event(b"P4", &[0x06, 0x70], 0, TcoefTable::Intra);
+    event(b"P5", &[0x07, 0x38], 0, TcoefTable::Intra);
+    event(b"P6", &[0x07, 0xC0, 0xC0, 0x0C], 0, TcoefTable::Intra);
+    event(
+        b"P6 with 800",
+        &[0x07, 0xC0, 0xC0, 0x04],
+        0,
+        TcoefTable::Intra,
+    );
+    event(
+        b"type 3 level 0",
+        &[0x07, 0xC0, 0x80, 0x04],
+        0,
+        TcoefTable::Intra,
+    );
+    event(
+        b"type 3 level 0, second marker 0",
+        &[0x07, 0xC0, 0x80, 0x00],
+        0,
+        TcoefTable::Intra,
+    );
+}
+
+// Plain events: last, run, level and the position after it.
+fn events_2() {
+    event(
+        b"type 3 first marker 0",
+        &[0x07, 0xC0, 0x00, 0x0C],
+        0,
+        TcoefTable::Intra,
+    );
+    event(
+        b"type 3 without its second marker",
+        &[0xE0, 0xF8, 0x10, 0x01],
+        3,
+        TcoefTable::Intra,
+    );
+    event(
+        b"type 1 with another escape",
+        &[0x06, 0x06],
+        0,
+        TcoefTable::Intra,
+    );
+    event(b"escape alone", &[0x83], 1, TcoefTable::Intra);
+}
+
+// Reversible events.
+fn reversible_events() {
+    event_rvlc(b"no bits left, intra", &[0xFF], 8, TcoefTable::Intra);
+    event_rvlc(b"no bits left, inter", &[0xFF], 8, TcoefTable::Inter);
+    event_rvlc(b"start past the end", &[0xFF], 9, TcoefTable::Intra);
+    event_rvlc(
+        b"reversible escape",
+        &[0x0C, 0x08, 0x05, 0x84],
+        0,
+        TcoefTable::Intra,
+    );
+    event_rvlc(
+        b"reversible delimiter 0001",
+        &[0x0C, 0x08, 0x05, 0x8C],
+        0,
+        TcoefTable::Intra,
+    );
+    event_rvlc(
+        b"reversible magnitude 0",
+        &[0x0C, 0x08, 0x00, 0x84],
+        0,
+        TcoefTable::Intra,
+    );
+    event_rvlc(
+        b"reversible magnitude 0, delimiter 0001",
+        &[0x0C, 0x08, 0x00, 0x8C],
+        0,
+        TcoefTable::Intra,
+    );
+    event_rvlc(
+        b"reversible magnitude 0, no sign",
+        &[0xE1, 0x81, 0x00, 0x10],
+        3,
+        TcoefTable::Intra,
+    );
+    event_rvlc(
+        b"reversible first marker 0",
+        &[0x0C, 0x00, 0x05, 0x84],
+        0,
+        TcoefTable::Intra,
+    );
+    event_rvlc(
+        b"reversible second marker 0",
+        &[0x0C, 0x08, 0x05, 0x04],
+        0,
+        TcoefTable::Intra,
+    );
+}
+
+// Lists of plain events: the position after it, then each place with its level.
+fn lists() {
+    list(b"no bits left", &[0xFF], 8, true);
+    list(
+        b"after a DC, last, run 62",
+        &[0xC1, 0xFF, 0xA0, 0x0B],
+        2,
+        true,
+    );
+    list(
+        b"after a DC, last, run 63",
+        &[0xC1, 0xFF, 0xE0, 0x0B],
+        2,
+        true,
+    );
+    list(
+        b"without a DC, last, run 63",
+        &[0xC1, 0xFF, 0xE0, 0x0B],
+        2,
+        false,
+    );
+    list(
+        b"after a DC, run 63 without last, no bits",
+        &[0xC1, 0xEF, 0xE0, 0x0B],
+        2,
+        true,
+    );
+    list(
+        b"after a DC, run 63 without last, then no code",
+        &[0xC1, 0xEF, 0xE0, 0x0B, 0x00, 0x00],
+        2,
+        true,
+    );
+    list(
+        b"after a DC, run 63 twice",
+        &[0xF0, 0x7B, 0xF8, 0x02, 0xC1, 0xFF, 0xE0, 0x0B],
+        4,
+        true,
+    );
+    list(
+        b"after a DC, run 62 and one more",
+        &[0xF0, 0x7B, 0xE8, 0x02, 0xC1, 0xF0, 0x20, 0x0B],
+        4,
+        true,
+    );
+    list(
+        b"without a DC, two events",
+        &[0xF0, 0x78, 0x28, 0x02, 0xC1, 0xF0, 0xE0, 0x0B],
+        4,
+        false,
+    );
+    list(b"start past the end", &[0xFF], 9, true);
+}
+
+// Lists of reversible events.
+fn reversible_lists() {
+    list_rvlc(b"no bits left", &[0xFF], 8, true);
+    list_rvlc(
+        b"after a DC, last, run 62",
+        &[0xC3, 0xFA, 0x01, 0x60],
+        2,
+        true,
+    );
+    list_rvlc(
+        b"after a DC, last, run 63",
+        &[0xC3, 0xFE, 0x01, 0x60],
+        2,
+        true,
+    );
+    list_rvlc(
+        b"without a DC, last, run 63",
+        &[0xC3, 0xFE, 0x01, 0x60],
+        2,
+        false,
+    );
+    list_rvlc(
+        b"after a DC, run 63 without last, no bits",
+        &[0xC2, 0xFE, 0x01, 0x60],
+        2,
+        true,
+    );
+    list_rvlc(
+        b"after a DC, run 63 without last, then no code",
+        &[0xC2, 0xFE, 0x01, 0x60, 0x00, 0x00],
+        2,
+        true,
+    );
+    list_rvlc(
+        b"after a DC, run 63 twice",
+        &[0xF0, 0xBF, 0x80, 0x58, 0x03, 0xFE, 0x01, 0x60],
+        4,
+        true,
+    );
+    list_rvlc(
+        b"after a DC, run 62 and one more",
+        &[0xF0, 0xBE, 0x80, 0x58, 0x03, 0x02, 0x01, 0x60],
+        4,
+        true,
+    );
+    list_rvlc(
+        b"without a DC, two events",
+        &[0xF0, 0x82, 0x80, 0x58, 0x03, 0x0E, 0x01, 0x60],
+        4,
+        false,
+    );
+    list_rvlc(b"start past the end", &[0xFF], 9, true);
+}
+
+fn main() {
+    dc_parts();
+    dc_parts_2();
+    events();
+    events_2();
+    reversible_events();
+    lists();
+    reversible_lists();
+}

@@ -1,0 +1,2 @@
+-- The one theorem of the table.
+pub mod Table

@@ -1,0 +1,45 @@
+-- DC parts, events and lists, plain and reversible, in either table: accepted exactly when the bits begin with one, never with two, and taken whole. Assumes nothing.
+use mathlib.Core.Bool.{Bool}
+use mathlib.Core.List.{List}
+use mathlib.Core.Path.{_≡_, ap, _∙_}
+use Prim.Native.Nat.{ℕ, _+_, _*_, _-_, _≤_}
+use native.Mathlib.Omega.{arith}
+use lib.ListN.{length, length-append}
+use Rattle.bits.proofs.BitLaws.{length-bitsFrom}
+use Rattle.bits.specs.Bits.{Bits, bitsFrom}
+use Rattle.bits.specs.Cursor.{cursorAt}
+use Rattle.codes.specs.declared.dc_size.DcComponent.{DcComponent}
+use Rattle.codes.specs.declared.tcoef_tables.TcoefTable.{TcoefTable}
+use Rattle.texture.proofs.ComposeLaws.{accepts, unique}
+use Rattle.texture.proofs.DcLaws.{dc-reads}
+use Rattle.texture.proofs.ListLaws.{event-reads, list-reads}
+use Rattle.texture.specs.Compose.{Reads}
+use Rattle.texture.specs.Dc.{GoodDc, dcBits, readDc}
+use Rattle.texture.specs.Event.{GoodEvent, eventBits}
+use Rattle.texture.specs.EventReader.{event}
+use Rattle.texture.specs.Events.{GoodList, eventsBits, list}
+use Rattle.texture.specs.Reader.{Res, ok}
+use Rattle.texture.specs.Sentences.{Sentences}
+
+pub sentences : {A : Type 0} {read : Bits → Res A} {bits : A → Bits} {Good : A → Type 0} → Reads read bits Good → Sentences read bits Good
+sentences {A} {read} {bits} {Good} h = record {
+  accepted = accepts read bits Good h;
+  alone = unique read bits Good h;
+  own = h .complete;
+  position = λ d at inside a r q. ap cursorAt (moved d at a r inside q);
+}
+  where
+    moved : (d : List ℕ) (at : ℕ) (a : A) (r : Bits) → at ≤ 8 * length d → read (bitsFrom d at) ≡ ok a r → 8 * length d - length r ≡ at + length (bits a)
+    moved d at a r inside q =
+        let s = ap length (h .sound (bitsFrom d at) a r q .1) ∙ length-append (bits a) r in
+        let n = length-bitsFrom d at in
+        omega arith
+
+pub dc-sentences : (c : DcComponent) → Sentences (readDc c) (dcBits c) (GoodDc c)
+dc-sentences c = sentences (dc-reads c)
+
+pub event-sentences : (rev : Bool) → Sentences (event rev) eventBits (GoodEvent rev)
+event-sentences rev = sentences (event-reads rev)
+
+pub list-sentences : (rev : Bool) (t : TcoefTable) (place : ℕ) → Sentences (list rev t place) eventsBits (GoodList rev t place)
+list-sentences rev t place = sentences (list-reads rev t place)
