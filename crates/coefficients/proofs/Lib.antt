@@ -1,7 +1,4 @@
 -- The laws of this crate, each file over those above it.
-pub mod Words
-pub mod Tests
-pub mod AllLaws
 pub mod RangeLaws
 pub mod BlockLaws
 pub mod BlockTests

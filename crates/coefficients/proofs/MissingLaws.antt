@@ -15,7 +15,7 @@ use Rattle.numbers.proofs.Fill.{is-build}
 use Rattle.numbers.proofs.Words.{one-shl}
 use Rattle.coefficients.specs.Prediction.{defaultDc, outsideOf}
 use Rattle.coefficients.specs.Level.{predictorsFine}
-use Rattle.coefficients.proofs.Tests.{true-both}
+use Rattle.numbers.proofs.Tests.{true-both}
 use Rattle.coefficients.proofs.RangeLaws.{abs-dc, range-quantiser}
 
 -- a shift of 1, as the code has it

@@ -9,7 +9,7 @@ use lib.Signed.{leZ, _≤ℤ_}
 use borrow.Author.Tests.{leb-true, le-leb}
 use Rattle.numbers.proofs.Integers.{halves, le-in, le-leZ, le-yes}
 use Rattle.ranges.specs.Range.{within, depthFine, quantiserFine, levelFine, differenceFine, dcFine}
-use Rattle.coefficients.proofs.Tests.{both-true, true-both}
+use Rattle.numbers.proofs.Tests.{both-true, true-both}
 
 pub within-of : (lo hi z : ℤ) → lo ≤ℤ z → z ≤ℤ hi → within lo hi z ≡ true
 within-of lo hi z l h = true-both (le-leZ lo z l) (le-leZ z hi h)

@@ -12,12 +12,12 @@ use Rattle.numbers.specs.Grid.{cell}
 use Rattle.ranges.specs.Range.{depthFine, quantiserFine, levelFine, differenceFine, dcFine}
 use Rattle.coefficients.specs.declared.inverse_quant.InverseQuantContext.{InverseQuantContext}
 use Rattle.coefficients.specs.declared.predictor.BlockPredictors.{BlockPredictors}
-use Rattle.coefficients.specs.Refusal.{all}
+use Rattle.numbers.specs.Every.{every}
 use Rattle.coefficients.specs.Level.{valuesFine, predictorsFine, placesFine}
 use Rattle.coefficients.specs.Dequantised.{contextFine, blockFine}
 use Rattle.coefficients.specs.Stages.{PredictorsGood, PlacesGood, LevelsGood, ContextGood}
-use Rattle.coefficients.proofs.Tests.{both-true, true-both, and-false}
-use Rattle.coefficients.proofs.AllLaws.{all-in, all-fails, all-at}
+use Rattle.numbers.proofs.Tests.{both-true, true-both, and-false}
+use Rattle.numbers.proofs.Every.{every-in, every-fails, every-get}
 use Rattle.coefficients.proofs.RangeLaws.{level-abs, abs-level, difference-abs, abs-difference, dc-abs, quantiser-range, range-quantiser, depth-range, range-depth}
 use Rattle.coefficients.proofs.BlockTests.{test-at}
 
@@ -27,18 +27,18 @@ pub place-refused : (qfs : List ℤ) (k : ℕ) → 1 ≤ k → k < length qfs �
 place-refused [] k l h e = absurd (not-suc-le-zero h)
 place-refused (z ∷ zs) zero l h e = absurd (omega arith)
 place-refused (z ∷ zs) (suc k) l h e =
-    ap (λ (t : Bool). differenceFine z && t) (all-fails levelFine (pos 0) zs k (le-of-suc-le-suc h) e) ∙ and-false (differenceFine z)
+    ap (λ (t : Bool). differenceFine z && t) (every-fails levelFine (pos 0) zs k (le-of-suc-le-suc h) e) ∙ and-false (differenceFine z)
 
 pub places-pass : (qfs : List ℤ) → differenceFine (getD qfs 0 (pos 0)) ≡ true → ((i : ℕ) → 1 ≤ i → i < length qfs → levelFine (getD qfs i (pos 0)) ≡ true) → placesFine qfs ≡ true
-places-pass [] e h = true-both e (all-in levelFine (pos 0) [] (λ (i : ℕ) (p : i < 0). absurd (not-suc-le-zero p)))
+places-pass [] e h = true-both e (every-in levelFine (pos 0) [] (λ (i : ℕ) (p : i < 0). absurd (not-suc-le-zero p)))
 places-pass (z ∷ zs) e h =
-    true-both e (all-in levelFine (pos 0) zs (λ (i : ℕ) (p : i < length zs). h (suc i) (omega arith) (omega arith)))
+    true-both e (every-in levelFine (pos 0) zs (λ (i : ℕ) (p : i < length zs). h (suc i) (omega arith) (omega arith)))
 
 pub places-good : (qfs : List ℤ) → placesFine qfs ≡ true → PlacesGood qfs
 places-good [] e k = omega arith
-places-good (z ∷ zs) e zero = difference-abs z (both-true (differenceFine z) (all levelFine zs) e .0)
+places-good (z ∷ zs) e zero = difference-abs z (both-true (differenceFine z) (every levelFine zs) e .0)
 places-good (z ∷ zs) e (suc k) =
-    let t = all-at levelFine (pos 0) refl zs (both-true (differenceFine z) (all levelFine zs) e .1) k in
+    let t = every-get levelFine (pos 0) refl zs (both-true (differenceFine z) (every levelFine zs) e .1) k in
     omega (arith, level-abs (getD zs k (pos 0)) t)
 
 pub places-fine : (qfs : List ℤ) → length qfs ≡ 64 → natAbs (getD qfs 0 (pos 0)) ≤ 4095 → ((k : ℕ) → 1 ≤ k → k < 64 → natAbs (getD qfs k (pos 0)) ≤ 2047) → placesFine qfs ≡ true
@@ -50,7 +50,7 @@ places-fine qfs l h g =
 
 -- a neighbour's values, where it is there
 pub values-good : (has : Bool) (xs : List ℤ) → valuesFine has xs ≡ true → T has → (k : ℕ) → natAbs (getD xs k (pos 0)) ≤ 2048
-values-good true xs e t k = level-abs (getD xs k (pos 0)) (all-at levelFine (pos 0) refl xs e k)
+values-good true xs e t k = level-abs (getD xs k (pos 0)) (every-get levelFine (pos 0) refl xs e k)
 values-good false xs e t k = absurd t
 
 pub predictors-good : (p : BlockPredictors) → predictorsFine p ≡ true → PredictorsGood p

@@ -12,7 +12,8 @@ use Rattle.codes.specs.declared.dc_size.DcComponent.{DcComponent}
 use Rattle.coefficients.specs.declared.inverse_quant.InverseQuantContext.{InverseQuantContext}
 use Rattle.coefficients.specs.declared.refusal.Stage.{Stage}
 use Rattle.ranges.specs.Range.{quantiserFine, depthFine, levelFine}
-use Rattle.coefficients.specs.Refusal.{all, firstBad}
+use Rattle.coefficients.specs.Refusal.{firstBad}
+use Rattle.numbers.specs.Every.{every}
 use Rattle.coefficients.specs.Prediction.{dcScaler}
 
 -- 7.4.4.1.1: the DC of an intra block; its scaler is 8 with a short video header
@@ -102,10 +103,10 @@ abbrev pub contextFine : InverseQuantContext → Bool
 contextFine ctx = quantiserFine (ctx .«quantiser_scale») && depthFine (ctx .«bits_per_pixel»)
 
 abbrev pub blockFine : List (List ℤ) → Bool
-blockFine qf = all (all levelFine) qf
+blockFine qf = every (every levelFine) qf
 
 abbrev pub answer1 : InverseQuantContext → List (List ℕ) → List (List ℤ) → Stage
-answer1 ctx w qf = firstBad (contextFine ctx && all (all nonZero) w) (blockFine qf)
+answer1 ctx w qf = firstBad (contextFine ctx && every (every nonZero) w) (blockFine qf)
 
 abbrev pub answer2 : InverseQuantContext → List (List ℤ) → Stage
 answer2 ctx qf = firstBad (contextFine ctx) (blockFine qf)

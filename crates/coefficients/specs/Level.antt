@@ -12,7 +12,8 @@ use Rattle.coefficients.specs.declared.refusal.Stage.{Stage}
 use Rattle.coefficients.specs.declared.scan.ScanType.{ScanType}
 use Rattle.coefficients.specs.declared.scan.ScanType.the-variants.{AlternateVertical}
 use Rattle.ranges.specs.Range.{quantiserFine, levelFine, differenceFine, dcFine}
-use Rattle.coefficients.specs.Refusal.{all, firstBad}
+use Rattle.coefficients.specs.Refusal.{firstBad}
+use Rattle.numbers.specs.Every.{every}
 use Rattle.coefficients.specs.declared.scan.DcPredictionDirection.{DcPredictionDirection}
 use Rattle.coefficients.specs.Scan.{scanOf, scanned}
 use Rattle.coefficients.specs.Prediction.{predicted, directionBy}
@@ -41,7 +42,7 @@ levels c q acPred alternate p qfs =
 
 -- a neighbour's AC values, where it is there
 abbrev pub valuesFine : Bool → List ℤ → Bool
-valuesFine has xs = cond has (all levelFine xs) true
+valuesFine has xs = cond has (every levelFine xs) true
 
 abbrev pub predictorsFine : BlockPredictors → Bool
 predictorsFine p =
@@ -50,7 +51,7 @@ predictorsFine p =
 
 -- the place of the DC holds a difference, the others levels
 abbrev pub placesFine : List ℤ → Bool
-placesFine qfs = differenceFine (getD qfs 0 (pos 0)) && all levelFine (drop 1 qfs)
+placesFine qfs = differenceFine (getD qfs 0 (pos 0)) && every levelFine (drop 1 qfs)
 
 abbrev pub levelsAnswer : ℕ → BlockPredictors → List ℤ → Stage
 levelsAnswer q p qfs = firstBad (quantiserFine q) (predictorsFine p && placesFine qfs)

@@ -12,11 +12,6 @@ abbrev pub numberOf : CoefficientError → ℕ
 numberOf Context = 12
 numberOf OutOfRange = 13
 
--- each number of a list passes
-unfoldable pub all : {A : Type 0} → (A → Bool) → List A → Bool
-all p [] = true
-all p (x ∷ xs) = p x && all p xs
-
 -- the first of the two tests that fails answers
 abbrev pub firstBad : Bool → Bool → Stage
 firstBad false v = Refused Context

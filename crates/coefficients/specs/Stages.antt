@@ -19,7 +19,8 @@ use Rattle.coefficients.specs.declared.scan.DcPredictionDirection.{DcPre
 use Rattle.coefficients.specs.declared.predictor.BlockPredictors.{BlockPredictors}
 use Rattle.coefficients.specs.declared.inverse_quant.InverseQuantContext.{InverseQuantContext}
 use Rattle.ranges.specs.Range.{quantiserFine, depthFine, levelFine, differenceFine, dcFine}
-use Rattle.coefficients.specs.Refusal.{all, firstBad}
+use Rattle.coefficients.specs.Refusal.{firstBad}
+use Rattle.numbers.specs.Every.{every}
 use Rattle.coefficients.specs.Prediction.{dcScaler, directionOf, defaultDc, dcPrediction, acPrediction}
 use Rattle.coefficients.specs.Level.{valuesFine}
 use Rattle.coefficients.specs.Dequantised.{intraDc, method1, method2}
@@ -47,7 +48,7 @@ abbrev pub acAdded : List ℤ → Bool → List ℤ → ℕ → ℕ → List ℤ
 acAdded pqf has qf qp q = build 7 (λ (k : ℕ). getD pqf k (pos 0) +ℤ cond has (acPrediction (getD qf k (pos 0)) qp q) (pos 0))
 
 abbrev pub acAnswer : List ℤ → Bool → List ℤ → ℕ → ℕ → Stage
-acAnswer pqf has qf qp q = firstBad (quantiserFine q) (all levelFine pqf && (quantiserFine qp && valuesFine has qf))
+acAnswer pqf has qf qp q = firstBad (quantiserFine q) (every levelFine pqf && (quantiserFine qp && valuesFine has qf))
 
 -- one value of 7.4.4
 abbrev pub intraDcAnswer : ℤ → DcComponent → ℕ → Bool → Value

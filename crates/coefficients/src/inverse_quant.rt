@@ -4,7 +4,8 @@ ghost use mathlib.Core.Bool.{true, false};
 ghost use Prim.Native.Nat.{ℕ, _≤_, _<_};
 ghost use lib.IntN.{natAbs};
 ghost use Rattle.numbers.specs.Grid.{cell};
-ghost use Rattle.coefficients.specs.Refusal.{after, all};
+ghost use Rattle.coefficients.specs.Refusal.{after};
+ghost use Rattle.numbers.specs.Every.{every};
 ghost use Rattle.coefficients.specs.Dequantised.{intraDc, method1, magnitude2, method2, limitedF, valueOf1, valueOf2, fPrime1, fPrime2, sumOf, mismatched, dequantised1, dequantised2, nonZero, contextFine, blockFine, answer1, answer2};
 ghost use Rattle.coefficients.specs.Stages.{intraDcAnswer, method1Answer, method2Answer, LevelsGood, ContextGood};
 use crate::refusal::CoefficientError;
@@ -150,7 +151,7 @@ fn block_fine(qf: [[i32; 8]; 8]) -> bool
 
 // Whether a matrix has no zero.
 pub fn matrix_fine(w: [[u8; 8]; 8]) -> bool
-    ensures { λ r. ⌜ r ≡ all (all nonZero) w ⌝ }
+    ensures { λ r. ⌜ r ≡ every (every nonZero) w ⌝ }
 {
     for k in 0..64 {
         if w[k / 8][k % 8] == 0 {

@@ -6,7 +6,8 @@ ghost use lib.ListN.{getD};
 ghost use lib.IntN.{natAbs, pos};
 ghost use Rattle.numbers.specs.Grid.{block};
 ghost use Rattle.ranges.specs.Range.{levelFine};
-ghost use Rattle.coefficients.specs.Refusal.{all, after};
+ghost use Rattle.coefficients.specs.Refusal.{after};
+ghost use Rattle.numbers.specs.Every.{every};
 ghost use Rattle.coefficients.specs.Level.{valuesFine};
 ghost use Rattle.coefficients.specs.Prediction.{dcScaler, directionOf, defaultDc, outsideOf, dcPrediction, acPrediction, predicted};
 ghost use Rattle.coefficients.specs.Stages.{scalerAnswer, directionAnswer, defaultAnswer, dcAnswer, acAdded, acAnswer, PredictorsGood};
@@ -182,7 +183,7 @@ fn ac_prediction(qf: i32, qp: u32, qp_x: u32) -> i32
 
 // Whether each of seven values is a level.
 pub(crate) fn all_levels(values: [i32; 7]) -> bool
-    ensures { λ r. ⌜ r ≡ all levelFine values ⌝ }
+    ensures { λ r. ⌜ r ≡ every levelFine values ⌝ }
 {
     for k in 0..7 {
         if !ranges::Level::fine(values[k]) {

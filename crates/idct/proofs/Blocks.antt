@@ -8,7 +8,8 @@ use lib.Dec.{T, eqb→eq}
 use lib.Ieee.{Float, nan, binary64, add, mul, ofInt, ofBits, neg}
 use lib.IntN.{ℤ, pos, natAbs}
 use lib.ListN.{getD}
-use Rattle.numbers.proofs.Every.{every, every-at}
+use Rattle.numbers.proofs.Every.{every-at}
+use Rattle.numbers.specs.Every.{every}
 use Rattle.numbers.proofs.Fill.{block-eq, build-eq, getD-build}
 use Rattle.numbers.proofs.Magnitudes.{zero-of-abs}
 use Rattle.numbers.specs.Grid.{block, build, cell}

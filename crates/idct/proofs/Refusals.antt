@@ -13,7 +13,8 @@ use lib.Pow.{pow-mono, pow-pos}
 use lib.Signed.{leZ, _≤ℤ_}
 use mir.Facts.{and-yes}
 use borrow.Author.Tests.{leb-true}
-use Rattle.numbers.proofs.Every.{every, every-at}
+use Rattle.numbers.proofs.Every.{every-at}
+use Rattle.numbers.specs.Every.{every}
 use Rattle.numbers.proofs.Integers.{diff-is, le-in, le-leZ, le-out, le-true, neg-dn, neg-up, zarith}
 use Rattle.numbers.proofs.Limits.{clamp-high, clamp-low}
 use Rattle.numbers.proofs.Magnitudes.{abs-within}

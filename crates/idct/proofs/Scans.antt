@@ -8,7 +8,7 @@ use native.Mathlib.Omega.{arith}
 use lib.Dec.{T}
 use lib.ListN.{length, getD, drop, length-drop}
 use lib.Seq.{drop-cons}
-use Rattle.numbers.proofs.Every.{every}
+use Rattle.numbers.specs.Every.{every}
 
 pub is-T : (b : Bool) → b ≡ true → T b
 is-T b e = subst (λ (t : Bool). T t) (sym e) tt

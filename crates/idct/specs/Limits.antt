@@ -3,7 +3,7 @@ use mathlib.Core.Bool.{Bool, cond}
 use mathlib.Core.List.{List}
 use Prim.Native.Nat.{ℕ, _+_, _^_, min}
 use lib.IntN.{ℤ, pos, negℤ, _-ℤ_}
-use Rattle.numbers.proofs.Every.{every}
+use Rattle.numbers.specs.Every.{every}
 use Rattle.numbers.specs.Limit.{clampZ}
 use Rattle.ranges.specs.Range.{within, depthFine}
 use Rattle.idct.specs.declared.limits.IdctAnswer.{IdctAnswer}

@@ -1,7 +1,7 @@
 // What the transform takes and gives: the limits of a depth, and what is refused.
 ghost use mathlib.Core.Path.{_≡_};
 ghost use Prim.Native.Nat.{_<_, min};
-ghost use Rattle.numbers.proofs.Every.{every};
+ghost use Rattle.numbers.specs.Every.{every};
 ghost use Rattle.idct.specs.Limits.{boundsOf, saturated, inBounds, valuesFine, numberOf};
 
 // The answer of a transform, whose block stands beside it.

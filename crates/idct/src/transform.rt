@@ -4,7 +4,7 @@ ghost use Prim.Native.Nat.{ℕ, _<_};
 ghost use lib.Ieee.{nan, binary64, mul};
 ghost use lib.ListN.{getD};
 ghost use Rattle.numbers.specs.Grid.{build, block};
-ghost use Rattle.numbers.proofs.Every.{every};
+ghost use Rattle.numbers.specs.Every.{every};
 ghost use Rattle.f64_error.specs.Series.{half};
 ghost use Rattle.idct.specs.Cosines.{cosF};
 ghost use Rattle.idct.specs.Rounding.{Roundable, wholeOf};

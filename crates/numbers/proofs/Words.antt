@@ -7,7 +7,8 @@ use lib.Dec.{ltb→lt, ltb, T}
 use lib.IntN.{pos, negsuc, natAbs, ℤ}
 use lib.Pow.{pow-lt, pow-pos}
 use lib.Signed.{nonNeg, mag, _<ℤ_, _≤ℤ_}
-use mir.Syntax.{Width}
+use mir.Facts.{toZ-ofZ}
+use mir.Syntax.{Width, w32}
 use mir.Val.{SFits, hbits, toZ, ofZ, Fits, bits}
 use Rattle.numbers.proofs.Integers.{dn, up}
 use mir.ValLaws as L
@@ -21,6 +22,10 @@ fits-abs w (negsuc n) h = record { sfits = omega arith }
 -- of a call's result: `fits-ok w32 (c .f .result) (c .f .ok)`
 pub fits-ok : (w : Width) (z : ℤ) → mag z < 2 ^ hbits w → SFits w z
 fits-ok w z h = record { sfits = h }
+
+-- and it reads back as itself: `held (c .f .result) (c .f .ok)`
+pub held : (z : ℤ) → mag z < 2 ^ hbits w32 → toZ w32 (ofZ w32 z) ≡ z
+held z h = toZ-ofZ (fits-ok w32 z h)
 
 -- below a bound that is a number: `fits-mag 1000 tt z h`
 pub fits-mag : {w : Width} (B : ℕ) → T (ltb B (2 ^ hbits w)) → (z : ℤ) → natAbs z ≤ B → SFits w z

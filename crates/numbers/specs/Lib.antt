@@ -3,3 +3,4 @@ pub mod Grid
 pub mod Limit
 pub mod Rounding
 pub mod Sum
+pub mod Every

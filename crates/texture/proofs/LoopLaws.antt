@@ -260,8 +260,8 @@ pub record Held (s : State) : Type 0 where
   pub place-le : s .place ≤ 64
   pub bad-le : s .bad ≤ 2000
 
-pub held : (s : State) (run : ℕ) (level : ℤ) → run ≤ 1024 → Held s → Held (putOf s run level)
-held s run level h k = go (eqb (s .bad) 0) (ltb (s .place + run) 64) refl
+pub put-held : (s : State) (run : ℕ) (level : ℤ) → run ≤ 1024 → Held s → Held (putOf s run level)
+put-held s run level h k = go (eqb (s .bad) 0) (ltb (s .place + run) 64) refl
   where
     go : (t u : Bool) → ltb (s .place + run) 64 ≡ u
         → Held (cond t (cond u (record { place = s .place + run + 1; bad = 0; qfs = set (s .qfs) (s .place + run) level }) (record { place = s .place; bad = s .place + run; qfs = s .qfs })) s)

@@ -1,4 +1,4 @@
--- DC parts, events and lists, plain and reversible, in either table: accepted exactly when the bits begin with one, never with two, and taken whole. Assumes nothing.
+-- DC parts, events, lists, blocks and macroblocks, plain and reversible: accepted exactly when the bits begin with one, never with two, and taken whole. Assumes nothing.
 use mathlib.Core.Bool.{Bool}
 use mathlib.Core.List.{List}
 use mathlib.Core.Path.{_≡_, ap, _∙_}
@@ -10,14 +10,16 @@ use Rattle.bits.specs.Bits.{Bits, bitsFrom}
 use Rattle.bits.specs.Cursor.{cursorAt}
 use Rattle.codes.specs.declared.dc_size.DcComponent.{DcComponent}
 use Rattle.codes.specs.declared.tcoef_tables.TcoefTable.{TcoefTable}
-use Rattle.texture.proofs.ComposeLaws.{accepts, unique}
+use Rattle.codes.specs.declared.tcoef_tables.TcoefTable.the-variants.{Intra}
+use Rattle.texture.proofs.ComposeLaws.{accepts, unique, each-reads, opt-reads, pair-reads}
 use Rattle.texture.proofs.DcLaws.{dc-reads}
 use Rattle.texture.proofs.ListLaws.{event-reads, list-reads}
 use Rattle.texture.specs.Compose.{Reads}
 use Rattle.texture.specs.Dc.{GoodDc, dcBits, readDc}
 use Rattle.texture.specs.Event.{GoodEvent, eventBits}
 use Rattle.texture.specs.EventReader.{event}
-use Rattle.texture.specs.Events.{GoodList, eventsBits, list}
+use Rattle.texture.specs.Events.{GoodList, eventsBits, list, firstPlace}
+use Rattle.texture.specs.Macroblock.{Place, readBlock, blockBits, GoodBlock, readMacroblock, macroblockBits, GoodMacroblock, placesOfPattern}
 use Rattle.texture.specs.Reader.{Res, ok}
 use Rattle.texture.specs.Sentences.{Sentences}
 
@@ -43,3 +45,18 @@ event-sentences rev = sentences (event-reads rev)
 
 pub list-sentences : (rev : Bool) (t : TcoefTable) (place : ℕ) → Sentences (list rev t place) eventsBits (GoodList rev t place)
 list-sentences rev t place = sentences (list-reads rev t place)
+
+-- ---- a block, and a macroblock for its pattern
+
+module _ (dcCoded rev : Bool) where
+  block-reads : (s : Place) → Reads (readBlock dcCoded rev s) (blockBits s) (GoodBlock dcCoded rev s)
+  block-reads s =
+      pair-reads _ _ _ _ _ _
+      (opt-reads (readDc (s .0)) (dcBits (s .0)) (GoodDc (s .0)) (dc-reads (s .0)) dcCoded)
+      (opt-reads (list rev Intra (firstPlace dcCoded)) eventsBits (GoodList rev Intra (firstPlace dcCoded)) (list-reads rev Intra (firstPlace dcCoded)) (s .1))
+
+  pub block-sentences : (s : Place) → Sentences (readBlock dcCoded rev s) (blockBits s) (GoodBlock dcCoded rev s)
+  block-sentences s = sentences (block-reads s)
+
+  pub macroblock-sentences : (p : List Bool) → Sentences (readMacroblock dcCoded rev p) (macroblockBits p) (GoodMacroblock dcCoded rev p)
+  macroblock-sentences p = sentences (each-reads (readBlock dcCoded rev) blockBits (GoodBlock dcCoded rev) block-reads (placesOfPattern p))

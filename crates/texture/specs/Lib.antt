@@ -9,3 +9,4 @@ pub mod Places
 pub mod Compose
 pub mod Answer
 pub mod Sentences
+pub mod Macroblock

@@ -9,7 +9,7 @@ use mir.Syntax.{w32}
 use borrow.Author.Needs.{needs}
 use Rattle.numbers.proofs.Integers.{lt-false, lt-true, halves, zarith}
 use Rattle.numbers.proofs.Rounding.{by-zero, nearest, half-up-le, div-neg, div-pos}
-use Rattle.numbers.proofs.Words.{cast-us, fits-ok, fits-up}
+use Rattle.numbers.proofs.Words.{cast-us, held, fits-up}
 use Rattle.numbers.proofs.div_round_half_away.Statement.{statement}
 use Rattle.numbers.specs.Rounding.{Nearest, divAway}
 use Rattle.numbers.proofs.div_round_half_away.Tie as tie
@@ -69,7 +69,7 @@ returns-2 c =
     let s = a .before .before in
     let low : s .args .n <ℤ pos 0 = lt-true _ _ (simp (toZ-ofZ, s .fits .n) at (c .before .if2 .taken)) in
     both (s .args .n) (s .args .d) _
-    (toZ-ofZ (fits-ok w32 (c .negative .result) (c .negative .ok)) ∙ c .negative .ensures ∙ ap (λ (q : ℕ). negℤ (pos q)) (quotient a) ∙ div-neg (s .args .n) (s .args .d) (positive a) low)
+    (held (c .negative .result) (c .negative .ok) ∙ c .negative .ensures ∙ ap (λ (q : ℕ). negℤ (pos q)) (quotient a) ∙ div-neg (s .args .n) (s .args .d) (positive a) low)
 
 returns-3 : tie.Need-returns-3
 returns-3 c =

@@ -7,8 +7,8 @@ use mir.Syntax.{w32}
 use denote.Signed.{SInt}
 use Rattle.numbers.specs.Grid.{cell}
 use Rattle.ranges.specs.Range.{levelFine}
-use Rattle.coefficients.proofs.Words.{held}
-use Rattle.coefficients.proofs.Tests.{flag-passes, flag-refuses}
+use Rattle.numbers.proofs.Words.{held}
+use Rattle.numbers.proofs.Tests.{flag-passes, flag-refuses}
 use Rattle.coefficients.proofs.BlockLaws.{Square, square-owned}
 use Rattle.coefficients.proofs.BlockTests.{Passed, passed-all, passed-more, passed-none, passed-not}
 use Rattle.coefficients.proofs.inverse_quant.block_fine.Statement.{statement}

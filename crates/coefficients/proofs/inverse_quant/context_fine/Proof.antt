@@ -1,6 +1,6 @@
 -- `coefficients::inverse_quant::context_fine` meets its contract: its two tests are the definition's. Assumes nothing.
 use borrow.Author.Needs.{needs}
-use Rattle.coefficients.proofs.Tests.{flag-passes, flag-refuses}
+use Rattle.numbers.proofs.Tests.{flag-passes, flag-refuses}
 use Rattle.coefficients.proofs.inverse_quant.context_fine.Statement.{statement}
 use Rattle.coefficients.proofs.inverse_quant.context_fine.Tie as tie
 

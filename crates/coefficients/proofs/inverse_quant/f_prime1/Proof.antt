@@ -11,7 +11,7 @@ use Rattle.numbers.proofs.Expressions.{back, loc}
 use Rattle.numbers.proofs.Fill.{rows, filled, rows-none, rows-all, row-begins, row-ends, fill-more}
 use Rattle.coefficients.specs.declared.inverse_quant.InverseQuantContext.{InverseQuantContext}
 use Rattle.coefficients.specs.Dequantised.{valueOf1}
-use Rattle.coefficients.proofs.Words.{held}
+use Rattle.numbers.proofs.Words.{held}
 use Rattle.coefficients.proofs.inverse_quant.f_prime1.Statement.{statement}
 use Rattle.coefficients.proofs.inverse_quant.f_prime1.Tie as tie
 

@@ -8,8 +8,8 @@ use borrow.Author.Needs.{needs}
 use Rattle.ranges.specs.Range.{levelFine, quantiserFine}
 use Rattle.coefficients.specs.declared.refusal.Value.the-variants.{Is}
 use Rattle.coefficients.specs.Dequantised.{intraDc}
-use Rattle.coefficients.proofs.Words.{held}
-use Rattle.coefficients.proofs.Tests.{flag-passes, flag-refuses}
+use Rattle.numbers.proofs.Words.{held}
+use Rattle.numbers.proofs.Tests.{flag-passes, flag-refuses}
 use Rattle.coefficients.proofs.RangeLaws.{level-abs, quantiser-range}
 use Rattle.coefficients.proofs.inverse_quant.inverse_quant_intra_dc.Statement.{statement}
 use Rattle.coefficients.proofs.inverse_quant.inverse_quant_intra_dc.Tie as tie

@@ -10,8 +10,8 @@ use borrow.Author.Tests.{ne-eqb}
 use Rattle.ranges.specs.Range.{levelFine, quantiserFine}
 use Rattle.coefficients.specs.declared.refusal.Value.the-variants.{Is}
 use Rattle.coefficients.specs.Dequantised.{method1}
-use Rattle.coefficients.proofs.Words.{held}
-use Rattle.coefficients.proofs.Tests.{flag-passes, flag-refuses}
+use Rattle.numbers.proofs.Words.{held}
+use Rattle.numbers.proofs.Tests.{flag-passes, flag-refuses}
 use Rattle.coefficients.proofs.RangeLaws.{level-abs, quantiser-range}
 use Rattle.coefficients.proofs.inverse_quant.inverse_quant_method1_coef.Statement.{statement}
 use Rattle.coefficients.proofs.inverse_quant.inverse_quant_method1_coef.Tie as tie

@@ -5,7 +5,7 @@ use denote.Ref.{now}
 use borrow.Author.Needs.{needs}
 use Rattle.coefficients.specs.declared.refusal.CoefficientError.the-variants.{Context, OutOfRange}
 use Rattle.coefficients.specs.Dequantised.{answer2, blockFine, contextFine, dequantised2}
-use Rattle.coefficients.proofs.Tests.{flag-passes, flag-refuses}
+use Rattle.numbers.proofs.Tests.{flag-passes, flag-refuses}
 use Rattle.coefficients.proofs.RefusalLaws.{block-good, context-good}
 use Rattle.coefficients.proofs.AnswerLaws.{done-writes, refused-keeps}
 use Rattle.coefficients.proofs.inverse_quant.inverse_quant_method2.Statement.{statement}

@@ -8,9 +8,9 @@ use borrow.Author.Needs.{needs}
 use Rattle.coefficients.specs.declared.refusal.CoefficientError.the-variants.{Context, OutOfRange}
 use Rattle.coefficients.specs.declared.refusal.Stage.{Stage}
 use Rattle.coefficients.specs.declared.refusal.Stage.the-variants.{Done}
-use Rattle.coefficients.specs.Refusal.{all}
+use Rattle.numbers.specs.Every.{every}
 use Rattle.coefficients.specs.Dequantised.{answer1, blockFine, contextFine, dequantised1, mismatched, nonZero}
-use Rattle.coefficients.proofs.Tests.{flag-passes, flag-refuses}
+use Rattle.numbers.proofs.Tests.{flag-passes, flag-refuses}
 use Rattle.coefficients.proofs.RefusalLaws.{block-good, context-good}
 use Rattle.coefficients.proofs.LimitLaws.{fPrime1-small}
 use Rattle.coefficients.proofs.AnswerLaws.{done-writes, refused-keeps}
@@ -30,7 +30,7 @@ module _ (s : tie.Start) where
 context : (c : tie.Else1) → contextFine (c .before .before .args .ctx) ≡ true
 context c = flag-passes (c .before .context-fine .ensures) (c .if1 .left)
 
-matrix : (c : tie.Else2) → all (all nonZero) (c .before .before .before .before .args .w) ≡ true
+matrix : (c : tie.Else2) → every (every nonZero) (c .before .before .before .before .args .w) ≡ true
 matrix c = flag-passes (c .before .matrix-fine .ensures) (c .if2 .left)
 
 levels : (c : tie.Else3) → blockFine (c .before .before .before .before .before .before .args .qf) ≡ true

@@ -9,7 +9,7 @@ use borrow.Author.Needs.{needs}
 use Rattle.numbers.specs.Limit.{clampZ}
 use Rattle.numbers.proofs.Expressions.{Sx, loc, lit, _⊟_, back, fits, val}
 use Rattle.numbers.proofs.Words.{one-shl}
-use Rattle.coefficients.proofs.Words.{held}
+use Rattle.numbers.proofs.Words.{held}
 use Rattle.coefficients.proofs.LimitLaws.{top-small}
 use Rattle.coefficients.proofs.inverse_quant.saturate_fprime.Statement.{statement}
 use Rattle.coefficients.proofs.inverse_quant.saturate_fprime.Tie as tie

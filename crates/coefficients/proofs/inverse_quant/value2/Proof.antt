@@ -6,7 +6,7 @@ use lib.IntN.{ℤ}
 use mir.Facts.{toZ-ofZ}
 use borrow.Author.Needs.{needs}
 use Rattle.coefficients.specs.Dequantised.{intraDc, isDc, limitedF, method2, valueOf2}
-use Rattle.coefficients.proofs.Words.{held}
+use Rattle.numbers.proofs.Words.{held}
 use Rattle.coefficients.proofs.inverse_quant.value2.Statement.{statement}
 use Rattle.coefficients.proofs.inverse_quant.value2.Tie as tie
 

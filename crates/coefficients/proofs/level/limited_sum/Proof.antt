@@ -5,7 +5,7 @@ use Prim.Native.Nat.{ℕ, _-_, _≤_, _<_}
 use native.Mathlib.Omega.{arith}
 use lib.IntN.{ℤ, pos, _+ℤ_}
 use mir.Syntax.{w32}
-use Rattle.coefficients.proofs.Words.{held}
+use Rattle.numbers.proofs.Words.{held}
 use Rattle.coefficients.proofs.level.limited_sum.Statement.{statement}
 use Rattle.coefficients.specs.Level.{saturated}
 use Rattle.numbers.proofs.Expressions.{Sx, loc, _⊞_, fits, back}

@@ -8,8 +8,8 @@ use lib.ListN.{getD, length}
 use mir.Syntax.{w32}
 use borrow.Author.Count.{below-more}
 use borrow.Kind.Array.{eSInt, good-length}
-use Rattle.coefficients.proofs.Words.{held}
-use Rattle.coefficients.proofs.Tests.{flag-passes, flag-refuses}
+use Rattle.numbers.proofs.Words.{held}
+use Rattle.numbers.proofs.Tests.{flag-passes, flag-refuses}
 use Rattle.coefficients.proofs.RefusalLaws.{place-refused, places-pass}
 use Rattle.coefficients.proofs.level.places_fine.Statement.{statement}
 use Rattle.ranges.specs.Range.{differenceFine, levelFine}

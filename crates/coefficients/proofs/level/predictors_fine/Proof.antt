@@ -4,7 +4,7 @@ use mathlib.Core.Path.{_≡_, ap, _∙_}
 use mir.Syntax.{w32}
 use mir.Val.{ofZ, toZ}
 use borrow.Author.Needs.{needs}
-use Rattle.coefficients.proofs.Tests.{flag-passes, flag-refuses}
+use Rattle.numbers.proofs.Tests.{flag-passes, flag-refuses}
 use Rattle.coefficients.proofs.level.predictors_fine.Statement.{statement}
 use Rattle.coefficients.specs.Level.{valuesFine}
 use Rattle.coefficients.specs.declared.predictor.BlockPredictors.{BlockPredictors}

@@ -4,7 +4,7 @@ use mathlib.Core.Path.{_≡_, refl, ap, _∙_}
 use Prim.Native.Nat.{ℕ, _-_, _≤_, _<_}
 use native.Mathlib.Omega.{arith}
 use lib.IntN.{ℤ, pos}
-use Rattle.coefficients.proofs.Words.{held}
+use Rattle.numbers.proofs.Words.{held}
 use Rattle.coefficients.proofs.level.saturate_block.Statement.{statement}
 use Rattle.coefficients.specs.Level.{saturated}
 use Rattle.numbers.proofs.Fill.{rows, filled, rows-none, rows-all, row-begins, row-ends, fill-more}

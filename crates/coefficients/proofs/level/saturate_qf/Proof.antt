@@ -2,7 +2,7 @@
 use mathlib.Core.Path.{_∙_}
 use mir.Facts.{toZ-ofZ}
 use borrow.Author.Needs.{needs}
-use Rattle.coefficients.proofs.Words.{held}
+use Rattle.numbers.proofs.Words.{held}
 use Rattle.coefficients.proofs.level.saturate_qf.Statement.{statement}
 use Rattle.coefficients.proofs.level.saturate_qf.Tie as tie
 

@@ -10,7 +10,7 @@ use mir.Syntax.{w32}
 use borrow.Author.Tests.{not-false, not-true}
 use borrow.Kind.Array.{eSInt, good-length}
 use Rattle.numbers.proofs.Tests.{true-T}
-use Rattle.coefficients.proofs.Words.{held}
+use Rattle.numbers.proofs.Words.{held}
 use Rattle.coefficients.proofs.MissingLaws.{missing-adds-nothing}
 use Rattle.coefficients.proofs.predictor.ac_added.Statement.{statement}
 use Rattle.coefficients.specs.Prediction.{acPrediction}

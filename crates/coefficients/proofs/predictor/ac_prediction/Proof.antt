@@ -3,7 +3,7 @@ use mathlib.Core.Path.{ap, _∙_}
 use lib.IntN.{ℤ, pos}
 use mir.Syntax.{w32}
 use borrow.Author.Needs.{needs}
-use Rattle.coefficients.proofs.Words.{held}
+use Rattle.numbers.proofs.Words.{held}
 use Rattle.coefficients.proofs.PredictionLaws.{ac-prediction-abs}
 use Rattle.coefficients.proofs.predictor.ac_prediction.Statement.{statement}
 use Rattle.numbers.proofs.Expressions.{Sx, loc, _⊠_, fits, back}

@@ -8,9 +8,9 @@ use lib.ListN.{getD, length}
 use mir.Syntax.{w32}
 use borrow.Author.Count.{below-more}
 use borrow.Kind.Array.{eSInt, good-length}
-use Rattle.coefficients.proofs.Words.{held}
-use Rattle.coefficients.proofs.Tests.{flag-passes, flag-refuses}
-use Rattle.coefficients.proofs.AllLaws.{all-fails, all-in}
+use Rattle.numbers.proofs.Words.{held}
+use Rattle.numbers.proofs.Tests.{flag-passes, flag-refuses}
+use Rattle.numbers.proofs.Every.{every-fails, every-in}
 use Rattle.coefficients.proofs.predictor.all_levels.Statement.{statement}
 use Rattle.ranges.specs.Range.{levelFine}
 use Rattle.coefficients.proofs.predictor.all_levels.Tie as tie
@@ -46,7 +46,7 @@ value-is c = c .fine .ensures ∙ ap levelFine (held (value (c .before .before))
 returns : tie.Need-returns Inv-loop μ-loop
 returns c =
     let s = c .before .before .before .before .before in
-    sym (all-fails levelFine (pos 0) (s .args .t1) _ (omega (arith, seven s)) (flag-refuses (value-is (c .before)) (c .if1 .taken)))
+    sym (every-fails levelFine (pos 0) (s .args .t1) _ (omega (arith, seven s)) (flag-refuses (value-is (c .before)) (c .if1 .taken)))
 
 add-k : tie.Need-add-k Inv-loop μ-loop
 add-k c = omega arith
@@ -61,7 +61,7 @@ loop-again c =
 returns-2 : tie.Need-returns-2 Inv-loop μ-loop
 returns-2 c =
     let s = c .before .before in
-    sym (all-in levelFine (pos 0) (s .args .t1) (λ i h. c .before .loop .inv .1 i (omega (arith, seven s))))
+    sym (every-in levelFine (pos 0) (s .args .t1) (λ i h. c .before .loop .inv .1 i (omega (arith, seven s))))
 
 pub all-levels-spec : {M : Type 1} → statement M
 all-levels-spec =

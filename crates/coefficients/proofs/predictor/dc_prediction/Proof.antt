@@ -4,7 +4,7 @@ use Prim.Native.Nat.{_≤_}
 use lib.IntN.{ℤ, natAbs}
 use mir.Facts.{toZ-ofZ}
 use borrow.Author.Needs.{needs}
-use Rattle.coefficients.proofs.Words.{held}
+use Rattle.numbers.proofs.Words.{held}
 use Rattle.coefficients.proofs.PredictionLaws.{dc-prediction-abs}
 use Rattle.coefficients.proofs.predictor.dc_prediction.Statement.{statement}
 use Rattle.coefficients.specs.Prediction.{dcPrediction}

@@ -1,7 +1,7 @@
 -- `coefficients::predictor::dc_scaler` meets its contract: `scaler_of`, of a quantiser that passes. Assumes nothing.
 use native.Mathlib.Omega.{arith}
 use borrow.Author.Needs.{needs}
-use Rattle.coefficients.proofs.Tests.{flag-passes, flag-refuses}
+use Rattle.numbers.proofs.Tests.{flag-passes, flag-refuses}
 use Rattle.coefficients.proofs.RangeLaws.{quantiser-range}
 use Rattle.coefficients.proofs.predictor.dc_scaler.Statement.{statement}
 use Rattle.coefficients.proofs.predictor.dc_scaler.Tie as tie

@@ -3,8 +3,8 @@ use mathlib.Core.Path.{_≡_}
 use Prim.Native.Nat.{min}
 use native.Mathlib.Omega.{arith}
 use borrow.Author.Needs.{needs}
-use Rattle.coefficients.proofs.Words.{held}
-use Rattle.coefficients.proofs.Tests.{flag-passes, flag-refuses}
+use Rattle.numbers.proofs.Words.{held}
+use Rattle.numbers.proofs.Tests.{flag-passes, flag-refuses}
 use Rattle.coefficients.proofs.RangeLaws.{depth-range}
 use Rattle.coefficients.proofs.predictor.default_neighbour_dc.Statement.{statement}
 use Rattle.coefficients.proofs.predictor.default_neighbour_dc.Tie as tie

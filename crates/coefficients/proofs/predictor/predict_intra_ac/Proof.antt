@@ -5,13 +5,13 @@ use native.Mathlib.Omega.{arith}
 use lib.IntN.{pos}
 use lib.ListN.{getD}
 use borrow.Author.Needs.{needs}
-use Rattle.coefficients.proofs.Tests.{flag-passes, flag-refuses}
-use Rattle.coefficients.proofs.AllLaws.{all-at}
+use Rattle.numbers.proofs.Tests.{flag-passes, flag-refuses}
+use Rattle.numbers.proofs.Every.{every-get}
 use Rattle.coefficients.proofs.RangeLaws.{level-abs, quantiser-range}
 use Rattle.coefficients.proofs.RefusalLaws.{values-good}
 use Rattle.coefficients.proofs.predictor.predict_intra_ac.Statement.{statement}
 use Rattle.coefficients.specs.Level.{valuesFine}
-use Rattle.coefficients.specs.Refusal.{all}
+use Rattle.numbers.specs.Every.{every}
 use Rattle.ranges.specs.Range.{levelFine, quantiserFine}
 use Rattle.coefficients.proofs.predictor.predict_intra_ac.Tie as tie
 
@@ -19,7 +19,7 @@ use Rattle.coefficients.proofs.predictor.predict_intra_ac.Tie as tie
 context-ok : (c : tie.Else1) → quantiserFine (c .before .before .args .qp-x) ≡ true
 context-ok c = flag-passes (c .before .fine .ensures) (c .if1 .left)
 
-levels-ok : (c : tie.Else2) → all levelFine (c .before .before .before .before .args .pqfx) ≡ true
+levels-ok : (c : tie.Else2) → every levelFine (c .before .before .before .before .args .pqfx) ≡ true
 levels-ok c = flag-passes (c .before .all-levels .ensures) (c .if2 .left)
 
 quantiser-ok : (c : tie.Else3) → quantiserFine (c .before .before .before .before .before .before .args .qp) ≡ true
@@ -58,7 +58,7 @@ returns-4 c =
 ac-added-requires : tie.Need-ac-added-requires
 ac-added-requires c κs =
     let a = c .before .before .before .before .before .before .before .before .args in (
-      λ k h. level-abs (getD (a .pqfx) k (pos 0)) (all-at levelFine (pos 0) refl (a .pqfx) (levels-ok (c .before .before .before .before)) k),
+      λ k h. level-abs (getD (a .pqfx) k (pos 0)) (every-get levelFine (pos 0) refl (a .pqfx) (levels-ok (c .before .before .before .before)) k),
       λ t k h. values-good (a .has) (a .qf) (values-ok c) t k,
       omega (arith, quantiser-range (a .qp) (quantiser-ok (c .before .before))),
     )

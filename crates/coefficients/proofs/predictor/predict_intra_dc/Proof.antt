@@ -4,7 +4,7 @@ use mathlib.Core.Path.{_≡_, ap, _∙_}
 use mir.Facts.{toZ-ofZ}
 use mir.Syntax.{w32}
 use borrow.Author.Needs.{needs}
-use Rattle.coefficients.proofs.Tests.{flag-passes, flag-refuses}
+use Rattle.numbers.proofs.Tests.{flag-passes, flag-refuses}
 use Rattle.coefficients.proofs.RangeLaws.{dc-abs, difference-abs}
 use Rattle.coefficients.proofs.predictor.predict_intra_dc.Statement.{statement}
 use Rattle.numbers.proofs.Expressions.{Sx, loc, _⊞_, fits, back}

@@ -8,7 +8,7 @@ use mir.Syntax.{w32}
 use mir.Val.{ofZ, toZ}
 use borrow.Author.Needs.{needs}
 use Rattle.numbers.proofs.Tests.{true-T}
-use Rattle.coefficients.proofs.Words.{held}
+use Rattle.numbers.proofs.Words.{held}
 use Rattle.coefficients.proofs.PredictionBlock.{above-missing, aboveOf, column-all, column-begins, column-more, columnRows, dcOf, from-above, from-left, left-missing, leftOf, no-ac, none, row-all, row-begins, row-more, rowCells, shaped}
 use Rattle.coefficients.proofs.predictor.predictions.Statement.{statement}
 use Rattle.coefficients.specs.Prediction.{acPrediction, dcPrediction, directionBy, directionOf}

@@ -6,7 +6,7 @@ use lib.IntN.{pos}
 use lib.ListN.{drop}
 use borrow.Author.Needs.{needs}
 use borrow.Author.Tests.{not-true, not-false}
-use Rattle.numbers.proofs.Every.{every}
+use Rattle.numbers.specs.Every.{every}
 use Rattle.idct.specs.Limits.{inBounds}
 use Rattle.idct.proofs.Scans.{goes-on, stops, ends}
 use Rattle.idct.proofs.limits.row_within.Statement.{statement}

@@ -5,7 +5,7 @@ use Prim.Native.Nat.{_+_, _-_, _≤_}
 use native.Mathlib.Omega.{arith}
 use lib.ListN.{drop}
 use borrow.Author.Tests.{not-true, not-false}
-use Rattle.numbers.proofs.Every.{every}
+use Rattle.numbers.specs.Every.{every}
 use Rattle.idct.specs.Limits.{inBounds, valuesFine}
 use Rattle.idct.proofs.Scans.{goes-on, stops, ends}
 use Rattle.idct.proofs.limits.values_fine.Statement.{statement}

@@ -7,7 +7,7 @@ use lib.ListN.{drop, getD}
 use mir.Syntax.{w32}
 use borrow.Author.Needs.{needs}
 use borrow.Author.Tests.{eq-eqb, ne-eqb}
-use Rattle.numbers.proofs.Every.{every}
+use Rattle.numbers.specs.Every.{every}
 use Rattle.numbers.proofs.Words.{zero-abs, nonzero-abs}
 use Rattle.idct.specs.Transform.{isZero}
 use Rattle.idct.proofs.Scans.{goes-on, stops, ends}

@@ -3,8 +3,6 @@ use mathlib.Core.Path.{_∙_, ap, sym}
 use native.Mathlib.Nat.{le-of-suc-le-suc}
 use native.Mathlib.Omega.{arith}
 use lib.ListN.{length}
-use mir.Facts.{toZ-ofZ}
-use mir.Syntax.{w32}
 use denote.Ref.{now}
 use borrow.Author.Needs.{needs}
 use borrow.Author.Tests.{not-false, not-true}
@@ -12,9 +10,9 @@ use Rattle.bits.proofs.CursorLaws.{in-data-yes}
 use Rattle.bits.specs.Bits.{bitsFrom}
 use Rattle.codes.proofs.Fair.{dc-rows}
 use Rattle.codes.specs.DcSize.{dcCodes, dcLens}
-use Rattle.numbers.proofs.Words.{fits-ok}
 use Rattle.texture.proofs.ChainLaws.{number-in, number-is, refused-is, tables-are}
 use Rattle.texture.proofs.DcLaws.{dc-given, dc-no-code, dc-no-tail, dc-out, tail-small}
+use Rattle.numbers.proofs.Words.{held}
 use Rattle.texture.proofs.ReadLaws.{code-sound}
 use Rattle.texture.proofs.dc.decode_intra_dc.Statement.{statement}
 use Rattle.texture.specs.declared.error.TextureParseError.the-variants.{InvalidDcSize}
@@ -125,7 +123,7 @@ returns-4 c =
     let r = c .before .before .before .before .read-additional .ensures in
     let q = c .before .before .h2 .given .1 in
     dc-given d at m h _ _ (number-is d _ _ f (c .before .before .before .before .before .before .g2 .given .1)) _ _ _ (number-in d _ _ r q) (number-is d _ _ r q)
-    (toZ-ofZ (fits-ok w32 (c .decode-differential .result) (c .decode-differential .ok)) ∙ c .decode-differential .ensures)
+    (held (c .decode-differential .result) (c .decode-differential .ok) ∙ c .decode-differential .ensures)
 
 pub decode-intra-dc-spec : {M : Type 1} → statement M
 decode-intra-dc-spec = tie.close (tie.spec readable-requires returns dc-size-codes-requires dc-size-lens-requires slice-aggregate-read-code slice-aggregate-read-code-2 read-code-requires enum-known-g enum-known-g-2 read-additional-requires enum-known-h enum-known-h-2 decode-differential-requires returns-2 returns-3 returns-4)

@@ -2,10 +2,8 @@
 use mathlib.Core.Path.{_∙_, ap}
 use lib.Dec.{eqb}
 use lib.IntN.{ℤ}
-use mir.Facts.{toZ-ofZ}
-use mir.Syntax.{w32}
 use borrow.Author.Tests.{eq-eqb, ne-eqb}
-use Rattle.numbers.proofs.Words.{fits-ok}
+use Rattle.numbers.proofs.Words.{held}
 use Rattle.texture.proofs.event.settle.Statement.{statement}
 use Rattle.texture.specs.declared.event.EventRead.the-variants.{Event as EventIs}
 use Rattle.texture.proofs.event.settle.Tie as tie
@@ -22,7 +20,7 @@ sign-extend12-requires c κs = c .before .before .pre
 returns-3 : tie.Need-returns-3
 returns-3 c =
     let start = c .before .before .before in
-    let v = toZ-ofZ (fits-ok w32 (c .sign-extend12 .result) (c .sign-extend12 .ok)) ∙ c .sign-extend12 .ensures in
+    let v = held (c .sign-extend12 .result) (c .sign-extend12 .ok) ∙ c .sign-extend12 .ensures in
     ap (λ (z : ℤ). EventIs (record { last = eqb (start .args .last) 1; run = start .args .run; level = z }) (start .args .next)) v
     ∙ simp (ne-eqb _ _ (c .before .before .if1 .left), ne-eqb _ _ (c .before .if2 .left))
 

@@ -8,7 +8,7 @@ use denote.Ref.{now}
 use borrow.Author.Needs.{needs}
 use Rattle.bits.specs.Bits.{bitsFrom}
 use Rattle.numbers.proofs.Words.{fits-mag}
-use Rattle.texture.proofs.LoopLaws.{rest, Held, Turn, behind-no, ended, ended-is, held, rest-last, rest-more, rest-no, rest-start, startOf, turn}
+use Rattle.texture.proofs.LoopLaws.{rest, Held, Turn, behind-no, ended, ended-is, put-held, rest-last, rest-more, rest-no, rest-start, startOf, turn}
 use Rattle.texture.proofs.list.read_list.Statement.{statement}
 use Rattle.texture.specs.Answer.{listedOf, putOf, saidEvent}
 use Rattle.texture.specs.Event.{levelOf, runOf}
@@ -45,7 +45,7 @@ held-then : (c : tie.After-put Inv-loop μ-loop) → Held (c .put .result)
 held-then c =
     let t = here (c .before .before) in
     let l = c .before .before .before .before .before .before .loop in
-    subst⁻¹ Held (c .put .ensures) (held (l .st) _ _ (t .bounds .run-le) (l .inv .1))
+    subst⁻¹ Held (c .put .ensures) (put-held (l .st) _ _ (t .bounds .run-le) (l .inv .1))
 
 loop-holds : tie.Need-loop-holds Inv-loop μ-loop
 loop-holds c = let p = c .before .before .before .before .pre in (p .0 .0, record { place-le = let h = p .2 in omega arith; bad-le = omega arith }, refl)

@@ -3,10 +3,8 @@ use mathlib.Core.Path.{_∙_, ap}
 use Prim.Native.Nat.{_+_, ℕ}
 use lib.Dec.{eqb}
 use lib.IntN.{ℤ}
-use mir.Facts.{toZ-ofZ}
-use mir.Syntax.{w32}
 use borrow.Author.Needs.{needs}
-use Rattle.numbers.proofs.Words.{fits-ok}
+use Rattle.numbers.proofs.Words.{held}
 use Rattle.texture.proofs.RowLaws.{same-event}
 use Rattle.texture.proofs.row.row_event.Statement.{statement}
 use Rattle.texture.specs.declared.event.AcEvent.{AcEvent}
@@ -43,7 +41,7 @@ returns : tie.Need-returns
 returns c =
     let a = c .before .before .before .before .before .args in
     ap {B = AcEvent} (λ (z : ℤ). record { last = eqb (c .before .before .before .number .result) 1; run = c .before .before .number2 .result + a .more-run; level = z })
-    (toZ-ofZ (fits-ok w32 (c .signed-level .result) (c .signed-level .ok)) ∙ c .signed-level .ensures)
+    (held (c .signed-level .result) (c .signed-level .ok) ∙ c .signed-level .ensures)
     ∙ same-event (a .sign) (c .before .before .before .number .ensures) (ap (λ (n : ℕ). n + a .more-run) (c .before .before .number2 .ensures)) (ap (λ (n : ℕ). n + a .more-level) (c .before .number3 .ensures))
 
 pub row-event-spec : {M : Type 1} → statement M

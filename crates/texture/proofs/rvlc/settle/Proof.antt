@@ -3,10 +3,8 @@ use mathlib.Core.Path.{_∙_, ap}
 use native.Mathlib.Omega.{arith}
 use lib.Dec.{eqb}
 use lib.IntN.{ℤ}
-use mir.Facts.{toZ-ofZ}
-use mir.Syntax.{w32}
 use borrow.Author.Tests.{eq-eqb, ne-eqb}
-use Rattle.numbers.proofs.Words.{fits-ok}
+use Rattle.numbers.proofs.Words.{held}
 use Rattle.texture.proofs.rvlc.settle.Statement.{statement}
 use Rattle.texture.specs.declared.event.EventRead.the-variants.{Event as EventIs}
 use Rattle.texture.proofs.rvlc.settle.Tie as tie
@@ -20,7 +18,7 @@ signed-level-requires c κs = let h = c .before .pre in omega arith
 returns-2 : tie.Need-returns-2
 returns-2 c =
     let start = c .before .before in
-    let v = toZ-ofZ (fits-ok w32 (c .signed-level .result) (c .signed-level .ok)) ∙ c .signed-level .ensures in
+    let v = held (c .signed-level .result) (c .signed-level .ok) ∙ c .signed-level .ensures in
     ap (λ (z : ℤ). EventIs (record { last = eqb (start .args .last) 1; run = start .args .run; level = z }) (start .args .next)) v
     ∙ simp (ne-eqb _ _ (c .before .if1 .left))
 

@@ -1,6 +1,6 @@
 -- `coefficients::predictor::BlockPredictors::outside` meets its contract: its three DCs are `missing_dc`'s. Assumes nothing.
 use borrow.Author.Needs.{needs}
-use Rattle.coefficients.proofs.Words.{held}
+use Rattle.numbers.proofs.Words.{held}
 use Rattle.coefficients.proofs.predictor.BlockPredictors.outside.Statement.{statement}
 use Rattle.coefficients.proofs.predictor.BlockPredictors.outside.Tie as tie
 
