@@ -1,4 +1,4 @@
--- The reader of a DC part reads its grammar, and its difference is small. Assumes nothing.
+-- The reader of a DC part reads its grammar, and the answer to one, case by case. Assumes nothing.
 use mathlib.Core.Bool.{Bool, cond, false, true}
 use mathlib.Core.List.{List, [], _∷_, append-assoc}
 use mathlib.Core.Path.{_≡_, _∙_, ap, ap₂, refl, subst₂, sym}

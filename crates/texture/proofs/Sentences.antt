@@ -19,7 +19,7 @@ use Rattle.texture.specs.Dc.{GoodDc, dcBits, readDc}
 use Rattle.texture.specs.Event.{GoodEvent, eventBits}
 use Rattle.texture.specs.EventReader.{event}
 use Rattle.texture.specs.Events.{GoodList, eventsBits, list, firstPlace}
-use Rattle.texture.specs.Macroblock.{Place, readBlock, blockBits, GoodBlock, readMacroblock, macroblockBits, GoodMacroblock, placesOfPattern}
+use Rattle.texture.specs.Macroblock.{Parts, Place, readBlock, blockBits, GoodBlock, readMacroblock, macroblockBits, GoodMacroblock, placesOfPattern}
 use Rattle.texture.specs.Reader.{Res, ok}
 use Rattle.texture.specs.Sentences.{Sentences}
 
@@ -57,6 +57,10 @@ module _ (dcCoded rev : Bool) where
 
   pub block-sentences : (s : Place) → Sentences (readBlock dcCoded rev s) (blockBits s) (GoodBlock dcCoded rev s)
   block-sentences s = sentences (block-reads s)
+
+  -- a block that is accepted is good
+  pub block-good : (s : Place) (b : Bits) (p : Parts) (r : Bits) → readBlock dcCoded rev s b ≡ ok p r → GoodBlock dcCoded rev s p
+  block-good s b p r q = block-reads s .sound b p r q .0
 
   pub macroblock-sentences : (p : List Bool) → Sentences (readMacroblock dcCoded rev p) (macroblockBits p) (GoodMacroblock dcCoded rev p)
   macroblock-sentences p = sentences (each-reads (readBlock dcCoded rev) blockBits (GoodBlock dcCoded rev) block-reads (placesOfPattern p))

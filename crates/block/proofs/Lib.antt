@@ -1,0 +1,8 @@
+-- The laws of this crate.
+pub mod ValueLaws
+pub mod SampleLaws
+pub mod PlaceLaws
+pub mod ReadingLaws
+pub mod StateLaws
+pub mod AnswerLaws
+pub mod Blocks

@@ -1,0 +1,63 @@
+-- The checks of the state, test by test, and what a state that passes is. Assumes nothing.
+use mathlib.Core.Bool.{Bool, cond, false, true, _&&_}
+use mathlib.Core.List.{List}
+use mathlib.Core.Path.{_≡_, ap, ap₂, refl, sym, _∙_}
+use Prim.Native.Nat.{ℕ}
+use native.Mathlib.Omega.{arith}
+use lib.ListN.{length}
+use Rattle.bits.specs.Bits.{bitsFrom}
+use Rattle.bits.specs.Cursor.{inData, remaining}
+use Rattle.bits.specs.declared.cursor.BitCount.{BitCount}
+use Rattle.bits.specs.declared.cursor.BitCount.the-variants.{Bits as CountIs, Refused as CountRefused}
+use Rattle.bits.specs.declared.error.BitReaderError.{BitReaderError}
+use Rattle.bits.specs.declared.error.BitReaderError.the-variants.{OutOfRange as BitsOut}
+use Rattle.coefficients.specs.Dequantised.{nonZero}
+use Rattle.coefficients.specs.Level.{predictorsFine}
+use Rattle.coefficients.specs.declared.predictor.BlockPredictors.{BlockPredictors}
+use Rattle.numbers.specs.Every.{every}
+use Rattle.ranges.specs.Range.{depthFine, quantiserFine}
+use Rattle.block.specs.Answer.{checkOf}
+use Rattle.block.specs.Values.{contextFine}
+use Rattle.block.specs.declared.context.MacroblockTextureContext.{MacroblockTextureContext}
+use Rattle.block.specs.declared.error.BlockAssemblyError.the-variants.{Context, OutOfRange, Predictor}
+use Rattle.block.specs.declared.error.Checked.{Checked}
+use Rattle.block.specs.declared.error.Checked.the-variants.{Bad, Fine}
+
+module _ (x : MacroblockTextureContext) (w : List (List ℕ)) where
+  pub context-by : (a b t : Bool) → quantiserFine (x .«quantiser_scale») ≡ a → depthFine (x .«bits_per_pixel») ≡ b → x .«quant_type» ≡ t
+      → contextFine x w ≡ (a && (b && cond t (every (every nonZero) w) true))
+  context-by a b t e f g =
+      ap₂ (λ (y z : Bool). y && z) e (ap₂ (λ (y z : Bool). y && cond z (every (every nonZero) w) true) f g)
+
+-- bits are counted exactly inside the data
+module _ (d : List ℕ) (at : ℕ) where
+  pub counted : (n : ℕ) (r : BitCount) → r ≡ remaining d at → r ≡ CountIs n → inData (length d) at ≡ true
+  counted n r e f = go (inData (length d) at) (sym f ∙ e)
+    where
+      go : (t : Bool) → CountIs n ≡ cond t (CountIs (length (bitsFrom d at))) (CountRefused BitsOut) → t ≡ true
+      go true q = refl
+      go false q = absurd (let z : _≡_ {A = ℕ} 0 1 = cc in omega arith)
+
+  pub not-counted : (n : BitReaderError) (r : BitCount) → r ≡ remaining d at → r ≡ CountRefused n → inData (length d) at ≡ false
+  not-counted n r e f = go (inData (length d) at) (sym f ∙ e)
+    where
+      go : (t : Bool) → CountRefused n ≡ cond t (CountIs (length (bitsFrom d at))) (CountRefused BitsOut) → t ≡ false
+      go true q = absurd (let z : _≡_ {A = ℕ} 0 1 = cc in omega arith)
+      go false q = refl
+
+  module _ (x : MacroblockTextureContext) (p : BlockPredictors) (w : List (List ℕ)) where
+    abbrev answered : Bool → Bool → Bool → Checked
+    answered a b t = cond a (cond b (cond t Fine (Bad Predictor)) (Bad Context)) (Bad OutOfRange)
+
+    pub check-by : (a b t : Bool) → inData (length d) at ≡ a → contextFine x w ≡ b → predictorsFine p ≡ t → checkOf d at x p w ≡ answered a b t
+    check-by a b t e f g = ap (λ (y : Bool). answered y (contextFine x w) (predictorsFine p)) e ∙ ap₂ (λ (y z : Bool). answered a y z) f g
+
+    -- a state that passes
+    pub all-fine : checkOf d at x p w ≡ Fine → (inData (length d) at ≡ true) × (contextFine x w ≡ true) × (predictorsFine p ≡ true)
+    all-fine q = go (inData (length d) at) (contextFine x w) (predictorsFine p) q
+      where
+        go : (a b t : Bool) → answered a b t ≡ Fine → (a ≡ true) × (b ≡ true) × (t ≡ true)
+        go true true true q = (refl, refl, refl)
+        go true true false q = absurd (let z : _≡_ {A = ℕ} 0 1 = cc in omega arith)
+        go true false t q = absurd (let z : _≡_ {A = ℕ} 0 1 = cc in omega arith)
+        go false b t q = absurd (let z : _≡_ {A = ℕ} 0 1 = cc in omega arith)

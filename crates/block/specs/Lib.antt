@@ -1,0 +1,4 @@
+-- One intra block: its values, its samples, and what is answered of it.
+pub mod Values
+pub mod Reading
+pub mod Answer

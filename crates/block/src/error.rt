@@ -1,0 +1,92 @@
+// Why a block is refused.
+ghost use mathlib.Core.Path.{_≡_};
+ghost use Rattle.block.specs.Answer.{checkOf, figureOf, numberOf};
+ghost use Rattle.block.specs.Values.{contextFine};
+use crate::context::MacroblockTextureContext;
+use bits::BitCount;
+use bits::Cursor;
+use coefficients::BlockPredictors;
+use texture::TextureParseError;
+
+pub enum BlockAssemblyError {
+    // 11: a block index above 5, data too long, or a start past its end
+    OutOfRange,
+    // 12: quantiser, depth, or a zero in the matrix under method 1
+    Context,
+    // 13: a predictor
+    Predictor,
+    // 1 to 8
+    Texture(TextureParseError),
+}
+
+impl BlockAssemblyError {
+    // Document 01's number.
+    pub fn number(self) -> u32
+        ensures { λ r. ⌜ r ≡ numberOf self ⌝ }
+    {
+        match self {
+            BlockAssemblyError::OutOfRange => 11,
+            BlockAssemblyError::Context => 12,
+            BlockAssemblyError::Predictor => 13,
+            BlockAssemblyError::Texture(e) => e.number(),
+        }
+    }
+
+    // Its figure: a window or a landing; 0 where there is none.
+    pub fn figure(self) -> u32
+        ensures { λ r. ⌜ r ≡ figureOf self ⌝ }
+    {
+        match self {
+            BlockAssemblyError::OutOfRange => 0,
+            BlockAssemblyError::Context => 0,
+            BlockAssemblyError::Predictor => 0,
+            BlockAssemblyError::Texture(e) => e.figure(),
+        }
+    }
+}
+
+// Whether the state is fine.
+pub enum Checked {
+    Fine,
+    Bad(BlockAssemblyError),
+}
+
+fn context_fine(ctx: MacroblockTextureContext, w: [[u8; 8]; 8]) -> bool
+    ensures { λ r. ⌜ r ≡ contextFine ctx w ⌝ }
+{
+    if !ranges::Quantiser::fine(ctx.quantiser_scale) {
+        return false;
+    }
+    if !ranges::Depth::fine(ctx.bits_per_pixel) {
+        return false;
+    }
+    if ctx.quant_type {
+        return coefficients::matrix_fine(w);
+    }
+    true
+}
+
+// The state, before any bit: 11, 12, 13.
+pub(crate) fn check(
+    data: &[u8],
+    c: Cursor,
+    ctx: MacroblockTextureContext,
+    predictors: BlockPredictors,
+    w: [[u8; 8]; 8],
+) -> Checked
+    ensures { λ r. ⌜ r ≡ checkOf (now («data» .entry)) (c .«bit_pos») ctx predictors w ⌝ }
+{
+    let left = c.remaining_bits(data);
+    match left {
+        BitCount::Refused(_) => Checked::Bad(BlockAssemblyError::OutOfRange),
+        BitCount::Bits(_) => {
+            if !context_fine(ctx, w) {
+                return Checked::Bad(BlockAssemblyError::Context);
+            }
+            if !coefficients::predictors_fine(predictors) {
+                return Checked::Bad(BlockAssemblyError::Predictor);
+            }
+            Checked::Fine
+        }
+    }
+}

@@ -1,0 +1,101 @@
+// One intra block, from its bits to its samples (decode_intra_block_full and its reversible form).
+ghost use mathlib.Core.Path.{_≡_};
+ghost use mathlib.Core.Bool.{true};
+ghost use Rattle.bits.specs.Bits.{bitsFrom};
+ghost use Rattle.coefficients.specs.Level.{predictorsFine};
+ghost use Rattle.texture.specs.Answer.{Readable};
+ghost use Rattle.texture.specs.Macroblock.{readBlock};
+ghost use Rattle.block.specs.Answer.{blockAnswer, levelsAfter, levelsTold, samplesAfter, samplesTold, told};
+ghost use Rattle.block.specs.Values.{contextFine};
+use crate::context::MacroblockTextureContext;
+use crate::error::BlockAssemblyError;
+use crate::error::Checked;
+use bits::Cursor;
+use codes::BlockComponent;
+use codes::DcComponent;
+use coefficients::BlockPredictors;
+use texture::EventsRead;
+
+// The dequantised DC and the cursor after the block, or a refusal.
+pub enum BlockDecoded {
+    Decoded(i32, Cursor),
+    Refused(BlockAssemblyError),
+}
+
+// A block of a component, once the state is checked.
+fn decode_checked(
+    data: &[u8],
+    c: Cursor,
+    component: DcComponent,
+    coded: bool,
+    dc_coded: bool,
+    reversible: bool,
+    ctx: MacroblockTextureContext,
+    predictors: BlockPredictors,
+    w: [[u8; 8]; 8],
+    spatial: &mut [[i32; 8]; 8],
+    qf: &mut [[i32; 8]; 8],
+) -> BlockDecoded
+    requires { ⌜ Readable (now «data») c × (contextFine ctx w ≡ true) × (predictorsFine predictors ≡ true) ⌝ }
+    ensures { λ r. ⌜ r ≡ told (now («data» .entry)) component «dc_coded» ctx predictors w (readBlock «dc_coded» reversible (component, coded) (bitsFrom (now («data» .entry)) (c .«bit_pos»))) ⌝ }
+    ensures samples { λ r. ⌜ now (spatial .exit) ≡ samplesTold (now («data» .entry)) component «dc_coded» ctx predictors w (readBlock «dc_coded» reversible (component, coded) (bitsFrom (now («data» .entry)) (c .«bit_pos»))) (now (spatial .entry)) ⌝ }
+    ensures levels { λ r. ⌜ now (qf .exit) ≡ levelsTold (now («data» .entry)) component «dc_coded» ctx predictors w (readBlock «dc_coded» reversible (component, coded) (bitsFrom (now («data» .entry)) (c .«bit_pos»))) (now (qf .entry)) ⌝ }
+{
+    let one = crate::read::read_block(data, c, component, coded, dc_coded, reversible);
+    let answer = one.answer;
+    match answer {
+        EventsRead::Refused(e) => BlockDecoded::Refused(BlockAssemblyError::Texture(e)),
+        EventsRead::Read(next) => {
+            let places = one.qfs;
+            let levels = crate::reconstruct::levels_of(places, component, ctx, predictors);
+            let values = crate::reconstruct::values_of(levels, component, ctx, w);
+            let samples = crate::reconstruct::samples_of(values, ctx);
+            *spatial = samples;
+            *qf = levels;
+            BlockDecoded::Decoded(values[0][0], next)
+        }
+    }
+}
+
+// Block i of a macroblock: its DC part, where `use_intra_dc_vlc` is set, and its list, where it is coded.
+pub fn decode_intra_block_full(
+    data: &[u8],
+    c: Cursor,
+    i: usize,
+    coded: bool,
+    use_intra_dc_vlc: bool,
+    reversible_vlc: bool,
+    ctx: MacroblockTextureContext,
+    predictors: BlockPredictors,
+    quant_matrix: [[u8; 8]; 8],
+    spatial: &mut [[i32; 8]; 8],
+    qf: &mut [[i32; 8]; 8],
+) -> BlockDecoded
+    ensures { λ r. ⌜ r ≡ blockAnswer (now («data» .entry)) (c .«bit_pos») coded «use_intra_dc_vlc» «reversible_vlc» ctx predictors «quant_matrix» i ⌝ }
+    ensures samples { λ r. ⌜ now (spatial .exit) ≡ samplesAfter (now («data» .entry)) (c .«bit_pos») coded «use_intra_dc_vlc» «reversible_vlc» ctx predictors «quant_matrix» i (now (spatial .entry)) ⌝ }
+    ensures levels { λ r. ⌜ now (qf .exit) ≡ levelsAfter (now («data» .entry)) (c .«bit_pos») coded «use_intra_dc_vlc» «reversible_vlc» ctx predictors «quant_matrix» i (now (qf .entry)) ⌝ }
+{
+    let component = DcComponent::from_block_index(i);
+    match component {
+        BlockComponent::OutOfRange => BlockDecoded::Refused(BlockAssemblyError::OutOfRange),
+        BlockComponent::Component(m) => {
+            let checked = crate::error::check(data, c, ctx, predictors, quant_matrix);
+            match checked {
+                Checked::Bad(e) => BlockDecoded::Refused(e),
+                Checked::Fine => decode_checked(
+                    data,
+                    c,
+                    m,
+                    coded,
+                    use_intra_dc_vlc,
+                    reversible_vlc,
+                    ctx,
+                    predictors,
+                    quant_matrix,
+                    spatial,
+                    qf,
+                ),
+            }
+        }
+    }
+}
