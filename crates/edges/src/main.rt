@@ -121,8 +121,8 @@ fn list_rvlc(name: &[u8], data: &[u8], at: usize, dc_coded: bool) {
     print_list(answer, qfs);
 }
 
-// DC parts: size, difference and the position after it.
-fn dc_parts() {
+// DC parts that are not there.
+fn dc_without_a_code() {
     dc(
         b"no bits left, luminance",
         &[0xFF],
@@ -147,6 +147,12 @@ fn dc_parts() {
         7,
         DcComponent::Chrominance,
     );
+    dc(b"no code", &[0x00, 0x00], 0, DcComponent::Luminance);
+    dc(b"start past the end", &[0xFF], 9, DcComponent::Luminance);
+}
+
+// DC parts: size, difference and the position after it.
+fn dc_examples() {
     dc(b"P1", &[0xC0], 0, DcComponent::Luminance);
     dc(b"P1", &[0xE0], 0, DcComponent::Luminance);
     dc(b"P2", &[0x01, 0x80, 0x40], 0, DcComponent::Luminance);
@@ -170,17 +176,15 @@ fn dc_parts() {
     );
 }
 
-// DC parts: size, difference and the position after it.
-fn dc_parts_2() {
-    dc(b"no code", &[0x00, 0x00], 0, DcComponent::Luminance);
-    dc(b"start past the end", &[0xFF], 9, DcComponent::Luminance);
-}
-
-// Plain events: last, run, level and the position after it.
-fn events() {
+// Plain events that are not there.
+fn event_without_bits() {
     event(b"no bits left, intra", &[0xFF], 8, TcoefTable::Intra);
     event(b"no bits left, inter", &[0xFF], 8, TcoefTable::Inter);
     event(b"start past the end", &[0xFF], 9, TcoefTable::Intra);
+}
+
+// Plain events: last, run, level and the position after it.
+fn event_examples() {
     event(b"P3", &[0x78], 0, TcoefTable::Intra);
     event(b"P4", &[0x06, 0x70], 0, TcoefTable::Intra);
     event(b"P5", &[0x07, 0x38], 0, TcoefTable::Intra);
@@ -191,6 +195,10 @@ fn events() {
         0,
         TcoefTable::Intra,
     );
+}
+
+// Escapes that are refused.
+fn event_escapes() {
     event(
         b"type 3 level 0",
         &[0x07, 0xC0, 0x80, 0x04],
@@ -203,10 +211,6 @@ fn events() {
         0,
         TcoefTable::Intra,
     );
-}
-
-// Plain events: last, run, level and the position after it.
-fn events_2() {
     event(
         b"type 3 first marker 0",
         &[0x07, 0xC0, 0x00, 0x0C],
@@ -228,11 +232,15 @@ fn events_2() {
     event(b"escape alone", &[0x83], 1, TcoefTable::Intra);
 }
 
-// Reversible events.
-fn reversible_events() {
+// Reversible events that are not there.
+fn reversible_without_bits() {
     event_rvlc(b"no bits left, intra", &[0xFF], 8, TcoefTable::Intra);
     event_rvlc(b"no bits left, inter", &[0xFF], 8, TcoefTable::Inter);
     event_rvlc(b"start past the end", &[0xFF], 9, TcoefTable::Intra);
+}
+
+// Reversible escapes.
+fn reversible_escapes() {
     event_rvlc(
         b"reversible escape",
         &[0x0C, 0x08, 0x05, 0x84],
@@ -263,6 +271,10 @@ fn reversible_events() {
         3,
         TcoefTable::Intra,
     );
+}
+
+// Reversible escapes with a marker 0.
+fn reversible_markers() {
     event_rvlc(
         b"reversible first marker 0",
         &[0x0C, 0x00, 0x05, 0x84],
@@ -277,9 +289,32 @@ fn reversible_events() {
     );
 }
 
-// Lists of plain events: the position after it, then each place with its level.
-fn lists() {
+// How plain lists end.
+fn plain_list_ends() {
     list(b"no bits left", &[0xFF], 8, true);
+    list(
+        b"after a DC, run 63 without last, no bits",
+        &[0xC1, 0xEF, 0xE0, 0x0B],
+        2,
+        true,
+    );
+    list(
+        b"after a DC, run 63 without last, then no code",
+        &[0xC1, 0xEF, 0xE0, 0x0B, 0x00, 0x00],
+        2,
+        true,
+    );
+    list(
+        b"without a DC, two events",
+        &[0xF0, 0x78, 0x28, 0x02, 0xC1, 0xF0, 0xE0, 0x0B],
+        4,
+        false,
+    );
+    list(b"start past the end", &[0xFF], 9, true);
+}
+
+// Where plain lists land: the position after it, then each place with its level.
+fn plain_landings() {
     list(
         b"after a DC, last, run 62",
         &[0xC1, 0xFF, 0xA0, 0x0B],
@@ -299,18 +334,6 @@ fn lists() {
         false,
     );
     list(
-        b"after a DC, run 63 without last, no bits",
-        &[0xC1, 0xEF, 0xE0, 0x0B],
-        2,
-        true,
-    );
-    list(
-        b"after a DC, run 63 without last, then no code",
-        &[0xC1, 0xEF, 0xE0, 0x0B, 0x00, 0x00],
-        2,
-        true,
-    );
-    list(
         b"after a DC, run 63 twice",
         &[0xF0, 0x7B, 0xF8, 0x02, 0xC1, 0xFF, 0xE0, 0x0B],
         4,
@@ -322,18 +345,34 @@ fn lists() {
         4,
         true,
     );
-    list(
+}
+
+// How reversible lists end.
+fn reversible_list_ends() {
+    list_rvlc(b"no bits left", &[0xFF], 8, true);
+    list_rvlc(
+        b"after a DC, run 63 without last, no bits",
+        &[0xC2, 0xFE, 0x01, 0x60],
+        2,
+        true,
+    );
+    list_rvlc(
+        b"after a DC, run 63 without last, then no code",
+        &[0xC2, 0xFE, 0x01, 0x60, 0x00, 0x00],
+        2,
+        true,
+    );
+    list_rvlc(
         b"without a DC, two events",
-        &[0xF0, 0x78, 0x28, 0x02, 0xC1, 0xF0, 0xE0, 0x0B],
+        &[0xF0, 0x82, 0x80, 0x58, 0x03, 0x0E, 0x01, 0x60],
         4,
         false,
     );
-    list(b"start past the end", &[0xFF], 9, true);
+    list_rvlc(b"start past the end", &[0xFF], 9, true);
 }
 
-// Lists of reversible events.
-fn reversible_lists() {
-    list_rvlc(b"no bits left", &[0xFF], 8, true);
+// Where reversible lists land.
+fn reversible_landings() {
     list_rvlc(
         b"after a DC, last, run 62",
         &[0xC3, 0xFA, 0x01, 0x60],
@@ -353,18 +392,6 @@ fn reversible_lists() {
         false,
     );
     list_rvlc(
-        b"after a DC, run 63 without last, no bits",
-        &[0xC2, 0xFE, 0x01, 0x60],
-        2,
-        true,
-    );
-    list_rvlc(
-        b"after a DC, run 63 without last, then no code",
-        &[0xC2, 0xFE, 0x01, 0x60, 0x00, 0x00],
-        2,
-        true,
-    );
-    list_rvlc(
         b"after a DC, run 63 twice",
         &[0xF0, 0xBF, 0x80, 0x58, 0x03, 0xFE, 0x01, 0x60],
         4,
@@ -376,21 +403,19 @@ fn reversible_lists() {
         4,
         true,
     );
-    list_rvlc(
-        b"without a DC, two events",
-        &[0xF0, 0x82, 0x80, 0x58, 0x03, 0x0E, 0x01, 0x60],
-        4,
-        false,
-    );
-    list_rvlc(b"start past the end", &[0xFF], 9, true);
 }
 
 fn main() {
-    dc_parts();
-    dc_parts_2();
-    events();
-    events_2();
-    reversible_events();
-    lists();
-    reversible_lists();
+    dc_without_a_code();
+    dc_examples();
+    event_without_bits();
+    event_examples();
+    event_escapes();
+    reversible_without_bits();
+    reversible_escapes();
+    reversible_markers();
+    plain_list_ends();
+    plain_landings();
+    reversible_list_ends();
+    reversible_landings();
 }
