@@ -365,8 +365,8 @@ fn event(dice: &mut Dice, bits: &mut Bits, reversible: bool, last: bool, most: u
     run
 }
 
-// A DC part and 1 to 20 events, as the call reads them (0 where it is not coded); if they are to fit, every landing is below 64.
-fn sentence(dice: &mut Dice, c: &Call, fits: bool) -> Bits {
+// A DC part and 1 to `longest` events, as the call reads them (none where it is not coded); if they are to fit, every landing is below 64.
+fn sentence(dice: &mut Dice, c: &Call, fits: bool, longest: usize) -> Bits {
     let mut bits = Bits::new();
     let [coded, dc_coded, reversible] = c.reading;
     if dc_coded {
@@ -374,7 +374,7 @@ fn sentence(dice: &mut Dice, c: &Call, fits: bool) -> Bits {
     }
     if coded {
         let mut place = usize::from(dc_coded);
-        let count = 1 + dice.below(20);
+        let count = 1 + dice.below(longest);
         let usual = [0, 1, 3, 99][dice.below(4)];
         for k in 1..=count {
             let last = k == count || (fits && place == 63);
@@ -395,10 +395,10 @@ struct Test {
     data: Vec<u8>,
     counts: [u64; 14],
     all: [u64; 14],
-    seen: [u64; 8],
+    seen: [u64; 9],
 }
 
-const SEEN: [&str; 8] = [
+const SEEN: [&str; 9] = [
     "method 1",
     "method 1 with mismatch control",
     "AC predicted from A",
@@ -406,6 +406,7 @@ const SEEN: [&str; 8] = [
     "reversible",
     "without a DC part",
     "a level at its limit",
+    "64 samples inside their range",
     "the other rule gives other samples",
 ];
 
@@ -444,6 +445,7 @@ impl Test {
             c.reading[2] && c.reading[0],
             !c.reading[1],
             b.levels.iter().flatten().any(|&z| z == -2048 || z == 2047),
+            b.samples.iter().flatten().all(|&z| z > 0 && z < (1 << c.bits_per_pixel) - 1),
             due(&other, data, at).samples != b.samples,
         ];
         for (n, x) in self.seen.iter_mut().zip(what) {
@@ -469,7 +471,7 @@ impl Test {
 fn sentences(test: &mut Test, dice: &mut Dice, n: usize) {
     for k in 0..n {
         let c = call(dice);
-        let one = sentence(dice, &c, k % 8 != 0);
+        let one = sentence(dice, &c, k % 8 != 0, 20);
         test.bits(dice, &c, &one);
         let mut more = one.clone();
         push(&mut more, dice.next(), dice.below(65));
@@ -477,16 +479,27 @@ fn sentences(test: &mut Test, dice: &mut Dice, n: usize) {
         test.bits(dice, &other, &more);
     }
     test.says("sentences, and with other bits after");
+    // grey neighbours and at most two events: samples inside their range, and halves
+    for _ in 0..n {
+        let mut c = call(dice);
+        let middle = 4 << c.bits_per_pixel;
+        c.reading[0] = dice.flag();
+        c.flags[1] = c.flags[1] && dice.below(4) == 0;
+        c.dcs.iter_mut().for_each(|z| *z = middle + dice.within(-middle / 2, middle / 2));
+        let one = sentence(dice, &c, true, 2);
+        test.bits(dice, &c, &one);
+    }
+    test.says("short sentences, grey neighbours");
     for _ in 0..n {
         let c = call(dice);
-        let one = sentence(dice, &c, true);
+        let one = sentence(dice, &c, true, 20);
         let kept = dice.below(one.len() + 1);
         test.bits(dice, &c, &one[..kept]);
     }
     test.says("cut sentences");
     for _ in 0..n {
         let c = call(dice);
-        let mut bad = sentence(dice, &c, true);
+        let mut bad = sentence(dice, &c, true, 20);
         push(&mut bad, dice.next(), dice.below(65));
         for _ in 0..1 + dice.below(3) {
             if !bad.is_empty() {
@@ -519,7 +532,7 @@ fn call_like(dice: &mut Dice, c: &Call) -> Call {
 fn states(test: &mut Test, dice: &mut Dice, n: usize) {
     for _ in 0..n {
         let mut c = call(dice);
-        let one = sentence(dice, &c, true);
+        let one = sentence(dice, &c, true, 20);
         let mut at = bytes_of(&mut test.data, &one, dice.below(20), dice.next());
         let data = std::mem::take(&mut test.data);
         for _ in 0..1 + dice.below(2) {
