@@ -2,3 +2,5 @@
 pub mod Values
 pub mod Reading
 pub mod Answer
+pub mod Pattern
+pub mod Matrix

@@ -6,6 +6,8 @@
 mod context;
 mod error;
 mod intra;
+mod matrix;
+mod pattern;
 mod read;
 mod reconstruct;
 
@@ -13,3 +15,5 @@ pub use context::MacroblockTextureContext;
 pub use error::BlockAssemblyError;
 pub use intra::BlockDecoded;
 pub use intra::decode_intra_block_full;
+pub use matrix::default_intra_quant_matrix;
+pub use pattern::pattern_code;
