@@ -110,7 +110,8 @@ fn state(c: &Call, data: &[u8], at: usize) -> u32 {
     if c.i > 5 || data.len() > MOST_BYTES || at > 8 * data.len() {
         return 11;
     }
-    if !quantiser(c.quantiser_scale) || !(4..=12).contains(&c.bits_per_pixel) || (c.flags[0] && c.matrix.iter().flatten().any(|&w| w == 0)) {
+    if !quantiser(c.quantiser_scale) || !(4..=12).contains(&c.bits_per_pixel) || (c.flags[0] && c.matrix.iter().flatten().any(|&w| w == 0))
+    {
         return 12;
     }
     let dcs = c.dcs.iter().all(|z| (-65536..=65536).contains(z));
@@ -423,7 +424,11 @@ impl Test {
         let (a, b) = (ours(c, data, at), due(c, data, at));
         if a != b {
             let rest = data.get(at / 8..).unwrap_or(&[]);
-            println!("DIFFERS: {c:?}\n  at bit {at} of {} bytes, which go on with {:02x?}", data.len(), &rest[..rest.len().min(128)]);
+            println!(
+                "DIFFERS: {c:?}\n  at bit {at} of {} bytes, which go on with {:02x?}",
+                data.len(),
+                &rest[..rest.len().min(128)]
+            );
             println!("  ours:     {a:?}\n  original: {b:?}");
             std::process::exit(1);
         }
@@ -559,7 +564,9 @@ fn states(test: &mut Test, dice: &mut Dice, n: usize) {
 }
 
 fn main() {
-    let n: usize = std::env::args().nth(1).map_or(300_000, |n| n.parse().expect("a number of sentences"));
+    let n: usize = std::env::args()
+        .nth(1)
+        .map_or(300_000, |n| n.parse().expect("a number of sentences"));
     let (mut test, mut dice) = (Test::default(), Dice(1));
     sentences(&mut test, &mut dice, n);
     states(&mut test, &mut dice, n / 3);
@@ -568,6 +575,9 @@ fn main() {
         println!("  {n:>9} {what}");
     }
     let blocks: u64 = test.all.iter().sum();
-    let outcomes: Vec<String> = (1..14).filter(|&k| test.all[k] > 0).map(|k| format!("{} by {k}", test.all[k])).collect();
+    let outcomes: Vec<String> = (1..14)
+        .filter(|&k| test.all[k] > 0)
+        .map(|k| format!("{} by {k}", test.all[k]))
+        .collect();
     println!("{blocks} blocks, {} accepted, {}: no difference", test.all[0], outcomes.join(", "));
 }
