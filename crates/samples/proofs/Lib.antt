@@ -1,0 +1,4 @@
+-- The laws of this crate, each file over those above it.
+pub mod OneBlock
+pub mod SixBlocks
+pub mod LayoutLaws

@@ -1,0 +1,2 @@
+-- The samples of a macroblock, by block, row and column.
+pub mod Samples

@@ -1,0 +1,34 @@
+-- How the six 8x8 blocks of a macroblock lie in its 384 samples: luma 16 wide, blocks 0 and 1 above 2 and 3, then Cb, then Cr. Definitions only.
+use mathlib.Core.Bool.{cond, _&&_}
+use mathlib.Core.List.{List, [], _++_}
+use Prim.Native.Nat.{ℕ, _+_, _*_, _/_, _%_, _-_}
+use lib.Dec.{leb, ltb}
+use lib.IntN.{ℤ, pos}
+use lib.ListN.{length, getD, drop}
+use Rattle.numbers.specs.Grid.{build, cell}
+
+-- where row y, column x of block i stands among the 384
+abbrev pub placeOf : ℕ → ℕ → ℕ → ℕ
+placeOf i y x = cond (ltb i 4) ((8 * (i / 2) + y) * 16 + 8 * (i % 2) + x) (256 + 64 * (i - 4) + 8 * y + x)
+
+-- and back: the block, row and column of sample k
+abbrev pub blockOf : ℕ → ℕ
+blockOf k = cond (ltb k 256) (k / 128 * 2 + k % 16 / 8) (k / 64)
+
+abbrev pub rowOf : ℕ → ℕ
+rowOf k = cond (ltb k 256) (k / 16 % 8) (k % 64 / 8)
+
+abbrev pub colOf : ℕ → ℕ
+colOf k = k % 8
+
+-- the 384 samples of six blocks
+unfoldable pub mbSamples : List (List (List ℤ)) → List ℤ
+mbSamples blocks = build 384 (λ (k : ℕ). cell (getD blocks (blockOf k) []) (rowOf k) (colOf k))
+
+-- what samples s hold after a macroblock: its 384 from the front, or s where they are fewer
+abbrev pub samplesAfter : List (List (List ℤ)) → List ℤ → List ℤ
+samplesAfter blocks s = cond (leb 384 (length s)) (mbSamples blocks ++ drop 384 s) s
+
+-- what a part of them holds after block b, its rows w apart: at k the cell at row k / w, column k % w, or what stood there
+unfoldable pub written : List ℤ → ℕ → List (List ℤ) → List ℤ
+written s w b = build (length s) (λ (k : ℕ). cond (ltb (k / w) 8 && ltb (k % w) 8) (cell b (k / w) (k % w)) (getD s k (pos 0)))

@@ -1,0 +1,40 @@
+// How the six blocks of a macroblock lie in its 384 samples (IntraMacroblock of block.rs): luma 16 wide, blocks 0 and 1 above 2 and 3; Cb; Cr.
+ghost use mathlib.Core.Path.{_≡_};
+ghost use Prim.Native.Nat.{_≤_, _+_, _*_};
+ghost use lib.ListN.{length};
+ghost use Rattle.samples.specs.Samples.{mbSamples, samplesAfter, written};
+
+// The eight rows of a block, `row_length` apart, from the start of `part`.
+fn write_block(part: &mut [i32], row_length: usize, block: [[i32; 8]; 8])
+    requires { ⌜ (8 ≤ «row_length») × («row_length» ≤ 16) × («row_length» * 7 + 8 ≤ length (now part)) ⌝ }
+    ensures { λ r. ⌜ now (part .exit) ≡ written (now (part .entry)) «row_length» block ⌝ }
+{
+    for y in 0..8 {
+        for x in 0..8 {
+            part[y * row_length + x] = block[y][x];
+        }
+    }
+}
+
+// The six blocks, each into its part.
+fn write_all(samples: &mut [i32], blocks: [[[i32; 8]; 8]; 6])
+    requires { ⌜ length (now samples) ≡ 384 ⌝ }
+    ensures { λ r. ⌜ now (samples .exit) ≡ mbSamples blocks ⌝ }
+{
+    write_block(&mut samples[0..256], 16, blocks[0]);
+    write_block(&mut samples[8..256], 16, blocks[1]);
+    write_block(&mut samples[128..256], 16, blocks[2]);
+    write_block(&mut samples[136..256], 16, blocks[3]);
+    write_block(&mut samples[256..320], 8, blocks[4]);
+    write_block(&mut samples[320..384], 8, blocks[5]);
+}
+
+// The first 384 samples, where there are as many; otherwise nothing is written.
+pub fn write_macroblock(samples: &mut [i32], blocks: [[[i32; 8]; 8]; 6])
+    ensures { λ r. ⌜ now (samples .exit) ≡ samplesAfter blocks (now (samples .entry)) ⌝ }
+{
+    if samples.len() < 384 {
+        return;
+    }
+    write_all(&mut samples[0..384], blocks);
+}
