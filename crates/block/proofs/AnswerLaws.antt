@@ -18,7 +18,7 @@ use Rattle.idct.specs.Limits.{inBounds, valuesFine}
 use Rattle.numbers.specs.Every.{every}
 use Rattle.numbers.specs.Grid.{cell}
 use Rattle.ranges.specs.Range.{depthFine}
-use Rattle.texture.proofs.Sentences.{block-good}
+use Rattle.texture.proofs.Sentences.{block-sentences}
 use Rattle.texture.specs.Answer.{after}
 use Rattle.texture.specs.Macroblock.{GoodBlock, Parts, readBlock}
 use Rattle.texture.specs.Reader.{Res, ok, no}
@@ -56,7 +56,7 @@ module _ (d : List ℕ) (at : ℕ) (m : DcComponent) (coded dcCoded rev : Bool) 
             read = e;
             place = p;
             qfs-is = k;
-            fine = subst⁻¹ (λ (xs : List ℤ). placesFine xs ≡ true) k (good-places rev dcCoded (m, coded) s (block-good dcCoded rev (m, coded) (bitsFrom d at) s r e));
+            fine = subst⁻¹ (λ (xs : List ℤ). placesFine xs ≡ true) k (good-places rev dcCoded (m, coded) s (block-sentences dcCoded rev (m, coded) .begins (bitsFrom d at) s r e .0));
           }
       go (no n) e g =
           let a : EventsAre next ≡ EventsRefused n = sym f ∙ ap (λ (x : PlacesRead). x .answer) g in

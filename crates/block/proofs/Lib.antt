@@ -5,4 +5,5 @@ pub mod PlaceLaws
 pub mod ReadingLaws
 pub mod StateLaws
 pub mod AnswerLaws
+pub mod RowLaws
 pub mod Blocks

@@ -1,6 +1,6 @@
 -- What is answered of one block, and what its lent samples and levels hold afterwards, refusals included. Definitions only.
 use mathlib.Core.Bool.{Bool, cond}
-use mathlib.Core.List.{List}
+use mathlib.Core.List.{List, [], _∷_}
 use Prim.Native.Nat.{ℕ}
 use lib.IntN.{ℤ}
 use lib.ListN.{length}
@@ -21,7 +21,7 @@ use Rattle.block.specs.Reading.{qfsOf}
 use Rattle.block.specs.Values.{contextFine, levelsOf, samplesOf, valuesOf}
 use Rattle.block.specs.declared.context.MacroblockTextureContext.{MacroblockTextureContext}
 use Rattle.block.specs.declared.error.BlockAssemblyError.{BlockAssemblyError}
-use Rattle.block.specs.declared.error.BlockAssemblyError.the-variants.{Context, OutOfRange, Predictor, Texture}
+use Rattle.block.specs.declared.error.BlockAssemblyError.the-variants.{Complete, Context, NotCoded, NotIntra, OutOfRange, Predictor, Texture, TooShort}
 use Rattle.block.specs.declared.error.Checked.{Checked}
 use Rattle.block.specs.declared.error.Checked.the-variants.{Fine, Bad}
 use Rattle.block.specs.declared.intra.BlockDecoded.{BlockDecoded}
@@ -32,17 +32,30 @@ abbrev pub numberOf : BlockAssemblyError → ℕ
 numberOf OutOfRange = 11
 numberOf Context = 12
 numberOf Predictor = 13
+numberOf TooShort = 14
+numberOf Complete = 15
+numberOf NotCoded = 9
+numberOf NotIntra = 10
 numberOf (Texture e) = T.numberOf e
 
 abbrev pub figureOf : BlockAssemblyError → ℕ
 figureOf OutOfRange = 0
 figureOf Context = 0
 figureOf Predictor = 0
+figureOf TooShort = 0
+figureOf Complete = 0
+figureOf NotCoded = 0
+figureOf NotIntra = 0
 figureOf (Texture e) = T.figureOf e
+
+-- tests with their refusals: the first that fails answers, and those after it are not asked
+abbrev pub firstBad : List (Bool × BlockAssemblyError) → Checked
+firstBad [] = Fine
+firstBad (t ∷ ts) = cond (t .0) (firstBad ts) (Bad (t .1))
 
 -- the state, before any bit: 11, 12, 13
 abbrev pub checkOf : List ℕ → ℕ → MacroblockTextureContext → BlockPredictors → List (List ℕ) → Checked
-checkOf d at x p w = cond (inData (length d) at) (cond (contextFine x w) (cond (predictorsFine p) Fine (Bad Predictor)) (Bad Context)) (Bad OutOfRange)
+checkOf d at x p w = firstBad ((inData (length d) at, OutOfRange) ∷ (contextFine x w, Context) ∷ (predictorsFine p, Predictor) ∷ [])
 
 -- ---- a block of a component, whose bits were read
 

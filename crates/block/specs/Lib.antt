@@ -1,6 +1,7 @@
 -- One intra block: its values, its samples, and what is answered of it.
 pub mod Values
 pub mod Reading
+pub mod Rows
 pub mod Answer
 pub mod Pattern
 pub mod Matrix

@@ -1,4 +1,4 @@
-// Why a block is refused.
+// Why a block, or a macroblock, is refused.
 ghost use mathlib.Core.Path.{_≡_};
 ghost use Rattle.block.specs.Answer.{checkOf, figureOf, numberOf};
 ghost use Rattle.block.specs.Values.{contextFine};
@@ -15,6 +15,14 @@ pub enum BlockAssemblyError {
     Context,
     // 13: a predictor
     Predictor,
+    // 14: samples or store too short
+    TooShort,
+    // 15: width times height macroblocks were accepted
+    Complete,
+    // 9: the header says that nothing is coded
+    NotCoded,
+    // 10: no type, or an inter type
+    NotIntra,
     // 1 to 8
     Texture(TextureParseError),
 }
@@ -28,6 +36,10 @@ impl BlockAssemblyError {
             BlockAssemblyError::OutOfRange => 11,
             BlockAssemblyError::Context => 12,
             BlockAssemblyError::Predictor => 13,
+            BlockAssemblyError::TooShort => 14,
+            BlockAssemblyError::Complete => 15,
+            BlockAssemblyError::NotCoded => 9,
+            BlockAssemblyError::NotIntra => 10,
             BlockAssemblyError::Texture(e) => e.number(),
         }
     }
@@ -40,6 +52,10 @@ impl BlockAssemblyError {
             BlockAssemblyError::OutOfRange => 0,
             BlockAssemblyError::Context => 0,
             BlockAssemblyError::Predictor => 0,
+            BlockAssemblyError::TooShort => 0,
+            BlockAssemblyError::Complete => 0,
+            BlockAssemblyError::NotCoded => 0,
+            BlockAssemblyError::NotIntra => 0,
             BlockAssemblyError::Texture(e) => e.figure(),
         }
     }
@@ -51,7 +67,8 @@ pub enum Checked {
     Bad(BlockAssemblyError),
 }
 
-fn context_fine(ctx: MacroblockTextureContext, w: [[u8; 8]; 8]) -> bool
+// What 12 asks of the context.
+pub fn context_fine(ctx: MacroblockTextureContext, w: [[u8; 8]; 8]) -> bool
     ensures { λ r. ⌜ r ≡ contextFine ctx w ⌝ }
 {
     if !ranges::Quantiser::fine(ctx.quantiser_scale) {
@@ -67,7 +84,7 @@ fn context_fine(ctx: MacroblockTextureContext, w: [[u8; 8]; 8]) -> bool
 }
 
 // The state, before any bit: 11, 12, 13.
-pub(crate) fn check(
+pub fn check(
     data: &[u8],
     c: Cursor,
     ctx: MacroblockTextureContext,

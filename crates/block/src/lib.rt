@@ -13,7 +13,15 @@ mod reconstruct;
 
 pub use context::MacroblockTextureContext;
 pub use error::BlockAssemblyError;
+pub use error::Checked;
+pub use error::check;
+pub use error::context_fine;
 pub use intra::BlockDecoded;
 pub use intra::decode_intra_block_full;
 pub use matrix::default_intra_quant_matrix;
 pub use pattern::pattern_code;
+pub use read::component;
+pub use read::read_blocks;
+pub use reconstruct::levels_of;
+pub use reconstruct::samples_of;
+pub use reconstruct::values_of;

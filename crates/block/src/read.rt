@@ -1,8 +1,12 @@
-// The bits of one block into its 64 places.
+// The bits of one block into its 64 places, and of the six blocks of a macroblock.
 ghost use mathlib.Core.Path.{_≡_};
 ghost use mathlib.Core.Bool.{false, true};
+ghost use lib.ListN.{length};
+ghost use Rattle.bits.specs.Bits.{bitsFrom};
 ghost use Rattle.texture.specs.Answer.{Readable};
 ghost use Rattle.block.specs.Reading.{listAt, partsAt, refusedBy, withDifference};
+ghost use Rattle.block.specs.Rows.{RowsSay, blocksAnswer, componentAt, readRows, rowsAfter};
+use bits::BitCount;
 use bits::Cursor;
 use codes::DcComponent;
 use codes::TcoefTable;
@@ -85,6 +89,82 @@ pub(crate) fn read_block(
         DcRead::Dc(v, next) => {
             let one = read_list(data, next, coded, true, reversible);
             with_difference(one, v.differential)
+        }
+    }
+}
+
+// The component of block i of six.
+pub fn component(i: usize) -> DcComponent
+    ensures { λ r. ⌜ r ≡ componentAt i ⌝ }
+{
+    if i < 4 {
+        return DcComponent::Luminance;
+    }
+    DcComponent::Chrominance
+}
+
+// Six blocks, row after row.
+fn read_rows(
+    data: &[u8],
+    start: Cursor,
+    pattern: [bool; 6],
+    dc_coded: bool,
+    reversible: bool,
+    rows: &mut [[i32; 64]; 6],
+) -> EventsRead
+    requires { ⌜ Readable (now «data») start × (length (now rows) ≡ 6) ⌝ }
+    ensures { λ r. ⌜ RowsSay (now («data» .entry)) r (now (rows .exit)) (readRows «dc_coded» reversible pattern (bitsFrom (now («data» .entry)) (start .«bit_pos»))) ⌝ }
+{
+    let mut c = start;
+    for i in 0..6 {
+        let one = read_block(data, c, component(i), pattern[i], dc_coded, reversible);
+        let answer = one.answer;
+        match answer {
+            EventsRead::Refused(e) => {
+                return EventsRead::Refused(e);
+            }
+            EventsRead::Read(next) => {
+                let qfs = one.qfs;
+                rows[i] = qfs;
+                c = next;
+            }
+        }
+    }
+    EventsRead::Read(c)
+}
+
+// The six blocks of a macroblock for its pattern, each into its row of 64 places.
+pub fn read_blocks(
+    data: &[u8],
+    c: Cursor,
+    pattern: [bool; 6],
+    use_intra_dc_vlc: bool,
+    reversible_vlc: bool,
+    rows: &mut [[i32; 64]; 6],
+) -> EventsRead
+    ensures { λ r. ⌜ r ≡ blocksAnswer (now («data» .entry)) (c .«bit_pos») pattern «use_intra_dc_vlc» «reversible_vlc» ⌝ }
+    ensures rows { λ r. ⌜ now (rows .exit) ≡ rowsAfter (now («data» .entry)) (c .«bit_pos») pattern «use_intra_dc_vlc» «reversible_vlc» (now (rows .entry)) ⌝ }
+{
+    let left = c.remaining_bits(data);
+    match left {
+        BitCount::Refused(_) => EventsRead::Refused(TextureParseError::OutOfRange),
+        BitCount::Bits(_) => {
+            let mut filled = [[0i32; 64]; 6];
+            let answer = read_rows(
+                data,
+                c,
+                pattern,
+                use_intra_dc_vlc,
+                reversible_vlc,
+                &mut filled,
+            );
+            match answer {
+                EventsRead::Refused(e) => EventsRead::Refused(e),
+                EventsRead::Read(next) => {
+                    *rows = filled;
+                    EventsRead::Read(next)
+                }
+            }
         }
     }
 }

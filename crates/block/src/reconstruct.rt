@@ -1,28 +1,23 @@
-// From the 64 places of a block to its samples; nothing is refused here, every range is proved.
+// From the 64 places of a block to its samples. A stage that refuses leaves zeros; where the state is
+// fine and the places are a sentence's, none does.
 ghost use mathlib.Core.Path.{_≡_};
-ghost use mathlib.Core.Bool.{true};
 ghost use lib.IntN.{pos};
 ghost use Rattle.numbers.specs.Grid.{block, cell};
 ghost use Rattle.numbers.specs.Limit.{clampZ};
-ghost use Rattle.ranges.specs.Range.{depthFine, quantiserFine};
-ghost use Rattle.coefficients.specs.Dequantised.{blockFine};
-ghost use Rattle.coefficients.specs.Level.{placesFine, predictorsFine};
-ghost use Rattle.idct.specs.Limits.{highest, valuesFine};
-ghost use Rattle.block.specs.Values.{contextFine, levelsOf, samplesOf, valuesOf};
+ghost use Rattle.block.specs.Values.{levelsLeft, samplesLeft, valuesLeft};
 use crate::context::MacroblockTextureContext;
 use codes::DcComponent;
 use coefficients::BlockPredictors;
 use coefficients::InverseQuantContext;
 
 // QF.
-pub(crate) fn levels_of(
+pub fn levels_of(
     qfs: [i32; 64],
     component: DcComponent,
     ctx: MacroblockTextureContext,
     predictors: BlockPredictors,
 ) -> [[i32; 8]; 8]
-    requires { ⌜ (quantiserFine (ctx .«quantiser_scale») ≡ true) × (predictorsFine predictors ≡ true) × (placesFine qfs ≡ true) ⌝ }
-    ensures { λ r. ⌜ r ≡ levelsOf component ctx predictors qfs ⌝ }
+    ensures { λ r. ⌜ r ≡ levelsLeft component ctx predictors qfs ⌝ }
 {
     let mut qf = [[0i32; 8]; 8];
     let q = ctx.quantiser_scale;
@@ -33,14 +28,13 @@ pub(crate) fn levels_of(
 }
 
 // F.
-pub(crate) fn values_of(
+pub fn values_of(
     qf: [[i32; 8]; 8],
     component: DcComponent,
     ctx: MacroblockTextureContext,
     w: [[u8; 8]; 8],
 ) -> [[i32; 8]; 8]
-    requires { ⌜ (contextFine ctx w ≡ true) × (blockFine qf ≡ true) ⌝ }
-    ensures { λ r. ⌜ r ≡ valuesOf component ctx w qf ⌝ }
+    ensures { λ r. ⌜ r ≡ valuesLeft component ctx w qf ⌝ }
 {
     let mut f = [[0i32; 8]; 8];
     let quant = InverseQuantContext {
@@ -76,9 +70,8 @@ fn clip_block(b: [[i32; 8]; 8], hi: i32) -> [[i32; 8]; 8]
 }
 
 // The samples.
-pub(crate) fn samples_of(f: [[i32; 8]; 8], ctx: MacroblockTextureContext) -> [[i32; 8]; 8]
-    requires { ⌜ (depthFine (ctx .«bits_per_pixel») ≡ true) × (valuesFine (ctx .«bits_per_pixel») f ≡ true) ⌝ }
-    ensures { λ r. ⌜ r ≡ samplesOf ctx f ⌝ }
+pub fn samples_of(f: [[i32; 8]; 8], ctx: MacroblockTextureContext) -> [[i32; 8]; 8]
+    ensures { λ r. ⌜ r ≡ samplesLeft ctx f ⌝ }
 {
     let mut out = [[0i32; 8]; 8];
     let depth = ctx.bits_per_pixel;

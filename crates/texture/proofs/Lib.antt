@@ -11,3 +11,4 @@ pub mod ListLaws
 pub mod LoopLaws
 pub mod DcLaws
 pub mod Sentences
+pub mod EachLaws

@@ -26,6 +26,7 @@ use Rattle.texture.specs.Sentences.{Sentences}
 pub sentences : {A : Type 0} {read : Bits → Res A} {bits : A → Bits} {Good : A → Type 0} → Reads read bits Good → Sentences read bits Good
 sentences {A} {read} {bits} {Good} h = record {
   accepted = accepts read bits Good h;
+  begins = h .sound;
   alone = unique read bits Good h;
   own = h .complete;
   position = λ d at inside a r q. ap cursorAt (moved d at a r inside q);
@@ -57,10 +58,6 @@ module _ (dcCoded rev : Bool) where
 
   pub block-sentences : (s : Place) → Sentences (readBlock dcCoded rev s) (blockBits s) (GoodBlock dcCoded rev s)
   block-sentences s = sentences (block-reads s)
-
-  -- a block that is accepted is good
-  pub block-good : (s : Place) (b : Bits) (p : Parts) (r : Bits) → readBlock dcCoded rev s b ≡ ok p r → GoodBlock dcCoded rev s p
-  block-good s b p r q = block-reads s .sound b p r q .0
 
   pub macroblock-sentences : (p : List Bool) → Sentences (readMacroblock dcCoded rev p) (macroblockBits p) (GoodMacroblock dcCoded rev p)
   macroblock-sentences p = sentences (each-reads (readBlock dcCoded rev) blockBits (GoodBlock dcCoded rev) block-reads (placesOfPattern p))

@@ -57,3 +57,9 @@ GoodEach P (s ∷ ss) (a ∷ xs) = P s a × GoodEach P ss xs
 abbrev pub readEach : {S A : Type 0} → (S → Bits → Res A) → List S → Bits → Res (List A)
 readEach p [] b = ok [] b
 readEach p (s ∷ ss) b = bind (p s b) (λ a r. bind (readEach p ss r) (λ xs r. ok (a ∷ xs) r))
+
+-- each of a list with its fellow of another
+abbrev pub eachWith : {S A B : Type 0} → (S → A → B) → List S → List A → List B
+eachWith f [] xs = []
+eachWith f (s ∷ ss) [] = []
+eachWith f (s ∷ ss) (x ∷ xs) = f s x ∷ eachWith f ss xs

@@ -13,6 +13,8 @@ use Rattle.texture.specs.Answer.{after}
 pub record Sentences {A : Type 0} (read : Bits → Res A) (bits : A → Bits) (Good : A → Type 0) : Type 0 where
   -- accepted exactly when the bits begin with a sentence
   pub accepted : (b : Bits) → ((a : A) × ((r : Bits) × (read b ≡ ok a r))) ↔ ((a : A) × (Good a × ((r : Bits) × (b ≡ bits a ▸ r))))
+  -- what is accepted is a sentence, and its bits stand first
+  pub begins : (b : Bits) (a : A) (r : Bits) → read b ≡ ok a r → Good a × (b ≡ bits a ▸ r)
   -- never with two
   pub alone : (a c : A) (r s : Bits) → Good a → Good c → bits a ▸ r ≡ bits c ▸ s → (a ≡ c) × (r ≡ s)
   -- what follows a sentence changes nothing

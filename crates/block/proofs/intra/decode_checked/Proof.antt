@@ -1,5 +1,4 @@
 -- `block::intra::decode_checked` meets its contract: the sentence that was read, its levels, values and samples. Assumes nothing.
-use mathlib.Core.Bool.{true}
 use mathlib.Core.List.{List}
 use mathlib.Core.Path.{_≡_, ap, ap₂, subst⁻¹, sym, _∙_}
 use borrow.Author.Needs.{needs}
@@ -10,16 +9,15 @@ use mir.Facts.{toZ-ofZ}
 use mir.Syntax.{w32}
 use Rattle.bits.specs.declared.cursor.Cursor.{Cursor}
 use Rattle.coefficients.proofs.LevelLaws.{levels-fine}
-use Rattle.coefficients.specs.Dequantised.{blockFine}
-use Rattle.idct.specs.Limits.{valuesFine}
 use Rattle.numbers.proofs.Words.{fits-mag}
 use Rattle.numbers.specs.Grid.{cell}
 use Rattle.texture.specs.Macroblock.{Parts}
 use Rattle.texture.specs.Reader.{Res}
 use Rattle.block.proofs.AnswerLaws.{Sentence, none, sentence, values-fine, values-small}
-use Rattle.block.proofs.ValueLaws.{depth-fine, quantiser-fine}
-use Rattle.block.specs.Answer.{levelsTold, samplesTold, told}
-use Rattle.block.specs.Values.{levelsOf, samplesOf, valuesOf}
+use Rattle.block.proofs.SampleLaws.{samples-left}
+use Rattle.block.proofs.ValueLaws.{depth-fine, levels-left, quantiser-fine, values-left}
+use Rattle.block.specs.Answer.{levelsIn, levelsTold, samplesTold, told}
+use Rattle.block.specs.Values.{levelsOf, samplesLeft, valuesLeft}
 use Rattle.block.specs.declared.intra.BlockDecoded.the-variants.{Decoded}
 use Rattle.block.proofs.intra.decode_checked.Statement.{statement}
 use Rattle.block.proofs.intra.decode_checked.Tie as tie
@@ -41,24 +39,13 @@ enum-known-answer-2 : tie.Need-enum-known-answer-2
 enum-known-answer-2 c = search needs
 
 levels-of-requires : tie.Need-levels-of-requires
-levels-of-requires c κs = let s = c .before .before .before .before .before .before in (quantiser-fine (s .args .ctx) (s .args .w) (s .pre .1), s .pre .2, read c .fine)
+levels-of-requires c κs = search needs
 
 values-of-requires : tie.Need-values-of-requires
-values-of-requires c κs =
-    let s = c .before .before .before .before .before .before .before in
-    let a = s .args in
-    let x = a .ctx in (
-      s .pre .1,
-      subst⁻¹ (λ (f : List (List ℤ)). blockFine f ≡ true) (c .levels-of .ensures)
-          (levels-fine (a .component) (x .«quantiser_scale») (x .«ac_pred_flag») (x .«alternate_vertical_scan») (a .predictors) _),
-    )
+values-of-requires c κs = search needs
 
 samples-of-requires : tie.Need-samples-of-requires
-samples-of-requires c κs =
-    let s = c .before .before .before .before .before .before .before .before in
-    let a = s .args in
-    let x = a .ctx in
-    (depth-fine x (a .w) (s .pre .1), subst⁻¹ (λ (f : List (List ℤ)). valuesFine (x .«bits_per_pixel») f ≡ true) (c .values-of .ensures) (values-fine (a .component) x (a .w) (c .before .levels-of .result)))
+samples-of-requires c κs = search needs
 
 index-1-t27 : tie.Need-index-1-t27
 index-1-t27 c = search needs
@@ -88,15 +75,20 @@ returns-2 c =
     let d = now (a .«data») in
     let at = a .c .«bit_pos» in
     let x = a .ctx in
+    let m = a .component in
+    let p = a .predictors in
+    let fine = s .pre .1 in
     let n = read (c .before .before .before .before) in
-    let l = c .before .before .before .levels-of .ensures ∙ ap (levelsOf (a .component) x (a .predictors)) (n .qfs-is) in
-    let v = c .before .before .values-of .ensures ∙ ap (valuesOf (a .component) x (a .w)) l in
-    let small = subst⁻¹ (λ (f : List (List ℤ)). natAbs (cell f 0 0) ≤ 32768) (c .before .before .values-of .ensures) (values-small (a .component) x (a .w) (c .before .before .before .levels-of .result) (depth-fine x (a .w) (s .pre .1))) in
+    let l = c .before .before .before .levels-of .ensures ∙ levels-left m x p _ (quantiser-fine x (a .w) fine) (s .pre .2) (n .fine) ∙ ap (levelsOf m x p) (n .qfs-is) in
+    let qf = levelsIn d m (a .dc-coded) x p (a .w) (n .parts) in
+    let v = c .before .before .values-of .ensures ∙ ap (valuesLeft m x (a .w)) l ∙ values-left x (a .w) fine m qf (levels-fine m (x .«quantiser_scale») (x .«ac_pred_flag») (x .«alternate_vertical_scan») p _) in
+    let small = subst⁻¹ (λ (f : List (List ℤ)). natAbs (cell f 0 0) ≤ 32768) v (values-small m x (a .w) qf (depth-fine x (a .w) fine)) in
     let dc = toZ-ofZ (fits-mag 32768 tt _ small) ∙ ap (λ (f : List (List ℤ)). cell f 0 0) v in (
-      ap₂ (λ (z : ℤ) (y : Cursor). Decoded z y) dc (n .place) ∙ sym (ap (told d (a .component) (a .dc-coded) x (a .predictors) (a .w)) (n .read)),
+      ap₂ (λ (z : ℤ) (y : Cursor). Decoded z y) dc (n .place) ∙ sym (ap (told d m (a .dc-coded) x p (a .w)) (n .read)),
       (
-        c .before .samples-of .ensures ∙ ap (samplesOf x) v ∙ sym (ap (λ (y : Res Parts). samplesTold d (a .component) (a .dc-coded) x (a .predictors) (a .w) y (now (a .spatial))) (n .read)),
-        l ∙ sym (ap (λ (y : Res Parts). levelsTold d (a .component) (a .dc-coded) x (a .predictors) (a .w) y (now (a .qf))) (n .read)),
+        c .before .samples-of .ensures ∙ ap (samplesLeft x) v ∙ samples-left x _ (depth-fine x (a .w) fine) (values-fine m x (a .w) qf)
+            ∙ sym (ap (λ (y : Res Parts). samplesTold d m (a .dc-coded) x p (a .w) y (now (a .spatial))) (n .read)),
+        l ∙ sym (ap (λ (y : Res Parts). levelsTold d m (a .dc-coded) x p (a .w) y (now (a .qf))) (n .read)),
       ),
     )
 

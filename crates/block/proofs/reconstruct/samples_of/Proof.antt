@@ -1,7 +1,7 @@
--- `block::reconstruct::samples_of` meets its contract: the transform refuses nothing, and its samples are limited. Assumes nothing.
+-- `block::reconstruct::samples_of` meets its contract: what the transform leaves, limited. Assumes nothing.
 use mathlib.Core.Path.{_≡_, _∙_}
 use borrow.Author.Needs.{needs}
-use Rattle.block.proofs.SampleLaws.{left-by, samples-are, top-is}
+use Rattle.block.proofs.SampleLaws.{left-by, top-is}
 use Rattle.block.proofs.reconstruct.samples_of.Statement.{statement}
 use Rattle.block.proofs.reconstruct.samples_of.Tie as tie
 
@@ -20,9 +20,7 @@ returns c =
     let a = s .args in
     let i = c .before .before .before .idct-8x8-rounded in
     let b = c .before .before .idct-saturation-bounds in
-    c .clip-block .ensures
-    ∙ samples-are (a .ctx) (a .f) (s .pre .0) (s .pre .1) _ _ (left-by (a .ctx) (a .f) (s .pre .0) (s .pre .1) (i .result) _ _ (i .ensures .0) (i .ensures .1 .0))
-    (top-is (a .ctx) (a .f) (s .pre .0) (s .pre .1) (b .result) (b .ensures))
+    c .clip-block .ensures ∙ left-by (a .ctx) (a .f) (i .result) _ _ (i .ensures .0) (i .ensures .1 .0) (top-is (a .ctx) (a .f) (b .result) (b .ensures))
 
 pub samples-of-spec : {M : Type 1} → statement M
 samples-of-spec = tie.close (tie.spec idct-8x8-rounded-requires idct-saturation-bounds-requires clip-block-requires returns)

@@ -1,0 +1,77 @@
+-- A macroblock read alone: its answer, its samples and demand 3, by what the state and the reader say. Assumes nothing.
+use mathlib.Core.Bool.{Bool}
+use mathlib.Core.List.{List}
+use mathlib.Core.Path.{_≡_, ap, ap₂, refl, subst, subst⁻¹, sym, _∙_}
+use Prim.Native.Nat.{ℕ, _+_, _-_}
+use native.Mathlib.Omega.{arith}
+use lib.IntN.{ℤ}
+use lib.ListN.{length}
+use Rattle.bits.proofs.CursorLaws.{in-data-yes}
+use Rattle.bits.specs.Cursor.{cursorAt}
+use Rattle.bits.specs.declared.cursor.Cursor.{Cursor}
+use Rattle.coefficients.specs.declared.predictor.BlockPredictors.{BlockPredictors}
+use Rattle.texture.specs.Answer.{after}
+use Rattle.texture.specs.Macroblock.{Parts}
+use Rattle.texture.specs.Reader.{Res, no, ok}
+use Rattle.block.proofs.ValueLaws.{depth-fine}
+use Rattle.block.specs.Rows.{rowsOf}
+use Rattle.block.specs.declared.context.MacroblockTextureContext.{MacroblockTextureContext}
+use Rattle.block.specs.declared.error.BlockAssemblyError.{BlockAssemblyError}
+use Rattle.block.specs.declared.error.Checked.{Checked}
+use Rattle.block.specs.declared.error.Checked.the-variants.{Bad, Fine}
+use Rattle.macroblock.proofs.DemandLaws.{Call, demand, readBy}
+use Rattle.macroblock.proofs.SixLaws.{values-six-fine}
+use Rattle.macroblock.proofs.StateLaws.{StateFine, state-fine}
+use Rattle.macroblock.specs.Alone.{Accepted, DemandAlone, Told}
+use Rattle.macroblock.specs.Answer.{answerBy, keptBy, macroblockAnswer, samplesOut, samplesTold, sentenceOf, stateOf, told, valuesAlone}
+use Rattle.macroblock.specs.Header.{patternBy}
+use Rattle.macroblock.specs.declared.decode.MacroblockDecoded.{MacroblockDecoded}
+use Rattle.macroblock.specs.declared.decode.MacroblockDecoded.the-variants.{Decoded, Refused}
+use Rattle.macroblock.specs.declared.header.MacroblockHeader.{MacroblockHeader}
+
+module _ (d : List ℕ) (at : ℕ) (h : MacroblockHeader) (dcCoded rev : Bool) (x : MacroblockTextureContext) (p : BlockPredictors) (w : List (List ℕ)) (old : List ℤ) where
+  -- what the public contract says
+  abbrev pub Meets : MacroblockDecoded → List ℤ → Type 0
+  Meets r out =
+      (r ≡ macroblockAnswer d at h dcCoded rev x p w old)
+      × ((out ≡ samplesOut d at h dcCoded rev x p w old) × DemandAlone d at h dcCoded rev x p w old r out)
+
+  pub refused : {e : BlockAssemblyError} → stateOf d at h x p w (length old) ≡ Bad e → Meets (Refused e) old
+  unfolding macroblockAnswer samplesOut
+  refused {e} q = (
+    sym (ap (λ (s : Checked). answerBy s (told d at (sentenceOf d at h dcCoded rev))) q),
+    (
+      sym (ap (λ (s : Checked). keptBy s (samplesTold h dcCoded x p w (sentenceOf d at h dcCoded rev) old) old) q),
+      λ f. absurd (let z : _≡_ {A = ℕ} 0 1 = cc in omega arith),
+    ),
+  )
+
+  module _ (q : stateOf d at h x p w (length old) ≡ Fine) (r : MacroblockDecoded) (out : List ℤ)
+      (e : r ≡ told d at (sentenceOf d at h dcCoded rev)) (f : out ≡ samplesTold h dcCoded x p w (sentenceOf d at h dcCoded rev) old) where
+    fine : StateFine d at x p w (length old)
+    fine = state-fine d at h x p w (length old) q
+
+    length-is : (n : ℕ) (c : Cursor) → c ≡ cursorAt (at + n) → Decoded (c .«bit_pos» - at) c ≡ Decoded n (cursorAt (at + n))
+    length-is n c g =
+        let k : c .«bit_pos» - at ≡ n = let m = ap (λ (y : Cursor). y .«bit_pos») g in omega arith in
+        ap₂ Decoded k g
+
+    call : Call d at dcCoded rev (patternBy h) x (valuesAlone h dcCoded x p w) (Accepted r) (Told at r) old out
+    unfolding sentenceOf
+    call = record {
+      accepts = λ s b g. subst⁻¹ Accepted (e ∙ ap (told d at) g) tt;
+      refuses = λ n g a. subst Accepted (e ∙ ap (told d at) g) a;
+      tells = λ s b g n k. e ∙ ap (told d at) g ∙ length-is n (after d b) k;
+      writes = λ s b g. f ∙ ap (λ (y : Res (List Parts)). samplesTold h dcCoded x p w y old) g;
+    }
+
+    pub checked : Meets r out
+    unfolding macroblockAnswer samplesOut
+    checked = (
+      e ∙ sym (ap (λ (s : Checked). answerBy s (told d at (sentenceOf d at h dcCoded rev))) q),
+      (
+        f ∙ sym (ap (λ (s : Checked). keptBy s (samplesTold h dcCoded x p w (sentenceOf d at h dcCoded rev) old) old) q),
+        λ _. demand d at dcCoded rev (patternBy h) x (valuesAlone h dcCoded x p w) (Accepted r) (Told at r) old out
+            (in-data-yes (length d) at (fine .inside) .1) (depth-fine x w (fine .context)) (λ s i l. values-six-fine x p w (rowsOf dcCoded (patternBy h) s) i l) (fine .roomy) call,
+      ),
+    )

@@ -1,0 +1,5 @@
+-- The laws of this crate.
+pub mod StateLaws
+pub mod SixLaws
+pub mod DemandLaws
+pub mod AloneLaws

@@ -1,0 +1,32 @@
+-- Demand 3 of a macroblock read alone. Definitions only.
+use mathlib.Core.Bool.{Bool}
+use mathlib.Core.List.{List}
+use mathlib.Core.Path.{_≡_}
+use Prim.Native.Nat.{ℕ, _+_}
+use lib.IntN.{ℤ}
+use lib.ListN.{length}
+use Rattle.bits.specs.Cursor.{cursorAt}
+use Rattle.coefficients.specs.declared.predictor.BlockPredictors.{BlockPredictors}
+use Rattle.block.specs.declared.context.MacroblockTextureContext.{MacroblockTextureContext}
+use Rattle.block.specs.declared.error.Checked.the-variants.{Fine}
+use Rattle.macroblock.specs.Answer.{stateOf, valuesAlone}
+use Rattle.macroblock.specs.Demand.{Demand3}
+use Rattle.macroblock.specs.Header.{patternBy}
+use Rattle.macroblock.specs.declared.decode.MacroblockDecoded.{MacroblockDecoded}
+use Rattle.macroblock.specs.declared.decode.MacroblockDecoded.the-variants.{Decoded, Refused}
+use Rattle.macroblock.specs.declared.header.MacroblockHeader.{MacroblockHeader}
+
+-- answered without a number
+abbrev pub Accepted : MacroblockDecoded → Type 0
+Accepted (Decoded n c) = Unit {0}
+Accepted (Refused e) = ⊥
+
+-- n bits, and the position n bits on
+abbrev pub Told : ℕ → MacroblockDecoded → ℕ → Type 0
+Told at r n = r ≡ Decoded n (cursorAt (at + n))
+
+-- where none of 9 to 15 holds
+abbrev pub DemandAlone : List ℕ → ℕ → MacroblockHeader → Bool → Bool → MacroblockTextureContext → BlockPredictors → List (List ℕ) → List ℤ → MacroblockDecoded → List ℤ → Type 0
+DemandAlone d at h dcCoded rev x p w before r after =
+    stateOf d at h x p w (length before) ≡ Fine
+    → Demand3 d at dcCoded rev (patternBy h) x (valuesAlone h dcCoded x p w) (Accepted r) (Told at r) before after

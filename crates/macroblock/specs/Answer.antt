@@ -1,0 +1,73 @@
+-- What is answered of a macroblock read alone, and what its lent samples hold afterwards, refusals included. Definitions only.
+use mathlib.Core.Bool.{Bool}
+use mathlib.Core.List.{List, [], _∷_}
+use Prim.Native.Nat.{ℕ, _-_}
+use lib.Dec.{leb}
+use lib.IntN.{ℤ}
+use lib.ListN.{length}
+use Rattle.bits.specs.Bits.{bitsFrom}
+use Rattle.bits.specs.Cursor.{inData}
+use Rattle.coefficients.specs.Level.{predictorsFine}
+use Rattle.coefficients.specs.declared.predictor.BlockPredictors.{BlockPredictors}
+use Rattle.samples.specs.Samples.{samplesAfter}
+use Rattle.texture.specs.Answer.{after}
+use Rattle.texture.specs.Macroblock.{Parts, readMacroblock}
+use Rattle.texture.specs.Reader.{Res, no, ok}
+use Rattle.block.specs.Answer.{firstBad}
+use Rattle.block.specs.Rows.{rowsOf}
+use Rattle.block.specs.Values.{contextFine}
+use Rattle.block.specs.declared.context.MacroblockTextureContext.{MacroblockTextureContext}
+use Rattle.block.specs.declared.error.BlockAssemblyError.{BlockAssemblyError}
+use Rattle.block.specs.declared.error.BlockAssemblyError.the-variants.{Context, OutOfRange, Predictor, Texture, TooShort}
+use Rattle.block.specs.declared.error.Checked.{Checked}
+use Rattle.block.specs.declared.error.Checked.the-variants.{Bad, Fine}
+use Rattle.macroblock.specs.Header.{headerTests, patternBy}
+use Rattle.macroblock.specs.Six.{samplesOfSix, valuesOfSix}
+use Rattle.macroblock.specs.declared.decode.MacroblockDecoded.{MacroblockDecoded}
+use Rattle.macroblock.specs.declared.decode.MacroblockDecoded.the-variants.{Decoded, Refused}
+use Rattle.macroblock.specs.declared.header.MacroblockHeader.{MacroblockHeader}
+
+-- the state, before any bit: 11, 12, 13, 14, 9, 10
+unfoldable pub stateOf : List ℕ → ℕ → MacroblockHeader → MacroblockTextureContext → BlockPredictors → List (List ℕ) → ℕ → Checked
+stateOf d at h x p w room =
+    firstBad
+    ((inData (length d) at, OutOfRange)
+    ∷ (contextFine x w, Context)
+    ∷ (predictorsFine p, Predictor)
+    ∷ (leb 384 room, TooShort)
+    ∷ headerTests h)
+
+-- what the reader makes of the bits from the start to the end of the data
+unfoldable pub sentenceOf : List ℕ → ℕ → MacroblockHeader → Bool → Bool → Res (List Parts)
+sentenceOf d at h dcCoded rev = readMacroblock dcCoded rev (patternBy h) (bitsFrom d at)
+
+-- the dequantised values of a sentence, each block with the predictors handed in
+abbrev pub valuesAlone : MacroblockHeader → Bool → MacroblockTextureContext → BlockPredictors → List (List ℕ) → List Parts → List (List (List ℤ))
+valuesAlone h dcCoded x p w s = valuesOfSix x p w (rowsOf dcCoded (patternBy h) s)
+
+-- ---- of what was read
+
+abbrev pub told : List ℕ → ℕ → Res (List Parts) → MacroblockDecoded
+told d at (ok s r) = Decoded (after d r .«bit_pos» - at) (after d r)
+told d at (no e) = Refused (Texture e)
+
+abbrev pub samplesTold : MacroblockHeader → Bool → MacroblockTextureContext → BlockPredictors → List (List ℕ) → Res (List Parts) → List ℤ → List ℤ
+samplesTold h dcCoded x p w (ok s r) old = samplesAfter (samplesOfSix x (valuesAlone h dcCoded x p w s)) old
+samplesTold h dcCoded x p w (no e) old = old
+
+-- ---- of the call
+
+abbrev pub answerBy : Checked → MacroblockDecoded → MacroblockDecoded
+answerBy Fine a = a
+answerBy (Bad e) a = Refused e
+
+abbrev pub keptBy : Checked → List ℤ → List ℤ → List ℤ
+keptBy Fine new old = new
+keptBy (Bad e) new old = old
+
+module _ (d : List ℕ) (at : ℕ) (h : MacroblockHeader) (dcCoded rev : Bool) (x : MacroblockTextureContext) (p : BlockPredictors) (w : List (List ℕ)) (old : List ℤ) where
+  unfoldable pub macroblockAnswer : MacroblockDecoded
+  macroblockAnswer = answerBy (stateOf d at h x p w (length old)) (told d at (sentenceOf d at h dcCoded rev))
+
+  unfoldable pub samplesOut : List ℤ
+  samplesOut = keptBy (stateOf d at h x p w (length old)) (samplesTold h dcCoded x p w (sentenceOf d at h dcCoded rev) old) old

@@ -1,0 +1,114 @@
+// A macroblock out of bits into 384 samples.
+ghost use mathlib.Core.Path.{_≡_};
+ghost use lib.ListN.{length};
+ghost use Rattle.macroblock.specs.Answer.{macroblockAnswer, samplesOut, samplesTold, sentenceOf, stateOf, told};
+ghost use Rattle.macroblock.specs.Alone.{DemandAlone};
+ghost use Rattle.block.specs.declared.error.Checked.the-variants.{Fine};
+use crate::header::MacroblockHeader;
+use bits::Cursor;
+use block::BlockAssemblyError;
+use block::Checked;
+use block::MacroblockTextureContext;
+use coefficients::BlockPredictors;
+use texture::EventsRead;
+
+// The number of bits taken and the cursor after them, or a refusal.
+pub enum MacroblockDecoded {
+    Decoded(usize, Cursor),
+    Refused(BlockAssemblyError),
+}
+
+// The state, before any bit: 11, 12, 13, 14, 9, 10.
+fn check_state(
+    data: &[u8],
+    c: Cursor,
+    header: MacroblockHeader,
+    ctx: MacroblockTextureContext,
+    predictors: BlockPredictors,
+    w: [[u8; 8]; 8],
+    room: usize,
+) -> Checked
+    ensures { λ r. ⌜ r ≡ stateOf (now («data» .entry)) (c .«bit_pos») header ctx predictors w room ⌝ }
+{
+    let checked = block::check(data, c, ctx, predictors, w);
+    match checked {
+        Checked::Bad(e) => Checked::Bad(e),
+        Checked::Fine => {
+            if room < 384 {
+                return Checked::Bad(BlockAssemblyError::TooShort);
+            }
+            crate::header::check_header(header)
+        }
+    }
+}
+
+// Once the state is checked: all bits first, then the samples.
+fn decode_checked(
+    data: &[u8],
+    c: Cursor,
+    header: MacroblockHeader,
+    use_intra_dc_vlc: bool,
+    reversible_vlc: bool,
+    ctx: MacroblockTextureContext,
+    predictors: BlockPredictors,
+    w: [[u8; 8]; 8],
+    samples: &mut [i32],
+) -> MacroblockDecoded
+    requires { ⌜ stateOf (now «data») (c .«bit_pos») header ctx predictors w (length (now samples)) ≡ Fine ⌝ }
+    ensures { λ r. ⌜ r ≡ told (now («data» .entry)) (c .«bit_pos») (sentenceOf (now («data» .entry)) (c .«bit_pos») header «use_intra_dc_vlc» «reversible_vlc») ⌝ }
+    ensures samples { λ r. ⌜ now (samples .exit) ≡ samplesTold header «use_intra_dc_vlc» ctx predictors w (sentenceOf (now («data» .entry)) (c .«bit_pos») header «use_intra_dc_vlc» «reversible_vlc») (now (samples .entry)) ⌝ }
+{
+    let pattern = block::pattern_code(header.cbpy, header.cbpc);
+    let mut rows = [[0i32; 64]; 6];
+    let answer = block::read_blocks(
+        data,
+        c,
+        pattern,
+        use_intra_dc_vlc,
+        reversible_vlc,
+        &mut rows,
+    );
+    match answer {
+        EventsRead::Refused(e) => MacroblockDecoded::Refused(BlockAssemblyError::Texture(e)),
+        EventsRead::Read(next) => {
+            let values = crate::six::values_of_six(rows, ctx, predictors, w);
+            let blocks = crate::six::samples_of_six(values, ctx);
+            samples::write_macroblock(samples, blocks);
+            MacroblockDecoded::Decoded(next.bit_pos - c.bit_pos, next)
+        }
+    }
+}
+
+// A macroblock read alone. Demand 3 is the last clause.
+pub fn decode_intra_macroblock(
+    data: &[u8],
+    c: Cursor,
+    header: MacroblockHeader,
+    use_intra_dc_vlc: bool,
+    reversible_vlc: bool,
+    ctx: MacroblockTextureContext,
+    predictors: BlockPredictors,
+    quant_matrix: [[u8; 8]; 8],
+    samples: &mut [i32],
+) -> MacroblockDecoded
+    ensures { λ r. ⌜ r ≡ macroblockAnswer (now («data» .entry)) (c .«bit_pos») header «use_intra_dc_vlc» «reversible_vlc» ctx predictors «quant_matrix» (now (samples .entry)) ⌝ }
+    ensures samples { λ r. ⌜ now (samples .exit) ≡ samplesOut (now («data» .entry)) (c .«bit_pos») header «use_intra_dc_vlc» «reversible_vlc» ctx predictors «quant_matrix» (now (samples .entry)) ⌝ }
+    ensures demand { λ r. ⌜ DemandAlone (now («data» .entry)) (c .«bit_pos») header «use_intra_dc_vlc» «reversible_vlc» ctx predictors «quant_matrix» (now (samples .entry)) r (now (samples .exit)) ⌝ }
+{
+    let room = samples.len();
+    let checked = check_state(data, c, header, ctx, predictors, quant_matrix, room);
+    match checked {
+        Checked::Bad(e) => MacroblockDecoded::Refused(e),
+        Checked::Fine => decode_checked(
+            data,
+            c,
+            header,
+            use_intra_dc_vlc,
+            reversible_vlc,
+            ctx,
+            predictors,
+            quant_matrix,
+            samples,
+        ),
+    }
+}
