@@ -15,15 +15,13 @@ use Rattle.coefficients.specs.Level.{placesFine}
 use Rattle.idct.proofs.Refusals.{depth-least}
 use Rattle.idct.proofs.Refusals as Refusals
 use Rattle.idct.specs.Limits.{inBounds, valuesFine}
-use Rattle.numbers.specs.Every.{every}
 use Rattle.numbers.specs.Grid.{cell}
 use Rattle.ranges.specs.Range.{depthFine}
 use Rattle.texture.proofs.Sentences.{block-sentences}
 use Rattle.texture.specs.Answer.{after}
-use Rattle.texture.specs.Macroblock.{GoodBlock, Parts, readBlock}
+use Rattle.texture.specs.Macroblock.{Parts, readBlock}
 use Rattle.texture.specs.Reader.{Res, ok, no}
 use Rattle.texture.specs.declared.error.TextureParseError.{TextureParseError}
-use Rattle.texture.specs.declared.list.EventsRead.{EventsRead}
 use Rattle.texture.specs.declared.list.EventsRead.the-variants.{Read as EventsAre, Refused as EventsRefused}
 use Rattle.block.proofs.PlaceLaws.{good-places}
 use Rattle.block.specs.Reading.{partsAt, partsRead, qfsOf}

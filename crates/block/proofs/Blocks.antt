@@ -2,7 +2,7 @@
 use mathlib.Core.Bool.{Bool, true}
 use mathlib.Core.List.{List}
 use mathlib.Core.Logic.{_↔_}
-use mathlib.Core.Path.{_≡_, ap, refl, _∙_}
+use mathlib.Core.Path.{_≡_, ap, refl}
 use Prim.Native.Nat.{ℕ, _<_}
 use native.Mathlib.Omega.{arith}
 use lib.IntN.{ℤ}
@@ -22,8 +22,7 @@ use Rattle.block.proofs.ValueLaws.{depth-fine}
 use Rattle.block.specs.Answer.{levelsIn, told, valuesIn}
 use Rattle.block.specs.Values.{contextFine}
 use Rattle.block.specs.declared.context.MacroblockTextureContext.{MacroblockTextureContext}
-use Rattle.block.specs.declared.intra.BlockDecoded.{BlockDecoded}
-use Rattle.block.specs.declared.intra.BlockDecoded.the-variants.{Decoded, Refused}
+use Rattle.block.specs.declared.intra.BlockDecoded.the-variants.{Decoded}
 
 module _ (d : List ℕ) (at : ℕ) (c : DcComponent) (coded dcCoded rev : Bool) (x : MacroblockTextureContext) (p : BlockPredictors) (w : List (List ℕ)) where
   abbrev read : Res Parts

@@ -3,6 +3,7 @@ pub mod ValueLaws
 pub mod SampleLaws
 pub mod PlaceLaws
 pub mod ReadingLaws
+pub mod TestLaws
 pub mod StateLaws
 pub mod AnswerLaws
 pub mod RowLaws

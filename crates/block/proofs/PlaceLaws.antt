@@ -2,7 +2,7 @@
 use mathlib.Core.Bool.{Bool, cond, false, true}
 use mathlib.Core.List.{List, [], _∷_}
 use mathlib.Core.Option.{Option, none, some}
-use mathlib.Core.Path.{_≡_, ap, refl, subst⁻¹, _∙_}
+use mathlib.Core.Path.{_≡_, refl, subst⁻¹, _∙_}
 use Prim.Native.Nat.{ℕ, suc, zero, _*_, _+_, _-_, _<_, _^_, _≤_}
 use native.Mathlib.Omega.{arith}
 use lib.Dec.{eqb, leb}
@@ -10,7 +10,7 @@ use lib.IntN.{natAbs, pos, _*ℤ_, _+ℤ_, _-ℤ_, ℤ}
 use lib.ListN.{getD, length, length-set, set}
 use lib.Seq.{getD-set-other, getD-set-same}
 use lib.Pow.{pow-mono}
-use borrow.Author.Tests.{eqb-false, leb-false, leb-true}
+use borrow.Author.Tests.{leb-false, leb-true}
 use Rattle.codes.specs.declared.dc_size.DcComponent.{DcComponent}
 use Rattle.codes.specs.declared.tcoef_tables.TcoefTable.{TcoefTable}
 use Rattle.codes.specs.declared.tcoef_tables.TcoefTable.the-variants.{Intra}

@@ -27,7 +27,6 @@ use Rattle.texture.specs.Events.{Events, firstPlace, list}
 use Rattle.texture.specs.Macroblock.{Parts}
 use Rattle.texture.specs.Places.{zeros}
 use Rattle.texture.specs.Reader.{Res, ok, no, bind, mapped}
-use Rattle.texture.specs.declared.dc.DcRead.{DcRead}
 use Rattle.texture.specs.declared.dc.DcRead.the-variants.{Dc as DcIs, Refused as DcRefused}
 use Rattle.texture.specs.declared.dc.IntraDcDifferential.{IntraDcDifferential}
 use Rattle.texture.specs.declared.error.TextureParseError.{TextureParseError}

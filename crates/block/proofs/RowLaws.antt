@@ -26,7 +26,7 @@ use Rattle.texture.specs.declared.error.TextureParseError.{TextureParseError}
 use Rattle.texture.specs.declared.error.TextureParseError.the-variants.{OutOfRange}
 use Rattle.texture.specs.declared.list.EventsRead.{EventsRead}
 use Rattle.texture.specs.declared.list.EventsRead.the-variants.{Read as EventsAre, Refused as EventsRefused}
-use Rattle.block.proofs.AnswerLaws.{Sentence, none, sentence}
+use Rattle.block.proofs.AnswerLaws.{none, sentence}
 use Rattle.block.proofs.PlaceLaws.{good-places}
 use Rattle.block.specs.Reading.{partsAt}
 use Rattle.block.specs.Rows.{InsideRows, RowsSay, blocksAnswer, blocksTold, componentAt, readRow, readRows, rowOf, rowsAfter, rowsOf, rowsTold, saidRows}

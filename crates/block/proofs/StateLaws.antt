@@ -16,7 +16,8 @@ use Rattle.coefficients.specs.Level.{predictorsFine}
 use Rattle.coefficients.specs.declared.predictor.BlockPredictors.{BlockPredictors}
 use Rattle.numbers.specs.Every.{every}
 use Rattle.ranges.specs.Range.{depthFine, quantiserFine}
-use Rattle.block.specs.Answer.{checkOf}
+use Rattle.block.proofs.TestLaws.{all-pass}
+use Rattle.block.specs.Answer.{checkOf, testsOf}
 use Rattle.block.specs.Values.{contextFine}
 use Rattle.block.specs.declared.context.MacroblockTextureContext.{MacroblockTextureContext}
 use Rattle.block.specs.declared.error.BlockAssemblyError.the-variants.{Context, OutOfRange, Predictor}
@@ -54,10 +55,4 @@ module _ (d : List ℕ) (at : ℕ) where
 
     -- a state that passes
     pub all-fine : checkOf d at x p w ≡ Fine → (inData (length d) at ≡ true) × (contextFine x w ≡ true) × (predictorsFine p ≡ true)
-    all-fine q = go (inData (length d) at) (contextFine x w) (predictorsFine p) q
-      where
-        go : (a b t : Bool) → answered a b t ≡ Fine → (a ≡ true) × (b ≡ true) × (t ≡ true)
-        go true true true q = (refl, refl, refl)
-        go true true false q = absurd (let z : _≡_ {A = ℕ} 0 1 = cc in omega arith)
-        go true false t q = absurd (let z : _≡_ {A = ℕ} 0 1 = cc in omega arith)
-        go false b t q = absurd (let z : _≡_ {A = ℕ} 0 1 = cc in omega arith)
+    all-fine q = let t = all-pass (testsOf d at x p w) q in (t .0, t .1 .0, t .1 .1 .0)

@@ -54,8 +54,11 @@ firstBad [] = Fine
 firstBad (t ∷ ts) = cond (t .0) (firstBad ts) (Bad (t .1))
 
 -- the state, before any bit: 11, 12, 13
+abbrev pub testsOf : List ℕ → ℕ → MacroblockTextureContext → BlockPredictors → List (List ℕ) → List (Bool × BlockAssemblyError)
+testsOf d at x p w = (inData (length d) at, OutOfRange) ∷ (contextFine x w, Context) ∷ (predictorsFine p, Predictor) ∷ []
+
 abbrev pub checkOf : List ℕ → ℕ → MacroblockTextureContext → BlockPredictors → List (List ℕ) → Checked
-checkOf d at x p w = firstBad ((inData (length d) at, OutOfRange) ∷ (contextFine x w, Context) ∷ (predictorsFine p, Predictor) ∷ [])
+checkOf d at x p w = firstBad (testsOf d at x p w)
 
 -- ---- a block of a component, whose bits were read
 

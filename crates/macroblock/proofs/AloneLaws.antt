@@ -1,7 +1,7 @@
 -- A macroblock read alone: its answer, its samples and demand 3, by what the state and the reader say. Assumes nothing.
 use mathlib.Core.Bool.{Bool}
 use mathlib.Core.List.{List}
-use mathlib.Core.Path.{_≡_, ap, ap₂, refl, subst, subst⁻¹, sym, _∙_}
+use mathlib.Core.Path.{_≡_, ap, ap₂, subst, subst⁻¹, sym, _∙_}
 use Prim.Native.Nat.{ℕ, _+_, _-_}
 use native.Mathlib.Omega.{arith}
 use lib.IntN.{ℤ}
@@ -12,14 +12,14 @@ use Rattle.bits.specs.declared.cursor.Cursor.{Cursor}
 use Rattle.coefficients.specs.declared.predictor.BlockPredictors.{BlockPredictors}
 use Rattle.texture.specs.Answer.{after}
 use Rattle.texture.specs.Macroblock.{Parts}
-use Rattle.texture.specs.Reader.{Res, no, ok}
+use Rattle.texture.specs.Reader.{Res}
 use Rattle.block.proofs.ValueLaws.{depth-fine}
 use Rattle.block.specs.Rows.{rowsOf}
 use Rattle.block.specs.declared.context.MacroblockTextureContext.{MacroblockTextureContext}
 use Rattle.block.specs.declared.error.BlockAssemblyError.{BlockAssemblyError}
 use Rattle.block.specs.declared.error.Checked.{Checked}
 use Rattle.block.specs.declared.error.Checked.the-variants.{Bad, Fine}
-use Rattle.macroblock.proofs.DemandLaws.{Call, demand, readBy}
+use Rattle.macroblock.proofs.DemandLaws.{Call, demand}
 use Rattle.macroblock.proofs.SixLaws.{values-six-fine}
 use Rattle.macroblock.proofs.StateLaws.{StateFine, state-fine}
 use Rattle.macroblock.specs.Alone.{Accepted, DemandAlone, Told}

@@ -1,6 +1,6 @@
 -- Demand 3 follows for any call that answers what the reader made of the bits and writes the samples of the sentence's values. Assumes nothing.
 use mathlib.Core.Bool.{Bool, true}
-use mathlib.Core.List.{List, []}
+use mathlib.Core.List.{List}
 use mathlib.Core.Path.{_≡_, ap, refl, sym, _∙_}
 use Prim.Native.Nat.{ℕ, _*_, _+_, _<_, _≤_}
 use lib.IntN.{pos, ℤ}

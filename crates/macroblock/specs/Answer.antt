@@ -1,24 +1,20 @@
 -- What is answered of a macroblock read alone, and what its lent samples hold afterwards, refusals included. Definitions only.
 use mathlib.Core.Bool.{Bool}
-use mathlib.Core.List.{List, [], _∷_}
+use mathlib.Core.List.{List, _++_, _∷_}
 use Prim.Native.Nat.{ℕ, _-_}
 use lib.Dec.{leb}
 use lib.IntN.{ℤ}
 use lib.ListN.{length}
 use Rattle.bits.specs.Bits.{bitsFrom}
-use Rattle.bits.specs.Cursor.{inData}
-use Rattle.coefficients.specs.Level.{predictorsFine}
 use Rattle.coefficients.specs.declared.predictor.BlockPredictors.{BlockPredictors}
 use Rattle.samples.specs.Samples.{samplesAfter}
 use Rattle.texture.specs.Answer.{after}
 use Rattle.texture.specs.Macroblock.{Parts, readMacroblock}
 use Rattle.texture.specs.Reader.{Res, no, ok}
-use Rattle.block.specs.Answer.{firstBad}
+use Rattle.block.specs.Answer.{firstBad, testsOf}
 use Rattle.block.specs.Rows.{rowsOf}
-use Rattle.block.specs.Values.{contextFine}
 use Rattle.block.specs.declared.context.MacroblockTextureContext.{MacroblockTextureContext}
-use Rattle.block.specs.declared.error.BlockAssemblyError.{BlockAssemblyError}
-use Rattle.block.specs.declared.error.BlockAssemblyError.the-variants.{Context, OutOfRange, Predictor, Texture, TooShort}
+use Rattle.block.specs.declared.error.BlockAssemblyError.the-variants.{Texture, TooShort}
 use Rattle.block.specs.declared.error.Checked.{Checked}
 use Rattle.block.specs.declared.error.Checked.the-variants.{Bad, Fine}
 use Rattle.macroblock.specs.Header.{headerTests, patternBy}
@@ -27,15 +23,10 @@ use Rattle.macroblock.specs.declared.decode.MacroblockDecoded.{Macrobloc
 use Rattle.macroblock.specs.declared.decode.MacroblockDecoded.the-variants.{Decoded, Refused}
 use Rattle.macroblock.specs.declared.header.MacroblockHeader.{MacroblockHeader}
 
--- the state, before any bit: 11, 12, 13, 14, 9, 10
+-- the state, before any bit: 11, 12, 13 as of a block, then 14, 9, 10
 unfoldable pub stateOf : List ℕ → ℕ → MacroblockHeader → MacroblockTextureContext → BlockPredictors → List (List ℕ) → ℕ → Checked
 stateOf d at h x p w room =
-    firstBad
-    ((inData (length d) at, OutOfRange)
-    ∷ (contextFine x w, Context)
-    ∷ (predictorsFine p, Predictor)
-    ∷ (leb 384 room, TooShort)
-    ∷ headerTests h)
+    firstBad (testsOf d at x p w ++ ((leb 384 room, TooShort) ∷ headerTests h))
 
 -- what the reader makes of the bits from the start to the end of the data
 unfoldable pub sentenceOf : List ℕ → ℕ → MacroblockHeader → Bool → Bool → Res (List Parts)

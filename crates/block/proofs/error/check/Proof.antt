@@ -1,6 +1,6 @@
 -- `block::error::check` meets its contract: its tests are the definition's, in their order. Assumes nothing.
 use mathlib.Core.Bool.{false, true}
-use mathlib.Core.Path.{_≡_, refl, sym}
+use mathlib.Core.Path.{refl, sym}
 use borrow.Author.Needs.{needs}
 use denote.Ref.{now}
 use Rattle.numbers.proofs.Tests.{flag-passes, flag-refuses}

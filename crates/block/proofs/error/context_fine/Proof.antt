@@ -1,6 +1,6 @@
 -- `block::error::context_fine` meets its contract: its tests are the definition's. Assumes nothing.
 use mathlib.Core.Bool.{false, true}
-use mathlib.Core.Path.{_≡_, refl, sym, _∙_}
+use mathlib.Core.Path.{refl, sym, _∙_}
 use borrow.Author.Needs.{needs}
 use Rattle.numbers.proofs.Tests.{flag-passes, flag-refuses}
 use Rattle.block.proofs.StateLaws.{context-by}

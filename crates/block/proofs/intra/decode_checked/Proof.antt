@@ -1,12 +1,11 @@
 -- `block::intra::decode_checked` meets its contract: the sentence that was read, its levels, values and samples. Assumes nothing.
 use mathlib.Core.List.{List}
-use mathlib.Core.Path.{_≡_, ap, ap₂, subst⁻¹, sym, _∙_}
+use mathlib.Core.Path.{ap, ap₂, subst⁻¹, sym, _∙_}
 use borrow.Author.Needs.{needs}
 use denote.Ref.{now}
 use lib.IntN.{natAbs, ℤ}
 use Prim.Native.Nat.{_≤_}
 use mir.Facts.{toZ-ofZ}
-use mir.Syntax.{w32}
 use Rattle.bits.specs.declared.cursor.Cursor.{Cursor}
 use Rattle.coefficients.proofs.LevelLaws.{levels-fine}
 use Rattle.numbers.proofs.Words.{fits-mag}

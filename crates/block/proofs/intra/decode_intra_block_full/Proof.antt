@@ -1,5 +1,5 @@
 -- `block::intra::decode_intra_block_full` meets its contract: the index, the state, then the bits. Assumes nothing.
-use mathlib.Core.Path.{_≡_, ap₂, refl, sym, _∙_}
+use mathlib.Core.Path.{ap₂, refl, sym, _∙_}
 use borrow.Author.Needs.{needs}
 use denote.Ref.{now}
 use lib.ListN.{length}

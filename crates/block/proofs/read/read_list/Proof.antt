@@ -1,6 +1,6 @@
 -- `block::read::read_list` meets its contract: no list, or one of either coding. Assumes nothing.
 use mathlib.Core.Bool.{Bool, false, true}
-use mathlib.Core.Path.{_≡_, ap, ap₂, sym, _∙_}
+use mathlib.Core.Path.{ap, ap₂, sym, _∙_}
 use borrow.Author.Needs.{needs}
 use borrow.Author.Tests.{not-false, not-true}
 use denote.Ref.{now}

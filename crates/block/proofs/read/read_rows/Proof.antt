@@ -1,6 +1,5 @@
 -- `block::read::read_rows` meets its contract: a loop of six readings. Assumes nothing.
 use mathlib.Core.Bool.{false}
-use mathlib.Core.List.{List}
 use mathlib.Core.Path.{_≡_, ap, sym, _∙_}
 use Prim.Native.Nat.{_*_, _-_, _<_, _≤_}
 use native.Mathlib.Omega.{arith}
@@ -14,7 +13,7 @@ use Rattle.texture.proofs.EachLaws.{each-begins, each-ends, each-goes-on, each-
 use Rattle.texture.specs.Macroblock.{Place, placesOfPattern}
 use Rattle.block.proofs.RowLaws.{place-at, row-read, row-refused}
 use Rattle.block.specs.Reading.{partsAt}
-use Rattle.block.specs.Rows.{RowsSay, readRow, readRows}
+use Rattle.block.specs.Rows.{readRow, readRows}
 use Rattle.block.proofs.read.read_rows.Statement.{statement}
 use Rattle.block.proofs.read.read_rows.Tie as tie
 

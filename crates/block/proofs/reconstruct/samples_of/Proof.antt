@@ -1,5 +1,5 @@
 -- `block::reconstruct::samples_of` meets its contract: what the transform leaves, limited. Assumes nothing.
-use mathlib.Core.Path.{_≡_, _∙_}
+use mathlib.Core.Path.{_∙_}
 use borrow.Author.Needs.{needs}
 use Rattle.block.proofs.SampleLaws.{left-by, top-is}
 use Rattle.block.proofs.reconstruct.samples_of.Statement.{statement}

@@ -1,0 +1,4 @@
+-- The laws of this crate, each file over those above it.
+pub mod RecordLaws
+pub mod SideLaws
+pub mod SoundLaws

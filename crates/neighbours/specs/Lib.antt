@@ -1,0 +1,3 @@
+-- The neighbours of a block: what is kept of a macroblock, and what later blocks take of it.
+pub mod Record
+pub mod Neighbours

@@ -1,0 +1,102 @@
+-- Which block of which macroblock is A, B and C of a block (Figure 7-5); what a block takes of them; and refusal 13. Definitions only.
+use mathlib.Core.Bool.{Bool, true, false, cond}
+use mathlib.Core.List.{List, [], _∷_}
+use mathlib.Core.Option.{Option, none, some}
+use Prim.Native.Nat.{ℕ}
+use lib.Dec.{ltb}
+use lib.ListN.{getD}
+use lib.IntN.{ℤ}
+use Rattle.numbers.specs.Every.{every}
+use Rattle.coefficients.specs.Level.{predictorsFine}
+use Rattle.coefficients.specs.Prediction.{outsideOf}
+use Rattle.coefficients.specs.declared.predictor.BlockPredictors.{BlockPredictors}
+use Rattle.neighbours.specs.Record.{recordAt, knownOf, missingOf}
+use Rattle.neighbours.specs.declared.record.Side.{Side}
+use Rattle.neighbours.specs.declared.place.Place.{Place}
+use Rattle.neighbours.specs.declared.place.Source.{Source}
+use Rattle.neighbours.specs.declared.place.Source.the-variants.{Own, Left, AboveLeft, Above}
+
+-- A is left, B above left, C above. For blocks 0 to 5: the macroblock that it lies in, and which block it is there.
+abbrev pub aSource : ℕ → Source
+aSource i = getD (Left ∷ Own ∷ Left ∷ Own ∷ Left ∷ Left ∷ []) i Own
+
+abbrev pub aBlock : ℕ → ℕ
+aBlock i = getD (1 ∷ 0 ∷ 3 ∷ 2 ∷ 4 ∷ 5 ∷ []) i 0
+
+abbrev pub bSource : ℕ → Source
+bSource i = getD (AboveLeft ∷ Above ∷ Left ∷ Own ∷ AboveLeft ∷ AboveLeft ∷ []) i Own
+
+abbrev pub bBlock : ℕ → ℕ
+bBlock i = getD (3 ∷ 2 ∷ 1 ∷ 0 ∷ 4 ∷ 5 ∷ []) i 0
+
+abbrev pub cSource : ℕ → Source
+cSource i = getD (Above ∷ Above ∷ Own ∷ Own ∷ Above ∷ Above ∷ []) i Own
+
+abbrev pub cBlock : ℕ → ℕ
+cBlock i = getD (2 ∷ 3 ∷ 0 ∷ 1 ∷ 4 ∷ 5 ∷ []) i 0
+
+-- the records of the three macroblocks around the one that is due, where they are not missing
+pub record Around : Type 0 where
+  pub left : Option (List ℤ)
+  pub aboveLeft : Option (List ℤ)
+  pub above : Option (List ℤ)
+
+abbrev pub found : {A : Type 0} → Bool → A → Option A
+found true a = some a
+found false a = none
+
+-- the record of a source, with the macroblock's own so far
+abbrev pub from : Around → List ℤ → Source → Option (List ℤ)
+from ar own Own = some own
+from ar own Left = ar .left
+from ar own AboveLeft = ar .aboveLeft
+from ar own Above = ar .above
+
+abbrev pub sided : ℕ → ℕ → Option (List ℤ) → ℕ → Side
+sided depth q none b = missingOf depth q
+sided depth q (some r) b = knownOf r b
+
+abbrev pub sideOf : ℕ → ℕ → Around → List ℤ → Source → ℕ → Side
+sideOf depth q ar own source b = sided depth q (from ar own source) b
+
+-- of A the DC, the quantiser and the column; of B the DC; of C the DC, the quantiser and the row
+abbrev pub joined : Side → Side → Side → BlockPredictors
+joined a b c =
+    record {
+      «fa_dc» = a .dc;
+      «fb_dc» = b .dc;
+      «fc_dc» = c .dc;
+      «qp_a» = a .qp;
+      «qp_c» = c .qp;
+      «a_has_column» = a .has;
+      «a_first_column» = a .column;
+      «c_has_row» = c .has;
+      «c_first_row» = c .row;
+    }
+
+-- what block i takes
+unfoldable pub predictors : ℕ → ℕ → Around → List ℤ → ℕ → BlockPredictors
+predictors depth q ar own i =
+    joined (sideOf depth q ar own (aSource i) (aBlock i))
+    (sideOf depth q ar own (bSource i) (bBlock i))
+    (sideOf depth q ar own (cSource i) (cBlock i))
+
+-- the same for any index: from 6 on there is no block, and no neighbour
+abbrev pub taken : ℕ → ℕ → Around → List ℤ → ℕ → BlockPredictors
+taken depth q ar own i = cond (ltb i 6) (predictors depth q ar own i) (outsideOf depth q)
+
+-- the three records, out of the store
+abbrev pub aroundBy : Place → List ℤ → Around
+aroundBy p s =
+    record {
+      left = found (p .«has_left») (recordAt s (p .left));
+      aboveLeft = found (p .«has_above_left») (recordAt s (p .«above_left»));
+      above = found (p .«has_above») (recordAt s (p .above));
+    }
+
+-- refusal 13: what the six blocks take is in range, AC values whether or not AC prediction is set; the macroblock's own record is a new one, which is
+abbrev pub sixBlocks : List ℕ
+sixBlocks = 0 ∷ 1 ∷ 2 ∷ 3 ∷ 4 ∷ 5 ∷ []
+
+unfoldable pub neighboursFine : ℕ → ℕ → Around → List ℤ → Bool
+neighboursFine depth q ar own = every (λ (i : ℕ). predictorsFine (predictors depth q ar own i)) sixBlocks

@@ -1,0 +1,129 @@
+// The record that is kept of a macroblock, and a block of it as a neighbour.
+ghost use mathlib.Core.Path.{_≡_};
+ghost use Prim.Native.Nat.{_<_, _≤_};
+ghost use lib.ListN.{getD};
+ghost use lib.IntN.{pos};
+ghost use Rattle.neighbours.specs.Record.{blank, fifteen, keptOf, knownOf, missingOf, quantiserOf, recordAt, sevenFrom, withBlock};
+use coefficients::BlockPredictors;
+
+// What a block takes of one neighbour; `has` is false outside the picture.
+pub struct Side {
+    pub has: bool,
+    pub dc: i32,
+    pub qp: u32,
+    pub row: [i32; 7],
+    pub column: [i32; 7],
+}
+
+fn quantiser(z: i32) -> u32
+    ensures { λ r. ⌜ r ≡ quantiserOf z ⌝ }
+{
+    if z < 0 {
+        return 0;
+    }
+    z as u32
+}
+
+// A number of the store, 0 past its end: the one function that reads one.
+fn number(s: &[i32], at: usize) -> i32
+    ensures { λ r. ⌜ r ≡ getD (now (s .entry)) at (pos 0) ⌝ }
+{
+    if at < s.len() {
+        return s[at];
+    }
+    0
+}
+
+// The seven numbers from `at` on.
+fn seven(s: &[i32], at: usize) -> [i32; 7]
+    requires { ⌜ at ≤ 8589934592 ⌝ }
+    ensures { λ r. ⌜ r ≡ sevenFrom (now (s .entry)) at ⌝ }
+{
+    let mut out = [0i32; 7];
+    for k in 0..7 {
+        out[k] = number(s, at + k);
+    }
+    out
+}
+
+// Block `b` of the record at `at`.
+pub(crate) fn known(s: &[i32], at: usize, b: usize) -> Side
+    requires { ⌜ (at ≤ 4294967296) × (b < 6) ⌝ }
+    ensures { λ r. ⌜ r ≡ knownOf (recordAt (now (s .entry)) at) b ⌝ }
+{
+    let base = at + 15 * b;
+    let dc = number(s, base);
+    let qp = quantiser(number(s, at + 90));
+    let row = seven(s, base + 1);
+    let column = seven(s, base + 8);
+    Side {
+        has: true,
+        dc,
+        qp,
+        row,
+        column,
+    }
+}
+
+// A neighbour outside the picture.
+pub(crate) fn missing(bits_per_pixel: u32, quantiser_scale: u32) -> Side
+    ensures { λ r. ⌜ r ≡ missingOf «bits_per_pixel» «quantiser_scale» ⌝ }
+{
+    let outside = BlockPredictors::outside(bits_per_pixel, quantiser_scale);
+    Side {
+        has: false,
+        dc: outside.fa_dc,
+        qp: quantiser_scale,
+        row: [0i32; 7],
+        column: [0i32; 7],
+    }
+}
+
+// The record before its first block.
+pub fn new_record(quantiser_scale: u32) -> [i32; 91]
+    ensures { λ r. ⌜ r ≡ blank «quantiser_scale» ⌝ }
+{
+    let mut own = [0i32; 91];
+    if quantiser_scale <= 31 {
+        own[90] = quantiser_scale as i32;
+    }
+    own
+}
+
+// Number `u` of the fifteen that are kept of a block.
+fn kept(dc: i32, qf: [[i32; 8]; 8], u: usize) -> i32
+    requires { ⌜ u < 15 ⌝ }
+    ensures { λ r. ⌜ r ≡ keptOf dc qf u ⌝ }
+{
+    if u == 0 {
+        return dc;
+    }
+    if u <= 7 {
+        return qf[0][u];
+    }
+    qf[u - 7][0]
+}
+
+fn kept_numbers(dc: i32, qf: [[i32; 8]; 8]) -> [i32; 15]
+    ensures { λ r. ⌜ r ≡ fifteen dc qf ⌝ }
+{
+    let mut out = [0i32; 15];
+    for u in 0..15 {
+        out[u] = kept(dc, qf, u);
+    }
+    out
+}
+
+// The record with block `i` put in.
+pub fn with_block(own: [i32; 91], i: usize, dc: i32, qf: [[i32; 8]; 8]) -> [i32; 91]
+    ensures { λ r. ⌜ r ≡ withBlock own i dc qf ⌝ }
+{
+    let mut out = own;
+    if i < 6 {
+        let numbers = kept_numbers(dc, qf);
+        for k in 0..15 {
+            out[15 * i + k] = numbers[k];
+        }
+    }
+    out
+}

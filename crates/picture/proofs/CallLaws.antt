@@ -1,0 +1,130 @@
+-- A call in a picture: its answer, samples and store, and demand 3, by what the state and the reader say. Assumes nothing.
+use mathlib.Core.Bool.{Bool}
+use mathlib.Core.List.{List}
+use mathlib.Core.Path.{_≡_, ap, subst, subst⁻¹, sym, _∙_}
+use Prim.Native.Nat.{ℕ, _+_, _-_, _*_, _<_, _≤_}
+use native.Mathlib.Omega.{arith}
+use lib.IntN.{ℤ}
+use lib.ListN.{length}
+use Rattle.bits.proofs.CursorLaws.{in-data-yes}
+use Rattle.bits.specs.Cursor.{cursorAt}
+use Rattle.bits.specs.declared.cursor.Cursor.{Cursor}
+use Rattle.texture.specs.Answer.{after}
+use Rattle.texture.specs.Macroblock.{Parts}
+use Rattle.texture.specs.Reader.{Res}
+use Rattle.block.proofs.ValueLaws.{depth-fine}
+use Rattle.block.specs.Rows.{rowsOf}
+use Rattle.block.specs.declared.error.BlockAssemblyError.{BlockAssemblyError}
+use Rattle.block.specs.declared.error.Checked.{Checked}
+use Rattle.block.specs.declared.error.Checked.the-variants.{Bad, Fine}
+use Rattle.macroblock.proofs.DemandLaws.{Call, demand, read-of}
+use Rattle.macroblock.specs.Answer.{keptBy, sentenceOf}
+use Rattle.macroblock.specs.Header.{patternBy}
+use Rattle.neighbours.proofs.RecordLaws.{read-back}
+use Rattle.neighbours.specs.Record.{knownOf, recordAt, storedAt}
+use Rattle.picture.proofs.RingLaws.{earlier-kept, slot-in}
+use Rattle.picture.proofs.SerialLaws.{kept-is, turn-fine, up-sound}
+use Rattle.picture.proofs.StateLaws.{FirstFine, state-first}
+use Rattle.picture.specs.Call.{Input, answerBy, answerOut, answerTold, aroundHere, contextHere, recordHere, samplesOut, samplesTold, sentenceHere, stateHere, storeOut, storeTold, valuesHere}
+use Rattle.picture.specs.InPicture.{Accepted, Begun, DemandInPicture, Promise, Told, kept}
+use Rattle.picture.specs.Picture.{onward}
+use Rattle.picture.specs.Ring.{offset}
+use Rattle.picture.specs.declared.call.PictureDecoded.{PictureDecoded}
+use Rattle.picture.specs.declared.call.PictureDecoded.the-variants.{Decoded, Refused}
+use Rattle.picture.specs.declared.picture.Picture.{Picture}
+
+module _ (p : Picture) (x : Input) (store : List ℤ) where
+  abbrev dcCoded : Bool
+  dcCoded = x .context .«use_intra_dc_vlc»
+
+  abbrev rev : Bool
+  rev = x .context .«reversible_vlc»
+
+  abbrev samplesRead : Res (List Parts) → List ℤ
+  samplesRead y = samplesTold (x .header) dcCoded (contextHere p x) (x .matrix) (aroundHere p x store) y (x .samples)
+
+  abbrev storeRead : Res (List Parts) → List ℤ
+  storeRead y = storeTold p (x .header) dcCoded (contextHere p x) (x .matrix) (aroundHere p x store) y store
+
+  -- what the public contract says
+  abbrev pub Meets : PictureDecoded → List ℤ → List ℤ → Type 0
+  Meets r out st =
+      (r ≡ answerOut p x store) × ((out ≡ samplesOut p x store) × ((st ≡ storeOut p x store) × DemandInPicture p x store r out st))
+
+  pub refused : {e : BlockAssemblyError} → stateHere p x store ≡ Bad e → Meets (Refused e) (x .samples) store
+  unfolding answerOut samplesOut storeOut
+  refused {e} q = (
+    sym (ap (λ (s : Checked). answerBy s (answerTold p (x .bytes) (x .start) (sentenceHere p x))) q),
+    (
+      sym (ap (λ (s : Checked). keptBy s (samplesRead (sentenceHere p x)) (x .samples)) q),
+      (
+        sym (ap (λ (s : Checked). keptBy s (storeRead (sentenceHere p x)) store) q),
+        λ f. absurd (let z : _≡_ {A = ℕ} 0 1 = cc in omega arith),
+      ),
+    ),
+  )
+
+  module _ (q : stateHere p x store ≡ Fine) (r : PictureDecoded) (out st : List ℤ)
+      (e : r ≡ answerTold p (x .bytes) (x .start) (sentenceHere p x)) (f : out ≡ samplesRead (sentenceHere p x)) (g : st ≡ storeRead (sentenceHere p x)) where
+    fine : FirstFine p (x .bytes) (x .start) (contextHere p x) (x .matrix) (length (x .samples)) (length store)
+    fine = state-first p (x .bytes) (x .start) (contextHere p x) (x .matrix) (length (x .samples)) (length store) (x .header) (aroundHere p x store) q
+
+    length-is : (n : ℕ) (c : Cursor) → c ≡ cursorAt (x .start + n) → Decoded (c .«bit_pos» - x .start) c (onward p) ≡ Decoded n (cursorAt (x .start + n)) (onward p)
+    length-is n c k =
+        let m : c .«bit_pos» - x .start ≡ n = let z = ap (λ (y : Cursor). y .«bit_pos») k in omega arith in
+        λ i. Decoded (m i) (k i) (onward p)
+
+    call : Call (x .bytes) (x .start) dcCoded rev (patternBy (x .header)) (contextHere p x) (valuesHere (x .header) dcCoded (contextHere p x) (x .matrix) (aroundHere p x store)) (Accepted r) (Told p (x .start) r) (x .samples) out
+    unfolding sentenceOf
+    call = record {
+      accepts = λ s b k. subst⁻¹ Accepted (e ∙ ap (answerTold p (x .bytes) (x .start)) k) tt;
+      refuses = λ n k a. subst Accepted (e ∙ ap (answerTold p (x .bytes) (x .start)) k) a;
+      tells = λ s b k n m. e ∙ ap (answerTold p (x .bytes) (x .start)) k ∙ length-is n (after (x .bytes) b) m;
+      writes = λ s b k. f ∙ ap samplesRead k;
+    }
+
+    -- the record of a sentence
+    abbrev record-of : List Parts → List ℤ
+    record-of s = recordHere (x .header) dcCoded (contextHere p x) (x .matrix) (aroundHere p x store) s
+
+    long : (s : List Parts) → length (record-of s) ≡ 91
+    long s = up-sound (contextHere p x) (x .matrix) (aroundHere p x store) (rowsOf dcCoded (patternBy (x .header)) s) (fine .context) 6 (omega arith) .long
+
+    stored-is : (s : List Parts) → Begun p x store s → st ≡ storedAt store (offset (p .width) (p .accepted) 0) (record-of s)
+    unfolding sentenceOf
+    stored-is s b = g ∙ ap storeRead (read-of (x .bytes) (x .start) dcCoded rev (patternBy (x .header)) s b)
+
+    own-is : (s : List Parts) → Begun p x store s → (i : ℕ) → i < 6 → knownOf (recordAt st (offset (p .width) (p .accepted) 0)) i ≡ kept p x store s i
+    own-is s b i l =
+        let a = slot-in (p .width) (p .accepted + 2 * p .width - 0) (length store) (fine .size .w-low) (fine .long) in
+        ap (λ (y : List ℤ). knownOf (recordAt y (offset (p .width) (p .accepted) 0)) i) (stored-is s b)
+        ∙ ap (λ (y : List ℤ). knownOf y i) (read-back store (offset (p .width) (p .accepted) 0) (record-of s) (omega arith) (long s))
+        ∙ kept-is (contextHere p x) (x .matrix) (aroundHere p x store) (rowsOf dcCoded (patternBy (x .header)) s) (fine .context) i l
+
+    earlier-is : (s : List Parts) → Begun p x store s → (back : ℕ) → 1 ≤ back → back < 2 * p .width
+        → recordAt st (offset (p .width) (p .accepted) back) ≡ recordAt store (offset (p .width) (p .accepted) back)
+    earlier-is s b back l h =
+        ap (λ (y : List ℤ). recordAt y (offset (p .width) (p .accepted) back)) (stored-is s b)
+        ∙ earlier-kept (p .width) (p .accepted) back store (record-of s) (fine .size .w-low) (fine .long) (long s) l h
+
+    promise : Promise p x store r out st
+    promise = record {
+      macroblock = demand (x .bytes) (x .start) dcCoded rev (patternBy (x .header)) (contextHere p x) (valuesHere (x .header) dcCoded (contextHere p x) (x .matrix) (aroundHere p x store)) (Accepted r) (Told p (x .start) r) (x .samples) out
+          (in-data-yes (length (x .bytes)) (x .start) (fine .inside) .1) (depth-fine (contextHere p x) (x .matrix) (fine .context))
+          (λ s i l. turn-fine (contextHere p x) (x .matrix) (aroundHere p x store) (rowsOf dcCoded (patternBy (x .header)) s) i l) (fine .roomy) call;
+      own = own-is;
+      earlier = earlier-is;
+    }
+
+    pub checked : Meets r out st
+    unfolding answerOut samplesOut storeOut
+    checked = (
+      e ∙ sym (ap (λ (s : Checked). answerBy s (answerTold p (x .bytes) (x .start) (sentenceHere p x))) q),
+      (
+        f ∙ sym (ap (λ (s : Checked). keptBy s (samplesRead (sentenceHere p x)) (x .samples)) q),
+        (
+          g ∙ sym (ap (λ (s : Checked). keptBy s (storeRead (sentenceHere p x)) store) q),
+          λ _. promise,
+        ),
+      ),
+    )

@@ -1,0 +1,5 @@
+-- The laws of this crate.
+pub mod StateLaws
+pub mod RingLaws
+pub mod SerialLaws
+pub mod CallLaws

@@ -1,0 +1,133 @@
+-- Six blocks one after the other: nothing is refused, the record is sound, and it gives back what was worked out. Assumes nothing.
+use mathlib.Core.Bool.{Bool, cond, true}
+use mathlib.Core.List.{List, []}
+use mathlib.Core.Logic.{⊎-elim}
+use mathlib.Core.Path.{_≡_, ap, ap₂, refl, subst, subst⁻¹, sym, _∙_}
+use Prim.Native.Nat.{ℕ, suc, zero, _+_, _<_, _≤_}
+use native.Mathlib.Nat.{not-suc-le-zero}
+use native.Mathlib.Numerals.{add-one}
+use native.Mathlib.Omega.{arith}
+use lib.IntN.{ℤ, natAbs, pos}
+use lib.ListN.{getD}
+use borrow.Author.Tests.{le-leb}
+use Rattle.coefficients.proofs.BlockTests.{test-at}
+use Rattle.coefficients.proofs.LevelLaws.{levels-fine}
+use Rattle.coefficients.proofs.RangeLaws.{abs-dc, quantiser-range}
+use Rattle.coefficients.specs.Dequantised.{blockFine}
+use Rattle.coefficients.specs.Level.{placesFine}
+use Rattle.idct.specs.Limits.{valuesFine}
+use Rattle.numbers.proofs.Fill.{getD-build, lt-or-le}
+use Rattle.numbers.specs.Grid.{build, cell}
+use Rattle.ranges.specs.Range.{levelFine}
+use Rattle.block.proofs.AnswerLaws.{values-fine, values-small}
+use Rattle.block.proofs.ValueLaws.{depth-fine, levels-left, quantiser-fine, values-left}
+use Rattle.block.specs.Rows.{componentAt}
+use Rattle.block.specs.Values.{contextFine, levelsLeft, valuesLeft}
+use Rattle.block.specs.declared.context.MacroblockTextureContext.{MacroblockTextureContext}
+use Rattle.neighbours.proofs.RecordLaws.{known-other, known-own, quantiser-at, record-whole}
+use Rattle.neighbours.proofs.SideLaws.{taken-is}
+use Rattle.neighbours.proofs.SoundLaws.{Sound, blank-sound, taken-fine, with-block-sound}
+use Rattle.neighbours.specs.Neighbours.{Around, neighboursFine, predictors, taken}
+use Rattle.neighbours.specs.Record.{blank, knownOf, quantiserOf, recordAt, withBlock}
+use Rattle.neighbours.specs.declared.record.Side.{Side}
+use Rattle.picture.specs.Serial.{keptAs, levelsAt, levelsInTurn, recordOf, recordUpTo, valuesAt, valuesInTurn}
+
+module _ (x : MacroblockTextureContext) (w : List (List ℕ)) (ar : Around) (rows : List (List ℤ)) where
+  abbrev q : ℕ
+  q = x .«quantiser_scale»
+
+  abbrev upTo : ℕ → List ℤ
+  upTo = recordUpTo x w ar rows
+
+  -- the values lie within the depth's limits
+  pub turn-values : (i : ℕ) → i < 6 → getD (valuesInTurn x w ar rows) i [] ≡ valuesAt x w ar rows (upTo i) i
+  unfolding valuesInTurn
+  turn-values i l = getD-build 6 _ i [] l
+
+  pub turn-fine : (i : ℕ) → i < 6 → valuesFine (x .«bits_per_pixel») (getD (valuesInTurn x w ar rows) i []) ≡ true
+  turn-fine i l = subst⁻¹ (λ (f : List (List ℤ)). valuesFine (x .«bits_per_pixel») f ≡ true) (turn-values i l) (values-fine (componentAt i) x w _)
+
+  levels-in : (own : List ℤ) (i : ℕ) → blockFine (levelsAt x w ar rows own i) ≡ true
+  levels-in own i = levels-fine (componentAt i) q (x .«ac_pred_flag») (x .«alternate_vertical_scan») (predictors (x .«bits_per_pixel») q ar own i) (getD rows i [])
+
+  module _ (h : contextFine x w ≡ true) where
+    pub up-sound : (i : ℕ) → i ≤ 6 → Sound (upTo i)
+    unfolding recordUpTo
+    up-sound zero l = blank-sound q (quantiser-fine x w h)
+    up-sound (suc i) l =
+        let z : ℤ = cell (valuesAt x w ar rows (upTo i) i) 0 0 in
+        let m : natAbs z ≤ 65536 = let k = values-small (componentAt i) x w (levelsAt x w ar rows (upTo i) i) (depth-fine x w h) in omega arith in
+        with-block-sound (upTo i) i _ _ (up-sound i (omega arith)) l (abs-dc z m)
+        (λ v u a b. test-at levelFine (pos 0) (levelsAt x w ar rows (upTo i) i) refl (levels-in (upTo i) i) v u)
+
+    -- ---- a turn
+
+    module _ (n : neighboursFine (x .«bits_per_pixel») q ar (blank q) ≡ true) (i : ℕ) (l : i < 6) (f : placesFine (getD rows i []) ≡ true) where
+      pub turn-levels : levelsLeft (componentAt i) x (predictors (x .«bits_per_pixel») q ar (upTo i) i) (getD rows i []) ≡ levelsAt x w ar rows (upTo i) i
+      turn-levels = levels-left (componentAt i) x _ (getD rows i []) (quantiser-fine x w h) (taken-fine (x .«bits_per_pixel») q ar (blank q) (upTo i) n (up-sound i (omega arith)) i l) f
+
+      pub turn-value : valuesLeft (componentAt i) x w (levelsAt x w ar rows (upTo i) i) ≡ valuesAt x w ar rows (upTo i) i
+      turn-value = values-left x w h (componentAt i) _ (levels-in (upTo i) i)
+
+    pub turn-taken : (depth q′ : ℕ) → depth ≡ x .«bits_per_pixel» → q′ ≡ q → (i : ℕ) → i < 6 → (own : List ℤ) → own ≡ upTo i → taken depth q′ ar (recordAt own 0) i ≡ predictors (x .«bits_per_pixel») q ar (upTo i) i
+    turn-taken depth q′ e f i l own k =
+        taken-is depth q′ ar (recordAt own 0) i l
+        ∙ ap₂ (λ (d p : ℕ). predictors d p ar (recordAt own 0) i) e f
+        ∙ ap (λ (o : List ℤ). predictors (x .«bits_per_pixel») q ar o i) (ap (λ (o : List ℤ). recordAt o 0) k ∙ record-whole (upTo i) (up-sound i (omega arith) .long))
+
+    pub turn-dc : (i : ℕ) → natAbs (cell (valuesAt x w ar rows (upTo i) i) 0 0) ≤ 32768
+    turn-dc i = values-small (componentAt i) x w (levelsAt x w ar rows (upTo i) i) (depth-fine x w h)
+
+    pub turn-record : (i : ℕ) (own : List ℤ) (dc : ℤ) (qf : List (List ℤ)) → own ≡ upTo i → dc ≡ cell (valuesAt x w ar rows (upTo i) i) 0 0 → qf ≡ levelsAt x w ar rows (upTo i) i
+        → withBlock own i dc qf ≡ upTo (i + 1)
+    unfolding recordUpTo
+    turn-record i own dc qf a b c =
+        ap (λ (o : List ℤ). withBlock o i dc qf) a ∙ ap₂ (λ (z : ℤ) (f : List (List ℤ)). withBlock (upTo i) i z f) b c ∙ sym (ap upTo (add-one i))
+
+    -- ---- what the record gives
+
+    up-quantiser : (i : ℕ) → i ≤ 6 → getD (upTo i) 90 (pos 0) ≡ pos q
+    unfolding recordUpTo blank
+    up-quantiser zero l = ap (λ (t : Bool). pos (cond t q 0)) (le-leb q 31 (quantiser-range q (quantiser-fine x w h) .1))
+    up-quantiser (suc i) l = quantiser-at (upTo i) i _ _ (up-sound i (omega arith) .long) l ∙ up-quantiser i (omega arith)
+
+    abbrev sideAt : ℕ → Side
+    sideAt i =
+        record {
+          has = true;
+          dc = cell (valuesAt x w ar rows (upTo i) i) 0 0;
+          qp = q;
+          row = build 7 (λ (k : ℕ). cell (levelsInTurn x w ar rows i) 0 (k + 1));
+          column = build 7 (λ (k : ℕ). cell (levelsInTurn x w ar rows i) (k + 1) 0);
+        }
+
+    known-up : (n : ℕ) → n ≤ 6 → (i : ℕ) → i < n → knownOf (upTo n) i ≡ sideAt i
+    unfolding recordUpTo
+    known-up zero l i k = absurd (not-suc-le-zero k)
+    known-up (suc n) l i k =
+        ⊎-elim
+        (λ (a : i < n). known-other (upTo n) n _ _ (up-sound n (omega arith) .long) l i (omega arith) (λ e. omega arith) ∙ known-up n (omega arith) i a)
+        (λ (a : n ≤ i).
+        let e : i ≡ n = omega arith in
+        ap (λ (j : ℕ). knownOf (upTo (suc n)) j) e
+        ∙ known-own (upTo n) n _ _ (up-sound n (omega arith) .long) l
+        ∙ (λ j. record {
+          has = true;
+          dc = cell (valuesAt x w ar rows (upTo n) n) 0 0;
+          qp = quantiserOf (up-quantiser n (omega arith) j);
+          row = build 7 (λ (k : ℕ). cell (levelsInTurn x w ar rows n) 0 (k + 1));
+          column = build 7 (λ (k : ℕ). cell (levelsInTurn x w ar rows n) (k + 1) 0);
+        })
+        ∙ sym (ap sideAt e))
+        (lt-or-le i n)
+
+    pub kept-is : (i : ℕ) → i < 6 → knownOf (recordOf x w ar rows) i ≡ keptAs x w ar rows i
+    kept-is i l =
+        known-up 6 (omega arith) i l
+        ∙ ap (λ (f : List (List ℤ)). record {
+          has = true;
+          dc = cell f 0 0;
+          qp = q;
+          row = build 7 (λ (k : ℕ). cell (levelsInTurn x w ar rows i) 0 (k + 1));
+          column = build 7 (λ (k : ℕ). cell (levelsInTurn x w ar rows i) (k + 1) 0);
+        }) (sym (turn-values i l))

@@ -1,0 +1,50 @@
+-- Demand 3 of a macroblock in a picture. Definitions only.
+use mathlib.Core.List.{List}
+use mathlib.Core.Path.{_≡_}
+use Prim.Native.Nat.{ℕ, _+_, _*_, _<_, _≤_}
+use lib.IntN.{ℤ}
+use Rattle.bits.specs.Cursor.{cursorAt}
+use Rattle.texture.specs.Macroblock.{Parts}
+use Rattle.block.specs.Rows.{rowsOf}
+use Rattle.block.specs.declared.error.Checked.the-variants.{Fine}
+use Rattle.macroblock.specs.Demand.{Begins, Demand3}
+use Rattle.macroblock.specs.Header.{patternBy}
+use Rattle.neighbours.specs.Record.{knownOf, recordAt}
+use Rattle.neighbours.specs.declared.record.Side.{Side}
+use Rattle.picture.specs.Call.{Input, aroundHere, contextHere, stateHere, valuesHere}
+use Rattle.picture.specs.Picture.{onward}
+use Rattle.picture.specs.Ring.{offset}
+use Rattle.picture.specs.Serial.{keptAs}
+use Rattle.picture.specs.declared.call.PictureDecoded.{PictureDecoded}
+use Rattle.picture.specs.declared.call.PictureDecoded.the-variants.{Decoded, Refused}
+use Rattle.picture.specs.declared.picture.Picture.{Picture}
+
+-- answered without a number
+abbrev pub Accepted : PictureDecoded → Type 0
+Accepted (Decoded n c p) = Unit {0}
+Accepted (Refused e) = ⊥
+
+-- n bits, the position n bits on, and one macroblock more
+abbrev pub Told : Picture → ℕ → PictureDecoded → ℕ → Type 0
+Told p at r n = r ≡ Decoded n (cursorAt (at + n)) (onward p)
+
+module _ (p : Picture) (x : Input) (before : List ℤ) where
+  abbrev pub Begun : List Parts → Type 0
+  Begun s = Begins (x .bytes) (x .start) (x .context .«use_intra_dc_vlc») (x .context .«reversible_vlc») (patternBy (x .header)) s
+
+  -- what is kept of block i of a sentence
+  abbrev pub kept : List Parts → ℕ → Side
+  kept s i = keptAs (contextHere p x) (x .matrix) (aroundHere p x before) (rowsOf (x .context .«use_intra_dc_vlc») (patternBy (x .header)) s) i
+
+  pub record Promise (r : PictureDecoded) (samples store : List ℤ) : Type 0 where
+    pub macroblock : Demand3 (x .bytes) (x .start) (x .context .«use_intra_dc_vlc») (x .context .«reversible_vlc») (patternBy (x .header)) (contextHere p x)
+        (valuesHere (x .header) (x .context .«use_intra_dc_vlc») (contextHere p x) (x .matrix) (aroundHere p x before)) (Accepted r) (Told p (x .start) r) (x .samples) samples
+    -- the store then gives later macroblocks what was worked out here
+    pub own : (s : List Parts) → Begun s → (i : ℕ) → i < 6 → knownOf (recordAt store (offset (p .width) (p .accepted) 0)) i ≡ kept s i
+    -- and of the 2 w - 1 macroblocks before this one what it gave
+    pub earlier : (s : List Parts) → Begun s → (back : ℕ) → 1 ≤ back → back < 2 * p .width
+        → recordAt store (offset (p .width) (p .accepted) back) ≡ recordAt before (offset (p .width) (p .accepted) back)
+
+  -- where none of 9 to 15 holds
+  abbrev pub DemandInPicture : PictureDecoded → List ℤ → List ℤ → Type 0
+  DemandInPicture r samples store = stateHere p x before ≡ Fine → Promise r samples store
