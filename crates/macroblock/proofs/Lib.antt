@@ -3,3 +3,4 @@ pub mod StateLaws
 pub mod SixLaws
 pub mod DemandLaws
 pub mod AloneLaws
+pub mod InTurnLaws

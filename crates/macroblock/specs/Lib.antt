@@ -4,3 +4,4 @@ pub mod Six
 pub mod Demand
 pub mod Answer
 pub mod Alone
+pub mod InTurn
