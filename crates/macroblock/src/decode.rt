@@ -74,7 +74,8 @@ fn decode_checked(
             let values = crate::six::values_of_six(rows, ctx, predictors, w);
             let blocks = crate::six::samples_of_six(values, ctx);
             samples::write_macroblock(samples, blocks);
-            MacroblockDecoded::Decoded(next.bit_pos - c.bit_pos, next)
+            let bits = next.bit_pos - c.bit_pos;
+            MacroblockDecoded::Decoded(bits, next)
         }
     }
 }

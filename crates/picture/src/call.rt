@@ -61,7 +61,8 @@ fn decode_checked(
             neighbours::put_record(store, at, own);
             let mut onward = p;
             onward.accepted = p.accepted + 1;
-            PictureDecoded::Decoded(next.bit_pos - c.bit_pos, next, onward)
+            let bits = next.bit_pos - c.bit_pos;
+            PictureDecoded::Decoded(bits, next, onward)
         }
     }
 }

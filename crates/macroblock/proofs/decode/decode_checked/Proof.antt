@@ -64,8 +64,8 @@ samples-of-six-requires c κs = search needs
 write-macroblock-requires : tie.Need-write-macroblock-requires
 write-macroblock-requires c κs = search needs
 
-sub-t25 : tie.Need-sub-t25
-sub-t25 c = let k = c .before .before .before .before .before .before .before in read k _ _ (k .before .before .before .read-blocks .ensures .1) .onward
+sub-bits : tie.Need-sub-bits
+sub-bits c = let k = c .before .before .before .before .before .before .before in read k _ _ (k .before .before .before .read-blocks .ensures .1) .onward
 
 returns : tie.Need-returns
 unfolding sentenceOf
@@ -111,7 +111,7 @@ decode-checked-spec =
     values-of-six-requires
     samples-of-six-requires
     write-macroblock-requires
-    sub-t25
+    sub-bits
     returns
     same-length
     returns-2)

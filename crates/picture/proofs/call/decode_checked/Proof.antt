@@ -111,8 +111,8 @@ add-onward c =
     let f = fine (c .before .before .before .before .before .before .before .before .before .before .before .before .before .before .before .before .before .before .before .before) in
     omega (arith, f .size .cells, f .due)
 
-sub-t38 : tie.Need-sub-t38
-sub-t38 c =
+sub-bits : tie.Need-sub-bits
+sub-bits c =
     let k = c .before .before .before .before .before .before .before .before .before .before .before .before .before .before .before in
     read k _ _ (k .before .before .before .read-blocks .ensures .1) .onward
 
@@ -182,7 +182,7 @@ decode-checked-spec =
     offset-of-requires
     put-record-requires
     add-onward
-    sub-t38
+    sub-bits
     returns
     same-length
     same-length-2
