@@ -19,13 +19,13 @@ sub-result : tie.Need-sub-result
 sub-result c = fits (x (c .before) ⊟ lit (pos 4096)) tt
 
 returns : tie.Need-returns
-returns c = back (x (c .before) ⊟ lit (pos 4096)) tt ∙ simp (le-leb _ _ (c .if1 .taken))
+returns c = back (x (c .before) ⊟ lit (pos 4096)) tt ∙ simp (le-leb 2048 (c .before .args .raw) (omega arith))
 
 cast-result-2 : tie.Need-cast-result-2
 cast-result-2 c = cast-us (let h = c .before .pre in omega arith)
 
 returns-2 : tie.Need-returns-2
-returns-2 c = back (x (c .before)) tt ∙ simp (lt-leb _ _ (c .if1 .left))
+returns-2 c = back (x (c .before)) tt ∙ simp (lt-leb 2048 (c .before .args .raw) (omega arith))
 
 pub sign-extend12-spec : {M : Type 1} → statement M
 sign-extend12-spec = tie.close (tie.spec cast-result sub-result returns cast-result-2 returns-2)
