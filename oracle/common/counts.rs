@@ -1,0 +1,45 @@
+// Counts of answers by number, printed part by part.
+
+#[derive(Default)]
+pub struct Counts {
+    now: [u64; 16],
+    all: [u64; 16],
+}
+
+impl Counts {
+    pub fn took(&mut self, number: u32) {
+        self.now[number as usize] += 1;
+    }
+
+    // This part's, and then they are 0.
+    pub fn says(&mut self, name: &str, what: &str) {
+        println!("{name:44} {}", told(&self.now, what));
+        self.all.iter_mut().zip(self.now).for_each(|(a, n)| *a += n);
+        self.now = [0; 16];
+    }
+
+    pub fn end(&self, what: &str) {
+        println!("{:44} {}, no difference", "all", told(&self.all, what));
+    }
+
+    pub fn cases(&self) -> u64 {
+        self.all.iter().sum()
+    }
+
+    pub fn accepted(&self) -> u64 {
+        self.all[0]
+    }
+}
+
+fn told(counts: &[u64; 16], what: &str) -> String {
+    let mut text = format!("{:>9} {what}: {:>8} accepted", counts.iter().sum::<u64>(), counts[0]);
+    for (number, n) in counts.iter().enumerate().skip(1).filter(|(_, n)| **n > 0) {
+        text += &format!(", {n} by {number}");
+    }
+    text
+}
+
+// What `oracle/run.sh` adds up.
+pub fn blocks(compared: u64, decoded: u64) {
+    println!("blocks compared: {compared}, decoded {decoded}");
+}

@@ -1,0 +1,359 @@
+// `picture` against a picture layer over the original's block reading (layer.rs). Both must give the same number and figure, or the
+// same number of bits, position, samples and picture. A refusal must leave samples, store and picture as they were, so that the same
+// macroblock is due again; what is lent past 384 samples, or past 192 numbers of store for each macroblock of width, must always stay.
+use crate::common::bits::{Bits, any_bytes, bits_from, bytes_of, flip, push};
+use crate::common::counts::{self, Counts};
+use crate::common::dice::Dice;
+use crate::common::header::{Header, samples_told};
+use crate::common::numbers::depth_fine;
+use crate::common::sentence::{self, Escapes, FEW, SOME, component};
+use crate::common::setting::{self, Matrix, matrix_told};
+use crate::common::smallest::data_told;
+use layer::{Answer, Layer, Picture, Step, before};
+use scene::Scene;
+
+#[path = "elsewhere.rs"]
+mod elsewhere;
+#[path = "layer.rs"]
+mod layer;
+#[path = "scene.rs"]
+mod scene;
+
+#[rustfmt::skip]
+unsafe extern "C" {
+    fn rt_open(width: u32, height: u32, bits_per_pixel: u32, quant_type: bool, numbers: &mut [u32; 4], method: &mut bool) -> u32;
+    fn rt_picture(numbers: &mut [u32; 4], method: &mut bool, data: *const u8, len: usize, at: usize, header_flags: &[bool; 2], mb_type: u32, patterns: &[u8; 2], quantiser_scale: u32, flags: &[bool; 6], matrix: &Matrix, figure: &mut u32, bits: &mut usize, position: &mut usize, samples: *mut i32, room: usize, store: *mut i32, stored: usize) -> u32;
+}
+
+#[rustfmt::skip]
+fn ours(p: Picture, s: &Step, store: &mut [i32]) -> Answer {
+    let mut a = before(p, s);
+    let (h, q) = (&s.header, s.quantiser_scale);
+    a.number = unsafe {
+        rt_picture(
+            &mut a.picture.numbers, &mut a.picture.method, s.data.as_ptr(), s.data.len(), s.at, &[h.not_coded, h.ac_pred_flag], h.mb_type, &[h.cbpy, h.cbpc], q, &s.flags, &s.matrix,
+            &mut a.figure, &mut a.bits, &mut a.position, a.samples.as_mut_ptr(), a.samples.len(), store.as_mut_ptr(), store.len(),
+        )
+    };
+    a
+}
+
+// What differs between two answers.
+fn told(ours: &Answer, due: &Answer) -> String {
+    let of = |a: &Answer| {
+        format!(
+            "number {} figure {} bits {} position {} {:?}",
+            a.number, a.figure, a.bits, a.position, a.picture
+        )
+    };
+    format!(
+        "  ours: {}\n  due:  {}\n{}",
+        of(ours),
+        of(due),
+        samples_told(&ours.samples, &due.samples)
+    )
+}
+
+fn step_told(s: &Step) {
+    println!(
+        "  {:?} quantiser {} flags {:?} room {} stored {:x}",
+        s.header, s.quantiser_scale, s.flags, s.room, s.stored
+    );
+    println!("    {}\n    {}", matrix_told(&s.matrix), data_told(&s.data, s.at));
+}
+
+// ---- a picture on both sides
+
+struct Play {
+    layer: Layer,
+    picture: Picture,
+    store: Vec<i32>,
+}
+
+impl Play {
+    // The store is full of numbers that no macroblock leaves: nothing may be taken of them.
+    fn opened(width: u32, height: u32, depth: u32, method: bool, beyond: usize) -> Play {
+        let mut picture = Picture {
+            numbers: [0; 4],
+            method: false,
+        };
+        let number = unsafe { rt_open(width, height, depth, method, &mut picture.numbers, &mut picture.method) };
+        assert_eq!(
+            (number, picture.numbers, picture.method),
+            (0, [width, height, depth, 0], method),
+            "opening"
+        );
+        Play {
+            layer: Layer::new(picture),
+            picture,
+            store: vec![i32::MIN; 192 * width as usize + beyond],
+        }
+    }
+
+    // What differs, or the answer.
+    fn step(&mut self, s: &Step) -> Result<Answer, String> {
+        let stored = s.stored.min(self.store.len());
+        let old = self.store.clone();
+        let a = ours(self.picture, s, &mut self.store[..stored]);
+        let b = self.layer.call(s, stored);
+        self.picture = a.picture;
+        if a != b {
+            return Err(told(&a, &b));
+        }
+        let from = if a.number == 0 { 192 * a.picture.numbers[0] as usize } else { 0 };
+        if self.store[from..] != old[from..] {
+            return Err(format!("{}\n  the store was written to", told(&a, &b)));
+        }
+        Ok(a)
+    }
+}
+
+// ---- pictures
+
+// How a picture's macroblocks are drawn.
+struct Style {
+    // the same all over, any, or a little up and down
+    quantisers: usize,
+    // never, always, any
+    ac_pred: usize,
+    // of DC parts
+    sizes: Option<usize>,
+    longest: usize,
+    escapes: &'static Escapes,
+    // blocks that are coded, out of 4
+    coded: usize,
+    // use_intra_dc_vlc, reversible_vlc, or any
+    reading: Option<[bool; 2]>,
+    matrix: Option<Matrix>,
+}
+
+impl Style {
+    fn drawn(dice: &mut Dice) -> Style {
+        let fixed = dice.flag().then(|| setting::matrix(dice));
+        Style {
+            quantisers: dice.below(3),
+            ac_pred: dice.below(3),
+            sizes: dice.of(&[Some(2), Some(4), Some(6), None]),
+            longest: dice.of(&[1, 3, 8, 63]),
+            escapes: if dice.flag() { &FEW } else { &SOME },
+            coded: dice.below(5),
+            reading: dice.of(&[
+                None,
+                Some([true, false]),
+                Some([true, true]),
+                Some([false, false]),
+                Some([false, true]),
+            ]),
+            matrix: fixed,
+        }
+    }
+
+    // A call that is fine, with the bits of a sentence that fits.
+    fn step(&self, dice: &mut Dice, quantiser: &mut u32) -> (Step, Bits) {
+        *quantiser = match self.quantisers {
+            0 => *quantiser,
+            1 => 1 + dice.below(31) as u32,
+            _ => (*quantiser + dice.below(5) as u32).clamp(3, 33) - 2,
+        };
+        let pattern = (0..6).fold(0, |p, _| 2 * p + usize::from(dice.below(4) < self.coded));
+        let [dc_coded, reversible] = self.reading.unwrap_or_else(|| [dice.flag(), dice.flag()]);
+        let ac_pred = [false, true, dice.flag()][self.ac_pred];
+        let s = Step {
+            header: Header::intra(dice, pattern),
+            quantiser_scale: *quantiser,
+            flags: [ac_pred, dice.rarely(), dice.flag(), dice.flag(), dc_coded, reversible],
+            matrix: self.matrix.unwrap_or_else(|| setting::matrix(dice)),
+            data: Vec::new(),
+            at: 0,
+            room: if dice.rarely() { 384 + dice.below(20) } else { 384 },
+            stored: usize::MAX,
+        };
+        let mut bits = Bits::new();
+        for i in 0..6 {
+            if dc_coded {
+                sentence::dc_part(dice, &mut bits, component(i >= 4), self.sizes);
+            }
+            if s.header.coded(i) {
+                sentence::list(
+                    dice,
+                    &mut bits,
+                    self.escapes,
+                    reversible,
+                    false,
+                    usize::from(dc_coded),
+                    true,
+                    self.longest,
+                );
+            }
+        }
+        (s, bits)
+    }
+}
+
+fn put_bits(dice: &mut Dice, s: &mut Step, bits: &[bool]) {
+    s.at = bytes_of(&mut s.data, bits, dice.below(20), dice.next());
+}
+
+// One thing of a call bad, or most likely bad.
+fn spoil(dice: &mut Dice, s: &mut Step, width: u32) {
+    let mut bits = bits_from(&s.data, s.at);
+    match dice.below(10) {
+        0 | 1 => {
+            bits.truncate(dice.below(bits.len() + 1));
+            put_bits(dice, s, &bits);
+        }
+        2 | 3 => {
+            flip(dice, &mut bits);
+            put_bits(dice, s, &bits);
+        }
+        4 => {
+            s.data = any_bytes(dice, 24);
+            s.at = dice.below(8 * s.data.len() + 1);
+        }
+        5 => s.header.spoil(dice),
+        6 => s.room = dice.of(&[0, 1, 63, 64, 256, 320, 383]),
+        7 => s.stored = dice.below(192 * width as usize),
+        8 => s.quantiser_scale = dice.outside(1, 31) as u32,
+        _ => s.matrix[dice.below(8)][dice.below(8)] = 0,
+    }
+    if dice.below(20) == 0 {
+        s.at = dice.of(&[8 * s.data.len() + 1, usize::MAX]);
+    }
+}
+
+// What was among those accepted.
+const SEEN: [&str; 5] = [
+    "all samples inside their range",
+    "samples of 16 values or more",
+    "AC prediction set",
+    "another quantiser than the macroblock before",
+    "after a refusal",
+];
+
+#[derive(Default)]
+struct Pictures {
+    counts: Counts,
+    seen: [u64; 5],
+}
+
+impl Pictures {
+    fn took(&mut self, a: &Answer, steps: &[Step], refused: bool) {
+        self.counts.took(a.number);
+        if a.number != 0 {
+            return;
+        }
+        let top = (1 << a.picture.numbers[2]) - 1;
+        let mut values = a.samples[..384].to_vec();
+        values.sort_unstable();
+        values.dedup();
+        let last = &steps[steps.len() - 1];
+        let what = [
+            values[0] > 0 && values[values.len() - 1] < top,
+            values.len() >= 16,
+            last.flags[0],
+            steps.len() > 1 && steps[steps.len() - 2].quantiser_scale != last.quantiser_scale,
+            refused,
+        ];
+        for (n, x) in self.seen.iter_mut().zip(what) {
+            *n += u64::from(x);
+        }
+    }
+}
+
+// A whole picture: macroblock after macroblock, in between calls that are most likely refused (one in so many), and some calls after
+// the last.
+fn picture(all: &mut Pictures, dice: &mut Dice, width: u32, height: u32, refusals: usize) {
+    let (depth, method, beyond) = (
+        4 + dice.below(9) as u32,
+        dice.flag(),
+        if dice.rarely() { dice.below(100) } else { 0 },
+    );
+    let style = Style::drawn(dice);
+    let mut play = Play::opened(width, height, depth, method, beyond);
+    let mut scene = Scene {
+        width,
+        height,
+        depth,
+        method,
+        beyond,
+        steps: Vec::new(),
+    };
+    let mut quantiser = 1 + dice.below(31) as u32;
+    let (mut after, mut refused) = (1 + dice.below(3), false);
+    while after > 0 {
+        if play.picture.numbers[3] == width * height {
+            after -= 1;
+        }
+        let (mut s, mut bits) = style.step(dice, &mut quantiser);
+        if dice.flag() {
+            push(&mut bits, dice.next(), dice.below(65));
+        }
+        put_bits(dice, &mut s, &bits);
+        if dice.below(refusals) == 0 {
+            (0..1 + dice.below(2)).for_each(|_| spoil(dice, &mut s, width));
+        }
+        let answer = play.step(&s);
+        scene.steps.push(s);
+        match answer {
+            Ok(answer) => {
+                all.took(&answer, &scene.steps, refused);
+                refused = answer.number != 0;
+            }
+            Err(_) => scene::smallest(scene),
+        }
+    }
+}
+
+// ---- openings
+
+fn openings(counts: &mut Counts) {
+    let sizes: Vec<u32> = (0..=70).chain([u32::MAX - 1, u32::MAX]).collect();
+    for (&width, &height) in sizes.iter().flat_map(|w| sizes.iter().map(move |h| (w, h))) {
+        for depth in (0..=20).chain([u32::MAX]) {
+            for method in [false, true] {
+                let (mut numbers, mut left) = ([999; 4], !method);
+                let number = unsafe { rt_open(width, height, depth, method, &mut numbers, &mut left) };
+                let due = match () {
+                    _ if !(1..=45).contains(&width) || !(1..=36).contains(&height) => (11, [999; 4], !method),
+                    _ if !depth_fine(depth) => (12, [999; 4], !method),
+                    _ => (0, [width, height, depth, 0], method),
+                };
+                if (number, numbers, left) != due {
+                    println!("DIFFERS: opening {width} by {height} at depth {depth}, method 1 {method}");
+                    println!("  ours: {:?}\n  due:  {due:?}", (number, numbers, left));
+                    std::process::exit(1);
+                }
+                counts.took(number);
+            }
+        }
+    }
+}
+
+pub fn main() {
+    let n: usize = std::env::args().nth(1).map_or(1620, |n| n.parse().expect("a number of pictures"));
+    let (mut opened, mut all, mut dice) = (Counts::default(), Pictures::default(), Dice(1));
+    openings(&mut opened);
+    opened.says("openings, every size and depth and around them", "pictures");
+    for k in 0..4 * n {
+        let (width, height) = (1 + dice.below(6) as u32, 1 + dice.below(6) as u32);
+        picture(&mut all, &mut dice, width, height, 2 + k % 3);
+    }
+    all.counts.says("pictures up to 6 by 6, many calls refused", "macroblocks");
+    for k in 0..n {
+        // every size once in 1620
+        let size = k * 611 % 1620;
+        picture(&mut all, &mut dice, 1 + (size % 45) as u32, 1 + (size / 45) as u32, 12);
+    }
+    all.counts.says("pictures of every size up to 45 by 36", "macroblocks");
+    for _ in 0..n {
+        let style = Style::drawn(&mut dice);
+        (0..64).for_each(|_| elsewhere::call(&mut all.counts, &mut dice, &style));
+    }
+    all.counts.says("a picture and a store from elsewhere", "macroblocks");
+    println!("of those accepted in pictures:");
+    for (what, n) in SEEN.iter().zip(all.seen) {
+        println!("  {n:>9} {what}");
+    }
+    all.counts.end("macroblocks");
+    counts::blocks(6 * all.counts.cases(), 6 * all.counts.accepted());
+}
