@@ -1,0 +1,18 @@
+-- One byte of a line, test by test. Assumes nothing.
+use mathlib.Core.Bool.{Bool, cond}
+use mathlib.Core.List.{List}
+use mathlib.Core.Path.{_≡_, ap₂}
+use Prim.Native.Nat.{ℕ, _+_}
+use lib.Dec.{eqb, leb, ltb}
+use lib.ListN.{length, set}
+use Rattle.still_lines.specs.Lines.{fedOf, lineAfter}
+use Rattle.still_lines.specs.declared.lines.Fed.the-variants.{Ended, Kept, Skipped}
+
+module _ (l : List ℕ) (n b : ℕ) where
+  pub fed-by : (s t : Bool) → eqb b 10 ≡ s → leb n (length l) ≡ t → fedOf (length l) n b ≡ cond s (cond t (Ended n) Skipped) (Kept (cond t (n + 1) n))
+  unfolding fedOf
+  fed-by s t e f = ap₂ (λ (y z : Bool). cond y (cond z (Ended n) Skipped) (Kept (cond z (n + 1) n))) e f
+
+  pub line-by : (s t : Bool) → eqb b 10 ≡ s → ltb n (length l) ≡ t → lineAfter l n b ≡ cond s l (cond t (set l n b) l)
+  unfolding lineAfter
+  line-by s t e f = ap₂ (λ (y z : Bool). cond y l (cond z (set l n b) l)) e f

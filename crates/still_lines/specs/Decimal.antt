@@ -1,0 +1,14 @@
+-- A number in decimal digits, without leading zeros. Definitions only.
+use mathlib.Core.Bool.{cond}
+use mathlib.Core.List.{List, [], _++_, _∷_}
+use Prim.Native.Nat.{ℕ, suc, zero, _%_, _+_, _/_}
+use lib.Dec.{ltb}
+
+-- at most `most` digits of n
+unfoldable pub digitsUpTo : ℕ → ℕ → List ℕ
+digitsUpTo zero n = []
+digitsUpTo (suc most) n = cond (ltb n 10) ((48 + n) ∷ []) (digitsUpTo most (n / 10) ++ ((48 + n % 10) ∷ []))
+
+-- n has no more than n + 1 digits
+abbrev pub decimalOf : ℕ → List ℕ
+decimalOf n = digitsUpTo (n + 1) n
