@@ -18,20 +18,22 @@ pub data Form : Type 0 where
 
 -- ---- the words that are looked for
 
+-- `picture`
 unfoldable pub pictureWord : List ℕ
 pictureWord = 112 ∷ 105 ∷ 99 ∷ 116 ∷ 117 ∷ 114 ∷ 101 ∷ []
 
+-- `mb`
 unfoldable pub mbWord : List ℕ
 mbWord = 109 ∷ 98 ∷ []
 
 unfoldable pub kindWord : Kind → List ℕ
-kindWord Intra = 105 ∷ 110 ∷ 116 ∷ 114 ∷ 97 ∷ []
-kindWord IntraQ = 105 ∷ 110 ∷ 116 ∷ 114 ∷ 97 ∷ 113 ∷ []
-kindWord Inter = 105 ∷ 110 ∷ 116 ∷ 101 ∷ 114 ∷ []
-kindWord InterQ = 105 ∷ 110 ∷ 116 ∷ 101 ∷ 114 ∷ 113 ∷ []
-kindWord Inter4V = 105 ∷ 110 ∷ 116 ∷ 101 ∷ 114 ∷ 52 ∷ 118 ∷ []
-kindWord Missing = 110 ∷ 111 ∷ 110 ∷ 101 ∷ []
-kindWord Skipped = 115 ∷ 107 ∷ 105 ∷ 112 ∷ 112 ∷ 101 ∷ 100 ∷ []
+kindWord Intra = 105 ∷ 110 ∷ 116 ∷ 114 ∷ 97 ∷ []  -- intra
+kindWord IntraQ = 105 ∷ 110 ∷ 116 ∷ 114 ∷ 97 ∷ 113 ∷ []  -- intraq
+kindWord Inter = 105 ∷ 110 ∷ 116 ∷ 101 ∷ 114 ∷ []  -- inter
+kindWord InterQ = 105 ∷ 110 ∷ 116 ∷ 101 ∷ 114 ∷ 113 ∷ []  -- interq
+kindWord Inter4V = 105 ∷ 110 ∷ 116 ∷ 101 ∷ 114 ∷ 52 ∷ 118 ∷ []  -- inter4v
+kindWord Missing = 110 ∷ 111 ∷ 110 ∷ 101 ∷ []  -- none
+kindWord Skipped = 115 ∷ 107 ∷ 105 ∷ 112 ∷ 112 ∷ 101 ∷ 100 ∷ []  -- skipped
 
 -- the first of some kinds that a word names
 abbrev pub firstNamed : List Kind → List ℕ → Option Kind

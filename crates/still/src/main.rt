@@ -36,15 +36,15 @@ fn answer(
     }
 }
 
-fn byte(
+// After a byte, or at the end of the input.
+fn told(
     r: Reading,
-    b: u8,
-    line: &mut [u8],
+    fed: Fed,
+    line: &[u8],
     data: &mut [u8],
     samples: &mut [i32],
     store: &mut [i32],
 ) -> Reading {
-    let fed = still_lines::feed(line, r.n, b);
     match fed {
         Fed::Kept(n) => {
             let mut kept = r;
@@ -57,11 +57,23 @@ fn byte(
             none
         }
         Fed::Ended(k) => {
-            let m = still_lines::within(k, &*line);
+            let m = still_lines::within(k, line);
             let still = r.still;
             answer(still, &line[..m], data, samples, store)
         }
     }
+}
+
+fn byte(
+    r: Reading,
+    b: u8,
+    line: &mut [u8],
+    data: &mut [u8],
+    samples: &mut [i32],
+    store: &mut [i32],
+) -> Reading {
+    let fed = still_lines::feed(line, r.n, b);
+    told(r, fed, &*line, data, samples, store)
 }
 
 fn bytes(
@@ -84,25 +96,6 @@ fn bytes(
     now_at
 }
 
-// The last line, where it has no newline.
-fn last_line(
-    r: Reading,
-    line: &[u8],
-    data: &mut [u8],
-    samples: &mut [i32],
-    store: &mut [i32],
-) -> Reading {
-    if r.n == 0 {
-        return r;
-    }
-    if line.len() < r.n {
-        return r;
-    }
-    let m = still_lines::within(r.n, line);
-    let still = r.still;
-    answer(still, &line[..m], data, samples, store)
-}
-
 fn end(r: Reading) {
     if r.written {
         let still = r.still;
@@ -122,7 +115,8 @@ fn turn(
     let got = libc::read(STDIN_FILENO, buffer);
     let n = io::count(got, &*buffer);
     if n == 0 {
-        let mut last = last_line(r, &*line, data, samples, store);
+        let fed = still_lines::rest(&*line, r.n);
+        let mut last = told(r, fed, &*line, data, samples, store);
         end(last);
         last.written = false;
         return last;

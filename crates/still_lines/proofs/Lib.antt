@@ -5,3 +5,4 @@ pub mod DecimalLaws
 pub mod SpanLaws
 pub mod StillLaws
 pub mod AnswerLaws
+pub mod StreamLaws

@@ -11,39 +11,51 @@ said t = take (t .len) (t .bytes)
 
 -- ---- words
 
+-- ` `
 unfoldable pub space : List ℕ
 space = 32 ∷ []
 
+-- `)\n`
 unfoldable pub closing : List ℕ
 closing = 41 ∷ 10 ∷ []
 
+-- `))\n`
 unfoldable pub closingTwo : List ℕ
 closingTwo = 41 ∷ 41 ∷ 10 ∷ []
 
+-- `(picture `
 unfoldable pub wordPicture : List ℕ
 wordPicture = 40 ∷ 112 ∷ 105 ∷ 99 ∷ 116 ∷ 117 ∷ 114 ∷ 101 ∷ 32 ∷ []
 
+-- `(picture refused `
 unfoldable pub wordPictureRefused : List ℕ
 wordPictureRefused = 40 ∷ 112 ∷ 105 ∷ 99 ∷ 116 ∷ 117 ∷ 114 ∷ 101 ∷ 32 ∷ 114 ∷ 101 ∷ 102 ∷ 117 ∷ 115 ∷ 101 ∷ 100 ∷ 32 ∷ []
 
+-- `(end `
 unfoldable pub wordEnd : List ℕ
 wordEnd = 40 ∷ 101 ∷ 110 ∷ 100 ∷ 32 ∷ []
 
+-- `(mb `
 unfoldable pub wordMb : List ℕ
 wordMb = 40 ∷ 109 ∷ 98 ∷ 32 ∷ []
 
+-- ` (refused `
 unfoldable pub wordRefused : List ℕ
 wordRefused = 32 ∷ 40 ∷ 114 ∷ 101 ∷ 102 ∷ 117 ∷ 115 ∷ 101 ∷ 100 ∷ 32 ∷ []
 
+-- ` (bits `
 unfoldable pub wordBits : List ℕ
 wordBits = 32 ∷ 40 ∷ 98 ∷ 105 ∷ 116 ∷ 115 ∷ 32 ∷ []
 
+-- `) (luma `
 unfoldable pub wordLuma : List ℕ
 wordLuma = 41 ∷ 32 ∷ 40 ∷ 108 ∷ 117 ∷ 109 ∷ 97 ∷ 32 ∷ []
 
+-- `) (cb `
 unfoldable pub wordCb : List ℕ
 wordCb = 41 ∷ 32 ∷ 40 ∷ 99 ∷ 98 ∷ 32 ∷ []
 
+-- `) (cr `
 unfoldable pub wordCr : List ℕ
 wordCr = 41 ∷ 32 ∷ 40 ∷ 99 ∷ 114 ∷ 32 ∷ []
 

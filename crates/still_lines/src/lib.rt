@@ -7,6 +7,7 @@ mod text;
 
 pub use lines::Fed;
 pub use lines::feed;
+pub use lines::rest;
 pub use lines::within;
 pub use span::Span;
 pub use still::Said;

@@ -3,7 +3,7 @@ ghost use mathlib.Core.Path.{_≡_};
 ghost use Prim.Native.Nat.{min};
 ghost use lib.ListN.{length};
 ghost use Rattle.io.specs.Counts.{Counts};
-ghost use Rattle.still_lines.specs.Lines.{fedOf, lineAfter};
+ghost use Rattle.still_lines.specs.Lines.{fedOf, lineAfter, restOf};
 
 // One byte was kept and so many are there; or a line of so many bytes ended; or one that is too long did.
 pub enum Fed {
@@ -32,6 +32,19 @@ pub fn feed(line: &mut [u8], n: usize, b: u8) -> Fed
         return Fed::Kept(room + 1);
     }
     Fed::Kept(n)
+}
+
+// The end of the stream after `n` bytes of a line, the first of which are in `line`.
+pub fn rest(line: &[u8], n: usize) -> Fed
+    ensures { λ r. ⌜ r ≡ restOf (length (now (line .entry))) n ⌝ }
+{
+    if n == 0 {
+        return Fed::Kept(0);
+    }
+    if n <= line.len() {
+        return Fed::Ended(n);
+    }
+    Fed::Skipped
 }
 
 // At most as many as there are bytes, for a part of them.
