@@ -68,3 +68,7 @@ seek-no f rows i l e =
 pub seek-end : (f : ℕ → Bool) (rows i : ℕ) → rows ≤ i → seek f (rows - i) i ≡ i
 unfolding seek
 seek-end f rows i l = let n : rows - i ≡ 0 = omega arith in ap (λ (k : ℕ). seek f k i) n
+
+-- what a search from a row on gives, short of its end, passes
+pub seek-from : (f : ℕ → Bool) (rows from r : ℕ) → from ≤ rows → r ≡ seek f (rows - from) from → r < rows → T (f r)
+seek-from f rows from r l e h = subst (λ (k : ℕ). T (f k)) (sym e) (seek-hit f (rows - from) from (omega arith))

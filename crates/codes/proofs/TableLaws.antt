@@ -1,7 +1,7 @@
 -- A fair table: at most one row's code begins the bits, and `rowAt` finds it. Assumes nothing.
 use mathlib.Core.Bool.{Bool, _&&_, false, not, true}
 use mathlib.Core.List.{List, [], _++_, _∷_, append-assoc}
-use mathlib.Core.Path.{_≡_, _∙_, ap, ap₂, subst, sym}
+use mathlib.Core.Path.{_≡_, _∙_, ap, ap₂, refl, subst, sym}
 use Prim.Native.Nat.{_+_, _-_, _/_, _<_, _^_, _≤_, suc, zero, zero-le, ℕ}
 use native.Mathlib.Nat.{le-of-suc-le-suc, not-suc-le-zero}
 use native.Mathlib.Omega.{arith}
@@ -11,10 +11,11 @@ use lib.ListN.{drop, getD, length, length-append, length-drop, take, take-append
 use lib.Pow.{high, shr-shr}
 use lib.Seq.{length-take-le, take-append-add}
 use mir.Facts.{yes-and}
+use borrow.Author.Tests.{ltb-false, ltb-true}
 use Rattle.bits.proofs.BitLaws.{bin-val, length-bin, val-append, val-bin, val-lt}
 use Rattle.bits.specs.Bits.{Bits, bin, val}
 use Rattle.codes.proofs.SearchLaws.{seek-hit, seek-none, seek-at}
-use Rattle.codes.specs.Table.{hit, fair, agree, apartFrom, codeBits, fairRow, rowAt, rowIn}
+use Rattle.codes.specs.Table.{Found, hit, fair, agree, apartFrom, codeBits, fairRow, rowAt, rowIn}
 use Rattle.numbers.proofs.Expressions.{within}
 use Rattle.numbers.proofs.Fill.{rows}
 use Rattle.numbers.proofs.Tests.{F-false, T-true, and-left, and-right}
@@ -162,6 +163,18 @@ module _ (width : ℕ) (cs ls : List ℕ) (ok : T (fair width cs ls)) (rows : �
   -- no row begins the window
   pub row-by-none : ((j : ℕ) → j < rows → T (hit w n (getD cs j 0) (getD ls j 0)) → ⊥) → rowIn cs ls rows w n ≡ rows
   row-by-none u = seek-none (λ j. hit w n (getD cs j 0) (getD ls j 0)) rows 0 (λ j a b. u j (omega arith)) ∙ omega arith
+
+  -- so what any search finds is the row
+  pub found-row : (r : ℕ) → Found cs ls rows w n r → r ≡ rowIn cs ls rows w n
+  found-row r f = go (ltb r rows) refl
+    where
+      go : (t : Bool) → ltb r rows ≡ t → r ≡ rowIn cs ls rows w n
+      go true e = let h = ltb-true r rows e in sym (row-by-hit r h (f .0 h))
+      go false e = sym (f .1 (ltb-false r rows e))
+
+-- a table that equals a fair one is fair
+pub fair-as : (width : ℕ) (cs ls ds ms : List ℕ) → ds ≡ cs → ms ≡ ls → T (fair width cs ls) → T (fair width ds ms)
+fair-as width cs ls ds ms e f t = subst (λ (b : Bool). T b) (sym (ap₂ (fair width) e f)) t
 
 -- a refused code: no row's code begins the bits
 pub row-lost : (width : ℕ) (cs ls : List ℕ) → T (fair width cs ls) → (rows : ℕ) → rows ≤ length cs → (b : Bits) → rows ≤ rowAt cs ls width rows b

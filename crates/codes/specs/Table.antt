@@ -1,8 +1,9 @@
 -- A table is a list of codes as numbers and a list of their lengths: its codes as bits, how one is sought in a window, and the test of a whole table. Definitions only.
-use Prim.Native.Nat.{ℕ, zero, suc, _-_, _/_, _^_, min}
+use Prim.Native.Nat.{ℕ, zero, suc, _-_, _/_, _^_, _<_, _≤_}
 use mathlib.Core.Bool.{Bool, true, false, not, cond, _&&_}
 use mathlib.Core.List.{List, [], _∷_}
-use lib.Dec.{eqb, leb, ltb}
+use mathlib.Core.Path.{_≡_}
+use lib.Dec.{T, eqb, leb, ltb}
 use lib.ListN.{length, getD, take}
 use Rattle.bits.specs.Bits.{Bits, val, bin}
 
@@ -19,9 +20,17 @@ unfoldable pub seek : (ℕ → Bool) → ℕ → ℕ → ℕ
 seek f zero i = i
 seek f (suc n) i = cond (f i) i (seek f n (suc i))
 
+-- the code of row i stands at the front of the window
+abbrev pub hitAt : List ℕ → List ℕ → ℕ → ℕ → ℕ → Bool
+hitAt cs ls w n i = hit w n (getD cs i 0) (getD ls i 0)
+
 -- the row, of the first `rows`, whose code begins the window; `rows` where there is none
 abbrev pub rowIn : List ℕ → List ℕ → ℕ → ℕ → ℕ → ℕ
 rowIn cs ls rows w n = seek (λ i. hit w n (getD cs i 0) (getD ls i 0)) rows 0
+
+-- r is such a row, or `rows` where there is none: in a fair table r is `rowIn`'s, since there is one at most
+abbrev pub Found : List ℕ → List ℕ → ℕ → ℕ → ℕ → ℕ → Type 0
+Found cs ls rows w n r = (r < rows → T (hitAt cs ls w n r)) × (rows ≤ r → rowIn cs ls rows w n ≡ r)
 
 -- the row whose code begins the bits, sought in the next `width` of them, or in fewer if fewer remain
 abbrev pub rowAt : List ℕ → List ℕ → ℕ → ℕ → Bits → ℕ

@@ -4,7 +4,7 @@ use mathlib.Core.List.{List}
 use mathlib.Core.Path.{_≡_, refl, sym, ap, subst, _∙_, ap₂}
 use Prim.Native.Nat.{_*_, _+_, _<_, _≤_, min, ℕ}
 use native.Mathlib.Omega.{arith}
-use lib.Dec.{eqb, leb}
+use lib.Dec.{T, eqb, leb}
 use lib.ListN.{drop, length, take}
 use borrow.Author.Tests.{eqb-false, eqb-true, le-leb, leb-true}
 use Rattle.bits.proofs.BitLaws.{length-bitsFrom}
@@ -17,7 +17,8 @@ use Rattle.bits.specs.declared.cursor.WindowPeeked.{WindowPeeked}
 use Rattle.bits.specs.declared.cursor.WindowPeeked.the-variants.{Window, Refused as WindowRefused}
 use Rattle.bits.specs.declared.error.BitReaderError.{BitReaderError}
 use Rattle.bits.specs.declared.error.BitReaderError.the-variants.{EndOfStream}
-use Rattle.codes.specs.Table.{rowAt, rowIn}
+use Rattle.codes.proofs.TableLaws.{found-row}
+use Rattle.codes.specs.Table.{Found, fair, rowAt, rowIn}
 use Rattle.texture.proofs.StepLaws.{from-on}
 use Rattle.texture.specs.Answer.{SaysNumber}
 use Rattle.texture.specs.Reader.{ok, no, field}
@@ -75,7 +76,7 @@ module _ (d : List ℕ) (at width : ℕ) (h : at ≤ 8 * length d) (l : length d
 
 -- the row that the search finds in the window is the row that begins the bits
 pub row-found : (cs ls : List ℕ) (width rows : ℕ) (b : Bits) (w n x : ℕ) → rows ≤ length cs → rows ≤ length ls → w ≡ val (take width b) → n ≡ length (take width b)
-    → x ≡ rowIn cs ls (min rows (min (length cs) (length ls))) w n → x ≡ rowAt cs ls width rows b
-row-found cs ls width rows b w n x hc hl ew en q =
+    → T (fair width cs ls) → Found cs ls (min rows (min (length cs) (length ls))) w n x → x ≡ rowAt cs ls width rows b
+row-found cs ls width rows b w n x hc hl ew en apart q =
     let e : min rows (min (length cs) (length ls)) ≡ rows = omega arith in
-    q ∙ ap (λ (k : ℕ). rowIn cs ls k w n) e ∙ ap₂ (rowIn cs ls rows) ew en
+    found-row width cs ls apart rows hc w n x (subst (λ (k : ℕ). Found cs ls k w n x) e q) ∙ ap₂ (rowIn cs ls rows) ew en

@@ -2,7 +2,9 @@
 ghost use mathlib.Core.Path.{_≡_};
 ghost use Prim.Native.Nat.{_≤_};
 ghost use lib.ListN.{length};
+ghost use lib.Dec.{T};
 ghost use Rattle.bits.specs.Bits.{bitsFrom};
+ghost use Rattle.codes.specs.Table.{fair};
 ghost use Rattle.texture.specs.Reader.{code, field, marker};
 ghost use Rattle.texture.specs.Answer.{Readable, SaysNumber, invalid};
 use crate::error::TextureParseError;
@@ -70,7 +72,7 @@ pub(crate) fn read_code(
     rows: usize,
     kind: CodeKind,
 ) -> Got
-    requires { ⌜ Readable (now «data») c × (width ≤ 32) × (rows ≤ length (now codes)) × (rows ≤ length (now lens)) × (rows ≤ 256) ⌝ }
+    requires { ⌜ Readable (now «data») c × (width ≤ 32) × (rows ≤ length (now codes)) × (rows ≤ length (now lens)) × (rows ≤ 256) × T (fair width (now codes) (now lens)) ⌝ }
     ensures { λ r. ⌜ SaysNumber (now («data» .entry)) r (code (now (codes .entry)) (now (lens .entry)) width rows (invalid kind) (bitsFrom (now («data» .entry)) (c .«bit_pos»))) ⌝ }
 {
     let at = c.bit_pos;

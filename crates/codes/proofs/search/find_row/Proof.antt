@@ -1,106 +1,75 @@
--- `codes::find_row` meets its contract: after i turns the search goes on from row i. Assumes nothing.
-use mathlib.Core.Bool.{Bool}
-use mathlib.Core.List.{List}
-use mathlib.Core.Option.{none}
-use mathlib.Core.Path.{_≡_, _∙_, ap, sym}
-use Prim.Native.Nat.{_-_, _≤_, min, ℕ}
+-- `codes::find_row` meets its contract: a search finds a row or none, wherever it begins. Assumes nothing.
+use mathlib.Core.Path.{_≡_, _∙_, ap, subst, sym}
+use Prim.Native.Nat.{_-_, _<_, _≤_, min, ℕ}
 use native.Mathlib.Nat.{sub-zero}
 use native.Mathlib.Omega.{arith}
-use lib.ListN.{getD, length}
+use lib.ListN.{length}
 use denote.Ref.{now}
-use Rattle.codes.proofs.SearchLaws.{seek-end, seek-no, seek-yes}
+use borrow.Author.Needs.{needs}
+use Rattle.codes.proofs.SearchLaws.{seek-from}
 use Rattle.codes.proofs.search.find_row.Statement.{statement}
-use Rattle.codes.specs.Table.{hit, rowIn, seek}
-use Rattle.numbers.proofs.Fill.{rows}
+use Rattle.codes.specs.Table.{Found, hitAt, seek}
 use Rattle.codes.proofs.search.find_row.Tie as tie
 
--- the test that the search makes of a row
-abbrev at : List ℕ → List ℕ → ℕ → ℕ → ℕ → Bool
-at codes lens window n j = hit window n (getD codes j 0) (getD lens j 0)
+least-requires : tie.Need-least-requires
+least-requires c κs = search needs
 
-abbrev Inv-loop : tie.InvT-loop
-Inv-loop codes lens rows window n most i₀ i =
-    (most ≡ min rows (min (length codes) (length lens))) × (i ≤ most) × (rowIn codes lens most window n ≡ seek (at codes lens window n) (most - i) i)
+least-requires-2 : tie.Need-least-requires-2
+least-requires-2 c κs = search needs
 
-abbrev μ-loop : tie.MeasureT-loop
-μ-loop codes lens rows window n most i₀ i = most - i
+hint-requires : tie.Need-hint-requires
+hint-requires c κs = search needs
 
-least-requires : tie.Need-least-requires Inv-loop μ-loop
-least-requires c κs = tt
+least-requires-3 : tie.Need-least-requires-3
+least-requires-3 c κs = search needs
 
-least-requires-2 : tie.Need-least-requires-2 Inv-loop μ-loop
-least-requires-2 c κs = tt
+search-requires : tie.Need-search-requires
+search-requires c κs = search needs
 
-loop-holds : tie.Need-loop-holds Inv-loop μ-loop
-loop-holds c =
-    let a = c .before .before .before .before .args in
-    let m = c .least2 .result in (
-      c .least2 .ensures ∙ ap (min (a .rows)) (c .before .least .ensures),
-      omega arith,
-      ap (λ (k : ℕ). seek (at (now (a .codes)) (now (a .lens)) (a .window) (a .n)) k 0) (sym (sub-zero m)),
+-- as many rows as both lists have
+most : (c : tie.After-least3) → let a = c .before .before .before .before .before .before .args in
+    c .before .before .least2 .result ≡ min (a .rows) (min (length (now (a .codes))) (length (now (a .lens))))
+most c =
+    let a = c .before .before .before .before .before .before .args in
+    c .before .before .least2 .ensures ∙ ap (min (a .rows)) (c .before .before .before .least .ensures)
+
+returns : tie.Need-returns
+returns c =
+    let s = c .before in
+    let a = s .before .before .before .before .before .before .before .args in
+    let m = s .before .before .before .least2 .result in
+    let f = s .before .least3 .result in
+    let h : s .search .result < m = c .if1 .taken in
+    let l : f ≤ m = omega (arith, s .before .least3 .ensures) in
+    subst (λ (k : ℕ). Found (now (a .codes)) (now (a .lens)) k (a .window) (a .n) (s .search .result)) (most (s .before)) (
+      λ (g : s .search .result < m). seek-from (hitAt (now (a .codes)) (now (a .lens)) (a .window) (a .n)) m f (s .search .result) l (s .search .ensures) h,
+      λ (g : m ≤ s .search .result). absurd (omega arith),
     )
 
-mul-hits : tie.Need-mul-hits Inv-loop μ-loop
-mul-hits c = omega arith
+search-requires-2 : tie.Need-search-requires-2
+search-requires-2 c κs = search needs
 
-shared-slice-read-hits : tie.Need-shared-slice-read-hits Inv-loop μ-loop
-shared-slice-read-hits c = omega arith
-
-mul-hits-2 : tie.Need-mul-hits-2 Inv-loop μ-loop
-mul-hits-2 c = omega arith
-
-shared-slice-read-hits-2 : tie.Need-shared-slice-read-hits-2 Inv-loop μ-loop
-shared-slice-read-hits-2 c = omega arith
-
-hits-requires : tie.Need-hits-requires Inv-loop μ-loop
-hits-requires c κs = tt
-
-returns : tie.Need-returns Inv-loop μ-loop
-returns c =
-    let l = c .before .before .before .before .before .loop in
-    let a = c .before .before .before .before .before .before .before .before .before .before .args in
-    let f = at (now (a .codes)) (now (a .lens)) (a .window) (a .n) in
-    let found = seek-yes f (c .before .before .before .before .before .before .least2 .result) (l .i) (omega arith) (sym (c .before .hits .ensures) ∙ c .if1 .taken) in
-    sym (ap (λ (k : ℕ). rowIn (now (a .codes)) (now (a .lens)) k (a .window) (a .n)) (sym (l .inv .0)) ∙ l .inv .2 ∙ found)
-
-add-i : tie.Need-add-i Inv-loop μ-loop
-add-i c = omega arith
-
-loop-less : tie.Need-loop-less Inv-loop μ-loop
-loop-less c = omega arith
-
-loop-again : tie.Need-loop-again Inv-loop μ-loop
-loop-again c =
-    let l = c .before .before .before .before .before .loop in
-    let a = c .before .before .before .before .before .before .before .before .before .before .args in
-    let f = at (now (a .codes)) (now (a .lens)) (a .window) (a .n) in
-    let passed = seek-no f (c .before .before .before .before .before .before .least2 .result) (l .i) (omega arith) (sym (c .before .hits .ensures) ∙ c .if1 .left) in
-    (l .inv .0, omega arith, l .inv .2 ∙ passed)
-
-returns-2 : tie.Need-returns-2 Inv-loop μ-loop
+returns-2 : tie.Need-returns-2
 returns-2 c =
-    let l = c .before .loop in
-    let a = c .before .before .before .before .before .before .args in
-    let f = at (now (a .codes)) (now (a .lens)) (a .window) (a .n) in
-    let none = seek-end f (c .before .before .least2 .result) (l .i) (omega arith) in
-    sym (ap (λ (k : ℕ). rowIn (now (a .codes)) (now (a .lens)) k (a .window) (a .n)) (sym (l .inv .0)) ∙ l .inv .2 ∙ none)
+    let s = c .before .before in
+    let a = s .before .before .before .before .before .before .before .args in
+    let m = s .before .before .before .least2 .result in
+    let r = c .search2 .result in
+    let test = hitAt (now (a .codes)) (now (a .lens)) (a .window) (a .n) in
+    subst (λ (k : ℕ). Found (now (a .codes)) (now (a .lens)) k (a .window) (a .n) r) (most (s .before)) (
+      λ (g : r < m). seek-from test m 0 r (omega arith) (c .search2 .ensures) g,
+      λ (g : m ≤ r). ap (λ (k : ℕ). seek test k 0) (sym (sub-zero m)) ∙ sym (c .search2 .ensures),
+    )
 
 pub find-row-spec : {M : Type 1} → statement M
 find-row-spec =
     tie.close
     (tie.spec
-    Inv-loop
-    μ-loop
     least-requires
     least-requires-2
-    loop-holds
-    mul-hits
-    shared-slice-read-hits
-    mul-hits-2
-    shared-slice-read-hits-2
-    hits-requires
+    hint-requires
+    least-requires-3
+    search-requires
     returns
-    add-i
-    loop-less
-    loop-again
+    search-requires-2
     returns-2)

@@ -8,7 +8,8 @@ use borrow.Author.Needs.{needs}
 use borrow.Author.Tests.{not-false, not-true}
 use Rattle.bits.proofs.CursorLaws.{in-data-yes}
 use Rattle.bits.specs.Bits.{bitsFrom}
-use Rattle.codes.proofs.Fair.{dc-rows}
+use Rattle.codes.proofs.Fair.{dc-fair, dc-rows}
+use Rattle.codes.proofs.TableLaws.{fair-as}
 use Rattle.codes.specs.DcSize.{dcCodes, dcLens}
 use Rattle.texture.proofs.ChainLaws.{number-in, number-is, refused-is, tables-are}
 use Rattle.texture.proofs.DcLaws.{dc-given, dc-no-code, dc-no-tail, dc-out, tail-small}
@@ -46,7 +47,7 @@ read-code-requires c κs =
     let l = dc-rows (a .component) in
     let m = ap length (c .before .before .before .dc-size-codes .ensures) in
     let n = ap length (c .before .before .dc-size-lens .ensures) in
-    ((h .1, h .0), omega arith, omega arith, omega arith, omega arith)
+    ((h .1, h .0), omega arith, omega arith, omega arith, omega arith, fair-as 13 (dcCodes (a .component)) (dcLens (a .component)) _ _ (c .before .before .before .dc-size-codes .ensures) (c .before .before .dc-size-lens .ensures) (dc-fair (a .component)))
 
 enum-known-g : tie.Need-enum-known-g
 enum-known-g c = search needs

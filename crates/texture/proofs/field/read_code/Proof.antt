@@ -25,7 +25,7 @@ shown c =
     let p = start .pre in
     let d = now (a .«data») in
     let v = window-is d (a .c .«bit_pos») (a .width) (p .0 .0) (p .0 .1) (p .1) _ _ (sym (c .before .before .window .given .1) ∙ c .before .before .before .before .next-window .ensures) in
-    (v .0, row-found (now (a .codes)) (now (a .lens)) (a .width) (a .rows) (bitsFrom d (a .c .«bit_pos»)) _ _ _ (p .2) (p .3) (v .1) (v .2) (c .find-row .ensures), v .1)
+    (v .0, row-found (now (a .codes)) (now (a .lens)) (a .width) (a .rows) (bitsFrom d (a .c .«bit_pos»)) _ _ _ (p .2) (p .3) (v .1) (v .2) (p .5) (c .find-row .ensures), v .1)
 
 -- the code lies in the bits
 in-bits : (c : tie.After-shared-slice-known4) → let a = c .before .before .before .before .before .before .before .before .before .before .args in
