@@ -7,7 +7,7 @@ use native.Mathlib.Nat.{le-refl}
 use native.Mathlib.Omega.{arith}
 use lib.Dec.{ltb, eqb, leb}
 use lib.IntN.{pos, ℤ, _-ℤ_, natAbs, negℤ}
-use lib.ListN.{length, set, length-append}
+use lib.ListN.{length, set, length-append, length-set}
 use borrow.Author.Tests.{eqb-true, le-ltb, lt-ltb, ltb-false, ne-eqb, leb-false, leb-true, ltb-true}
 use Rattle.bits.proofs.BitLaws.{length-bitsFrom}
 use Rattle.bits.specs.Bits.{Bits, bitsFrom}
@@ -23,7 +23,7 @@ use Rattle.texture.proofs.ListLaws.{bad-lands, event-long, event-sound}
 use Rattle.texture.proofs.ReadLaws.{no-ok}
 use Rattle.texture.proofs.RowLaws.{level-at, lmax-at, rmax-at, run-at, rvlc-level-at, rvlc-run-at, rvlc-small, tcoef-small}
 use Rattle.texture.proofs.StepLaws.{code-empty}
-use Rattle.texture.specs.Answer.{putOf, InsideEvent, SaysEvent, closed, listedOf, refusedBy, saidEvent, keptOf, listTold, placesTold, listAnswer, listedBy, placesAfter}
+use Rattle.texture.specs.Answer.{State, putOf, InsideEvent, SaysEvent, closed, listedOf, refusedBy, saidEvent, keptOf, listTold, placesTold, listAnswer, listedBy, placesAfter}
 use Rattle.texture.specs.Event.{Event, eventBits, lastOf, runOf, levelOf, valueOf, GoodEvent, plain, rvlc, rvlcEscape, signed12, signedBy, type1, type2, type3, rvlcRowOf, tcoefRow}
 use Rattle.texture.specs.EventReader.{event, plainEvent, rvlcEvent, escaped, rvlcEscaped, sign}
 use Rattle.texture.specs.Events.{Events, final, more, Lands, eventsIn, bad, list, firstPlace}
@@ -37,7 +37,6 @@ use Rattle.texture.specs.declared.event.EventRead.the-variants.{Event as
 use Rattle.texture.specs.declared.event.Spelling.the-variants.{Plain, Reversible}
 use Rattle.texture.specs.declared.list.EventsRead.the-variants.{Refused as EventsRefused, Read as EventsAre}
 use Rattle.texture.specs.declared.list.ListRead.{ListRead}
-use Rattle.texture.specs.declared.list.State.{State}
 use Rattle.codes.specs.Tcoef as R
 
 -- ---- the loop's state, in the reader's terms
@@ -255,18 +254,20 @@ small true m (rvlc i s) g =
     record { run-le = omega (arith, rvlc-small m (169 + i)); level-le = signed-small s (R.levelOf (rvlcRowOf m i)) (omega (arith, rvlc-small m (338 + i))) }
 small true m (rvlcEscape l r n s) g = record { run-le = omega arith; level-le = signed-small s n (omega arith) }
 
--- the states of the loop: the next place is at most 64, and a bad landing is small
+-- the states of the loop: the next place is at most 64, a bad landing is small, and there are 64 places
 pub record Held (s : State) : Type 0 where
   pub place-le : s .place ≤ 64
   pub bad-le : s .bad ≤ 2000
+  pub long : length (s .qfs) ≡ 64
 
 pub put-held : (s : State) (run : ℕ) (level : ℤ) → run ≤ 1024 → Held s → Held (putOf s run level)
 put-held s run level h k = go (eqb (s .bad) 0) (ltb (s .place + run) 64) refl
   where
     go : (t u : Bool) → ltb (s .place + run) 64 ≡ u
         → Held (cond t (cond u (record { place = s .place + run + 1; bad = 0; qfs = set (s .qfs) (s .place + run) level }) (record { place = s .place; bad = s .place + run; qfs = s .qfs })) s)
-    go true true q = record { place-le = omega (arith, ltb-true (s .place + run) 64 q); bad-le = omega arith }
-    go true false q = record { place-le = k .place-le; bad-le = omega arith }
+    go true true q =
+        record { place-le = omega (arith, ltb-true (s .place + run) 64 q); bad-le = omega arith; long = length-set (s .qfs) (s .place + run) level ∙ k .long }
+    go true false q = record { place-le = k .place-le; bad-le = omega arith; long = k .long }
     go false u q = k
 
 -- ---- one turn: what the code's answer tells of the event that was read

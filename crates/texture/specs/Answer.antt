@@ -30,7 +30,7 @@ use Rattle.texture.specs.declared.dc.DcRead.the-variants.{Dc as DcIs, Re
 use Rattle.texture.specs.declared.list.EventsRead.{EventsRead}
 use Rattle.texture.specs.declared.list.EventsRead.the-variants.{Read as EventsAre, Refused as EventsRefused}
 use Rattle.texture.specs.declared.list.ListRead.{ListRead}
-use Rattle.texture.specs.declared.list.State.{State}
+use Rattle.texture.specs.declared.list.Landing.{Landing}
 use Rattle.texture.specs.Reader.{Res, ok, no, mapped}
 use Rattle.texture.specs.Dc.{Dc, dc, sizeAt, differenceOf, readDc}
 use Rattle.texture.specs.Event.{signedBy, signed12, valueOf}
@@ -156,6 +156,15 @@ TablesOf false t cs ls es = (cs ≡ vlcCodes) × (ls ≡ vlcLens) × (es ≡ eve
 TablesOf true t cs ls es = (cs ≡ rvlcCodes) × (ls ≡ rvlcLens) × (es ≡ rvlcColumns (rvlcOf t))
 
 -- ---- the loop over a list
+
+-- where a list stands, with the places filled so far
+pub record State : Type 0 where
+  pub place : ℕ
+  pub bad : ℕ
+  pub qfs : List ℤ
+
+abbrev pub stateOf : Landing → List ℤ → State
+stateOf l xs = record { place = l .place; bad = l .bad; qfs = xs }
 
 -- what an event does to the places
 abbrev pub putOf : State → ℕ → ℤ → State

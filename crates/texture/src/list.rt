@@ -9,7 +9,7 @@ ghost use Rattle.texture.specs.Reader.{mapped};
 ghost use Rattle.texture.specs.Event.{valueOf};
 ghost use Rattle.texture.specs.EventReader.{event};
 ghost use Rattle.texture.specs.Events.{firstPlace};
-ghost use Rattle.texture.specs.Answer.{Readable, SaysEvent, TablesOf, closed, eventAnswer, keptOf, listAnswer, listedBy, placesAfter, putOf, refusedBy};
+ghost use Rattle.texture.specs.Answer.{Readable, SaysEvent, TablesOf, closed, eventAnswer, keptOf, listAnswer, listedBy, placesAfter, putOf, refusedBy, stateOf};
 use crate::error::TextureParseError;
 use crate::event::EventRead;
 use bits::Cursor;
@@ -27,11 +27,10 @@ pub struct ListRead {
     pub qfs: [i32; 64],
 }
 
-// The places filled so far: the next place, the first bad landing or 0, and the levels.
-pub struct State {
+// Where a list stands: the next place, and the first bad landing or 0.
+pub struct Landing {
     pub place: usize,
     pub bad: usize,
-    pub qfs: [i32; 64],
 }
 
 // Whether data may be read from a cursor on.
@@ -64,29 +63,24 @@ fn read_event(
 }
 
 // One event into its place; the first bad landing is remembered.
-fn put(st: State, run: u32, level: i32) -> State
-    requires { ⌜ (st .place ≤ 64) × (run ≤ 1024) ⌝ }
-    ensures { λ r. ⌜ r ≡ putOf st run level ⌝ }
+fn put(qfs: &mut [i32; 64], l: Landing, run: u32, level: i32) -> Landing
+    requires { ⌜ (l .place ≤ 64) × (run ≤ 1024) × (length (now qfs) ≡ 64) ⌝ }
+    ensures { λ r. ⌜ stateOf r (now (qfs .exit)) ≡ putOf (stateOf l (now (qfs .entry))) run level ⌝ }
 {
-    let place = st.place;
-    let bad = st.bad;
-    if bad != 0 {
-        return st;
+    if l.bad != 0 {
+        return l;
     }
-    let land = place + run as usize;
-    let mut qfs = st.qfs;
+    let land = l.place + run as usize;
     if land < 64 {
         qfs[land] = level;
-        return State {
+        return Landing {
             place: land + 1,
             bad: 0,
-            qfs,
         };
     }
-    State {
-        place,
+    Landing {
+        place: l.place,
         bad: land,
-        qfs,
     }
 }
 
@@ -100,20 +94,18 @@ fn refusal(e: TextureParseError) -> ListRead
 }
 
 // The answer once the list is read through.
-fn close(st: State, next: Cursor) -> ListRead
-    requires { ⌜ st .bad ≤ 2000 ⌝ }
-    ensures { λ r. ⌜ r ≡ closed st next ⌝ }
+fn close(l: Landing, qfs: [i32; 64], next: Cursor) -> ListRead
+    requires { ⌜ l .bad ≤ 2000 ⌝ }
+    ensures { λ r. ⌜ r ≡ closed (stateOf l qfs) next ⌝ }
 {
-    let bad = st.bad;
-    if bad == 0 {
-        let qfs = st.qfs;
+    if l.bad == 0 {
         return ListRead {
             answer: EventsRead::Read(next),
             qfs,
         };
     }
     refusal(TextureParseError::Overflow {
-        position: bad as u32,
+        position: l.bad as u32,
     })
 }
 
@@ -131,10 +123,10 @@ fn read_list(
     requires { ⌜ Readable (now «data») c × TablesOf reversible table (now codes) (now lens) (now events) × (first ≤ 1) ⌝ }
     ensures { λ r. ⌜ r ≡ listedBy (now («data» .entry)) reversible table first (bitsFrom (now («data» .entry)) (c .«bit_pos»)) ⌝ }
 {
-    let mut st = State {
+    let mut qfs = [0i32; 64];
+    let mut l = Landing {
         place: first,
         bad: 0,
-        qfs: [0i32; 64],
     };
     let mut at = c;
     loop {
@@ -144,10 +136,10 @@ fn read_list(
                 return refusal(why);
             }
             EventRead::Event(v, next) => {
-                st = put(st, v.run, v.level);
+                l = put(&mut qfs, l, v.run, v.level);
                 at = next;
                 if v.last {
-                    return close(st, at);
+                    return close(l, qfs, at);
                 }
             }
         }

@@ -10,20 +10,19 @@ use Rattle.bits.specs.Bits.{bitsFrom}
 use Rattle.numbers.proofs.Words.{fits-mag}
 use Rattle.texture.proofs.LoopLaws.{rest, Held, Turn, behind-no, ended, ended-is, put-held, rest-last, rest-more, rest-no, rest-start, startOf, turn}
 use Rattle.texture.proofs.list.read_list.Statement.{statement}
-use Rattle.texture.specs.Answer.{listedOf, putOf, saidEvent}
+use Rattle.texture.specs.Answer.{State, listedOf, putOf, saidEvent, stateOf}
 use Rattle.texture.specs.Event.{levelOf, runOf}
 use Rattle.texture.specs.EventReader.{event}
 use Rattle.texture.specs.declared.event.AcEvent.{AcEvent}
-use Rattle.texture.specs.declared.list.State.{State}
 use Rattle.texture.proofs.list.read_list.Tie as tie
 
 abbrev Inv-loop : tie.InvT-loop
-Inv-loop «data» reversible table codes lens events first st₀ at₀ st at =
-    (at .«bit_pos» ≤ 8 * length «data») × Held st
-    × (rest reversible table (startOf first) (bitsFrom «data» (at₀ .«bit_pos»)) ≡ rest reversible table st (bitsFrom «data» (at .«bit_pos»)))
+Inv-loop «data» reversible table codes lens events first qfs₀ l₀ at₀ qfs l at =
+    (at .«bit_pos» ≤ 8 * length «data») × Held (stateOf l qfs)
+    × (rest reversible table (startOf first) (bitsFrom «data» (at₀ .«bit_pos»)) ≡ rest reversible table (stateOf l qfs) (bitsFrom «data» (at .«bit_pos»)))
 
 abbrev μ-loop : tie.MeasureT-loop
-μ-loop «data» reversible table codes lens events first st₀ at₀ st at = 8 * length «data» - at .«bit_pos»
+μ-loop «data» reversible table codes lens events first qfs₀ l₀ at₀ qfs l at = 8 * length «data» - at .«bit_pos»
 
 -- the turn at an event that was read
 here : (k : tie.After-known-told2 Inv-loop μ-loop) → let a = k .before .before .before .before .before .before .before .before .before .args in
@@ -32,23 +31,31 @@ here k =
     let a = k .before .before .before .before .before .before .before .before .before .args in
     turn (now (a .«data»)) (a .reversible) (a .table) (k .before .before .before .before .loop .at .«bit_pos») _ (k .before .before .before .read-event .ensures) (k .before .e2 .given .1)
 
--- the state after it
-state-is : (c : tie.After-put Inv-loop μ-loop) → let t = here (c .before .before) in
-    c .put .result ≡ putOf (c .before .before .before .before .before .before .loop .st) (runOf (c .before .before .before .before .before .before .before .before .before .before .before .args .table) (t .e)) (levelOf (c .before .before .before .before .before .before .before .before .before .before .before .args .table) (t .e))
-state-is c =
-    let t = here (c .before .before) in
-    let v = c .before .before .before .e2 .given .0 .0 in
-    c .put .ensures ∙ ap (putOf (c .before .before .before .before .before .before .loop .st) (v .run)) (toZ-ofZ (fits-mag 2047 tt (v .level) (t .bounds .level-le)))
-    ∙ ap₂ (putOf (c .before .before .before .before .before .before .loop .st)) (sym (ap (λ (v : AcEvent). v .run) (t .is))) (sym (ap (λ (v : AcEvent). v .level) (t .is)))
+-- the state before it and after it
+abbrev before : tie.After-put Inv-loop μ-loop → State
+before c = let l = c .before .before .before .before .before .before .before .loop in stateOf (l .l) (l .qfs)
 
-held-then : (c : tie.After-put Inv-loop μ-loop) → Held (c .put .result)
+abbrev after : tie.After-put Inv-loop μ-loop → State
+after c = stateOf (c .put .result) (c .put .last .0)
+
+state-is : (c : tie.After-put Inv-loop μ-loop) → let k = c .before .before .before in
+    let m = k .before .before .before .before .before .before .before .before .before .args .table in
+    after c ≡ putOf (before c) (runOf m (here k .e)) (levelOf m (here k .e))
+state-is c =
+    let k = c .before .before .before in
+    let t = here k in
+    let v = k .before .e2 .given .0 .0 in
+    c .put .ensures ∙ ap (putOf (before c) (v .run)) (toZ-ofZ (fits-mag 2047 tt (v .level) (t .bounds .level-le)))
+    ∙ ap₂ (putOf (before c)) (sym (ap (λ (v : AcEvent). v .run) (t .is))) (sym (ap (λ (v : AcEvent). v .level) (t .is)))
+
+held-then : (c : tie.After-put Inv-loop μ-loop) → Held (after c)
 held-then c =
-    let t = here (c .before .before) in
-    let l = c .before .before .before .before .before .before .loop in
-    subst⁻¹ Held (c .put .ensures) (put-held (l .st) _ _ (t .bounds .run-le) (l .inv .1))
+    let t = here (c .before .before .before) in
+    let l = c .before .before .before .before .before .before .before .loop in
+    subst⁻¹ Held (c .put .ensures) (put-held (before c) _ _ (t .bounds .run-le) (l .inv .1))
 
 loop-holds : tie.Need-loop-holds Inv-loop μ-loop
-loop-holds c = let p = c .before .before .before .before .pre in (p .0 .0, record { place-le = let h = p .2 in omega arith; bad-le = omega arith }, refl)
+loop-holds c = let p = c .before .before .before .before .pre in (p .0 .0, record { place-le = let h = p .2 in omega arith; bad-le = omega arith; long = refl }, refl)
 
 read-event-requires : tie.Need-read-event-requires Inv-loop μ-loop
 read-event-requires c κs = let p = c .before .before .before .before .before .pre in ((c .loop .inv .0, p .0 .1), p .1)
@@ -70,13 +77,13 @@ returns c =
     let r = k .before .before .before .read-event .ensures in
     let q = behind-no (a .table) (event (a .reversible) b) (sym (r .is) ∙ ap (saidEvent d) (k .before .e .given .1)) in
     c .refusal .ensures
-    ∙ ap (listedOf d) (sym (rest-no (a .reversible) (a .table) (l .st) b q) ∙ sym (l .inv .2) ∙ rest-start (a .reversible) (a .table) (a .first) (bitsFrom d (a .c .«bit_pos»)))
+    ∙ ap (listedOf d) (sym (rest-no (a .reversible) (a .table) (stateOf (l .l) (l .qfs)) b q) ∙ sym (l .inv .2) ∙ rest-start (a .reversible) (a .table) (a .first) (bitsFrom d (a .c .«bit_pos»)))
 
 enum-known-e-2 : tie.Need-enum-known-e-2 Inv-loop μ-loop
 enum-known-e-2 c = search needs
 
 put-requires : tie.Need-put-requires Inv-loop μ-loop
-put-requires c κs = (c .before .before .before .before .before .loop .inv .1 .place-le, here (c .before) .bounds .run-le)
+put-requires c κs = let h = c .before .before .before .before .before .before .loop .inv .1 in (h .place-le, here (c .before .before) .bounds .run-le, h .long)
 
 close-requires : tie.Need-close-requires Inv-loop μ-loop
 close-requires c κs = held-then (c .before) .bad-le
@@ -84,26 +91,26 @@ close-requires c κs = held-then (c .before) .bad-le
 returns-2 : tie.Need-returns-2 Inv-loop μ-loop
 returns-2 c =
     let p = c .before .before in
-    let k = p .before .before in
+    let k = p .before .before .before in
     let t = here k in
     let start = k .before .before .before .before .before .before .before .before .before in
     let a = start .args in
     let d = now (a .«data») in
     let l = k .before .before .before .before .loop in
     let next = k .before .e2 .given .0 .1 .0 in
-    c .close .ensures ∙ ended-is d (p .put .result) next (t .inside)
+    c .close .ensures ∙ ended-is d (after p) next (t .inside)
     ∙ ap (listedOf d)
     (ap (λ (x : State). ended x (bitsFrom d (next .«bit_pos»))) (state-is p)
-    ∙ sym (rest-last (a .reversible) (a .table) (l .st) (bitsFrom d (l .at .«bit_pos»)) (t .e) (bitsFrom d (next .«bit_pos»)) (t .read) (ap (λ (v : AcEvent). v .last) (t .is) ∙ c .before .if1 .taken))
+    ∙ sym (rest-last (a .reversible) (a .table) (before p) (bitsFrom d (l .at .«bit_pos»)) (t .e) (bitsFrom d (next .«bit_pos»)) (t .read) (ap (λ (v : AcEvent). v .last) (t .is) ∙ c .before .if1 .taken))
     ∙ sym (l .inv .2) ∙ rest-start (a .reversible) (a .table) (a .first) (bitsFrom d (a .c .«bit_pos»)))
 
 loop-less : tie.Need-loop-less Inv-loop μ-loop
-loop-less c = here (c .before .before .before) .less
+loop-less c = here (c .before .before .before .before) .less
 
 loop-again : tie.Need-loop-again Inv-loop μ-loop
 loop-again c =
     let p = c .before in
-    let k = p .before .before in
+    let k = p .before .before .before in
     let t = here k in
     let start = k .before .before .before .before .before .before .before .before .before in
     let a = start .args in
@@ -113,7 +120,7 @@ loop-again c =
       t .inside,
       held-then p,
       l .inv .2
-          ∙ rest-more (a .reversible) (a .table) (l .st) (bitsFrom d (l .at .«bit_pos»)) (t .e) (bitsFrom d (next .«bit_pos»)) (t .read) (ap (λ (v : AcEvent). v .last) (t .is) ∙ c .if1 .left)
+          ∙ rest-more (a .reversible) (a .table) (before p) (bitsFrom d (l .at .«bit_pos»)) (t .e) (bitsFrom d (next .«bit_pos»)) (t .read) (ap (λ (v : AcEvent). v .last) (t .is) ∙ c .if1 .left)
           ∙ ap (λ (x : State). rest (a .reversible) (a .table) x (bitsFrom d (next .«bit_pos»))) (sym (state-is p)),
     )
 
