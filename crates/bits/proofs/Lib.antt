@@ -1,3 +1,5 @@
 -- The laws of bits and numbers.
 pub mod BitLaws
+pub mod ByteLaws
 pub mod CursorLaws
+pub mod CutLaws

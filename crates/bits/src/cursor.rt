@@ -1,7 +1,7 @@
 // The cursor: a bit position by value. Its methods take the data beside it and hand back the moved
 // cursor with what was read; a refusal hands back nothing, so the caller's position stays.
 ghost use mathlib.Core.Path.{_≡_};
-ghost use Prim.Native.Nat.{_+_, _*_, _%_, _≤_, min};
+ghost use Prim.Native.Nat.{_+_, _*_, _/_, _%_, _<_, _≤_, min};
 ghost use lib.Dec.{eqb};
 ghost use lib.ListN.{length, take};
 ghost use Rattle.bits.specs.Bits.{val, bitsFrom};
@@ -49,21 +49,43 @@ pub enum BitCount {
     Refused(BitReaderError),
 }
 
-// The next n bits as a number, first bit highest.
+// The number that `count` bytes from `first` on write.
+fn gather(data: &[u8], first: usize, count: usize) -> u64
+    requires { ⌜ (count ≤ 8) × (first + count ≤ length (now «data»)) ⌝ }
+    ensures { λ r. ⌜ r ≡ val (take (8 * count) (bitsFrom (now («data» .entry)) (8 * first))) ⌝ }
+{
+    let mut v: u64 = 0;
+    let mut k: usize = 0;
+    while k < count {
+        v = v * 256 + data[first + k] as u64;
+        k += 1;
+    }
+    v
+}
+
+// The next n bits as a number, cut out of `count` bytes that hold them.
+fn cut(data: &[u8], at: usize, n: usize, count: usize) -> u32
+    requires { ⌜ (0 < n) × (n ≤ 32) × (at % 8 + n ≤ 8 * count) × (count ≤ 8) × (at / 8 + count ≤ length (now «data»)) ⌝ }
+    ensures { λ r. ⌜ r ≡ val (take n (bitsFrom (now («data» .entry)) at)) ⌝ }
+{
+    let under = 8 * count - (at % 8 + n);
+    let v = gather(data, at / 8, count);
+    ((v >> under as u32) % (1u64 << n as u32)) as u32
+}
+
+// The next n bits as a number, first bit highest. Eight bytes are read where so many are left, which
+// compiles to one load; at the end of the data only those that hold the bits.
 fn peek(data: &[u8], at: usize, n: usize) -> u32
     requires { ⌜ (n ≤ 32) × (at + n ≤ 8 * length (now «data»)) × (length (now «data») ≤ 1048576) ⌝ }
     ensures { λ r. ⌜ r ≡ val (take n (bitsFrom (now («data» .entry)) at)) ⌝ }
 {
-    let mut v: u32 = 0;
-    let mut k: usize = 0;
-    while k < n {
-        let p = at + k;
-        let byte = data[p / 8] as u32;
-        let bit = (byte >> (7 - (p % 8) as u32)) % 2;
-        v = v * 2 + bit;
-        k += 1;
+    if n == 0 {
+        return 0;
     }
-    v
+    if at / 8 + 8 <= data.len() {
+        return cut(data, at, n, 8);
+    }
+    cut(data, at, n, (at % 8 + n + 7) / 8)
 }
 
 // Whether data of a length may be read from a position on.
