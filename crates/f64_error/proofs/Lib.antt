@@ -2,6 +2,7 @@
 pub mod Sizes
 pub mod Rounded
 pub mod Operations
+pub mod Zeros
 pub mod Order
 pub mod Binary64
 pub mod Nearness

@@ -1,7 +1,7 @@
 // The transform of Annex A.1: rows first, then columns, each operation rounded once.
 ghost use mathlib.Core.Path.{_≡_};
 ghost use Prim.Native.Nat.{ℕ, _<_};
-ghost use lib.Ieee.{nan, binary64, mul};
+ghost use lib.Ieee.{nan, binary64, add, mul};
 ghost use lib.ListN.{getD};
 ghost use Rattle.numbers.specs.Grid.{build, block};
 ghost use Rattle.numbers.specs.Every.{every};
@@ -28,8 +28,19 @@ fn halves(sums: [f64; 8]) -> [f64; 8]
     output
 }
 
+// A term added at each x: f times the cosine there.
+fn add_term(sums: [f64; 8], f: f64, cosines: [f64; 8]) -> [f64; 8]
+    ensures { λ r. ⌜ r ≡ build 8 (λ (x : ℕ). add binary64 (getD sums x nan) (mul binary64 f (getD cosines x nan))) ⌝ }
+{
+    let mut output = [0.0f64; 8];
+    for x in 0..8 {
+        output[x] = sums[x] + f * cosines[x];
+    }
+    output
+}
+
 // The 1-D transform: at x, half the sum over u of C(u) F(u) cos((2x + 1) u pi / 16). The terms are added
-// from u = 0 up, at every x in one go, since C(u) F(u) serves every x.
+// from u = 0 up, at every x in one go, since C(u) F(u) serves every x. One of zeros changes no sum.
 fn idct_1d(input: [f64; 8], cos: &[[f64; 8]; 8]) -> [f64; 8]
     requires { ⌜ now cos ≡ block cosF ⌝ }
     ensures { λ r. ⌜ r ≡ idct1d input ⌝ }
@@ -37,8 +48,10 @@ fn idct_1d(input: [f64; 8], cos: &[[f64; 8]; 8]) -> [f64; 8]
     let mut sums = [0.0f64; 8];
     for u in 0..8 {
         let f = c(u) * input[u];
-        for x in 0..8 {
-            sums[x] = sums[x] + f * cos[u][x];
+        if f != 0.0 {
+            let cosines = cos[u];
+            let more = add_term(sums, f, cosines);
+            sums = more;
         }
     }
     halves(sums)
