@@ -1,8 +1,9 @@
 -- A zero added to a sum that is not -0 leaves it as it is, and a product with a zero is a zero; the format is a variable. Assumes nothing.
 use mathlib.Core.Bool.{Bool, true, false, not, _&&_, _||_, Bool·beq, cond}
+use mathlib.Core.Logic.{inl, inr}
 use mathlib.Core.Path.{_≡_, refl, sym, ap, _∙_, subst}
 use Prim.Native.Nat.{ℕ, zero, suc, _+_, _-_, _*_, _/_, _%_, _^_, _≤_, _<_, compare, zero-le}
-use native.Mathlib.Nat.{add-mul, add-zero, div-div-eq-div-mul, eq-of-mul-eq-mul-right, le-div-iff-mul-le, le-trans, lt-of-lt-of-le, lt-of-mul-lt-mul-right, lt-of-not-le, mul-assoc, mul-comm, mul-le-mul-right, mul-lt-mul-of-pos-right, mul-one, mul-pos, mul-right-comm, not-le-of-lt, one-mul, sub-zero, zero-lt-suc, zero-mul}
+use native.Mathlib.Nat.{add-mul, add-zero, div-div-eq-div-mul, eq-of-mul-eq-mul-right, eq-or-lt-of-le, le-of-suc-le-suc, le-refl, le-suc, le-div-iff-mul-le, le-trans, lt-of-lt-of-le, lt-of-mul-lt-mul-right, lt-of-not-le, mul-assoc, mul-comm, mul-le-mul-right, mul-lt-mul-of-pos-right, mul-one, mul-pos, mul-right-comm, not-le-of-lt, one-mul, sub-zero, zero-lt-suc, zero-mul}
 use native.Mathlib.Omega.{arith}
 use lib.Arith.{le→nltb}
 use lib.Dec.{T, eqb, eqb→eq, not-T, leb, leb→le, lt→ltb, ltb, ltb→lt, nltb→le}
@@ -15,7 +16,7 @@ use lib.Ieee.Nearest.{closest, div-same, nearest-ge}
 use lib.Ieee.Scale.{round-same}
 use lib.IntN.{ℤ, pos, negsuc}
 use lib.Pow.{pow-add, pow-lt, pow-mono, pow-pos, shl-lt}
-use Rattle.f64_error.proofs.Operations.{at-l, at-r}
+use Rattle.f64_error.proofs.Operations.{at-l, at-r, mul-swap}
 use Rattle.f64_error.specs.Series.{seriesF}
 use Rattle.f64_error.specs.Units.{Is}
 
@@ -143,6 +144,10 @@ add-none f (fin s m e) t d p h =
     ∙ round-back f s m e p
 
 -- ---- a product with a zero
+-- x is +0 or -0
+abbrev pub Nought : Float → Type 0
+Nought x = (s : Bool) × (e : ℤ) × (x ≡ fin s 0 e)
+
 pub mul-none : (f : Format) (s : Bool) (e : ℤ) (t : Bool) (n : ℕ) (d : ℤ) → mul f (fin s 0 e) (fin t n d) ≡ fin (unlike s t) 0 (pos 0)
 unfolding mul fits
 mul-none f s e t n d =
@@ -152,11 +157,14 @@ mul-none f s e t n d =
     none : (a b c : ℕ) → 0 * a * b * 1 ≡ 0 * 1 * c
     none a b c = omega arith
 
-pub mul-none-is : (s : Bool) (e : ℤ) (y : Float) (v : ℤ) → Is y v → (t : Bool) × (mul binary64 (fin s 0 e) y ≡ fin t 0 (pos 0))
+pub nought-left : (x y : Float) (v : ℤ) → Nought x → Is y v → Nought (mul binary64 x y)
 unfolding Is
-mul-none-is s e nan v h = absurd h
-mul-none-is s e (inf t) v h = absurd h
-mul-none-is s e (fin t n d) v h = (unlike s t, mul-none binary64 s e t n d)
+nought-left x nan v z h = absurd h
+nought-left x (inf t) v z h = absurd h
+nought-left x (fin t n d) v z h = (unlike (z .0) t, pos 0, ap (λ (a : Float). mul binary64 a (fin t n d)) (z .2) ∙ mul-none binary64 (z .0) (z .1) t n d)
+
+pub nought-right : (x y : Float) (v : ℤ) → Is x v → Nought y → Nought (mul binary64 x y)
+nought-right x y v h z = subst Nought (mul-swap binary64 y x) (nought-left y x v z h)
 
 -- ---- a sum that starts at +0 is never -0
 odd-not-minus : (d q k l : ℕ) → T (notMinusZero (odd d false q k l))
@@ -262,12 +270,21 @@ module _ (t : ℕ → Float) (held : (i : ℕ) → T (fits binary64 (t i))) wher
   series-some zero = tt
   series-some (suc n) = add-some binary64 (seriesF t n) (t n) (series-fits n) (held n) (series-some n)
 
-  pub series-none : (n : ℕ) (s : Bool) (e : ℤ) → t n ≡ fin s 0 e → seriesF t (suc n) ≡ seriesF t n
+  pub series-none : (n : ℕ) → Nought (t n) → seriesF t (suc n) ≡ seriesF t n
   unfolding seriesF
-  series-none n s e h = ap (add binary64 (seriesF t n)) h ∙ add-none binary64 (seriesF t n) s e (series-fits n) (series-some n)
+  series-none n z = ap (add binary64 (seriesF t n)) (z .2) ∙ add-none binary64 (seriesF t n) (z .0) (z .1) (series-fits n) (series-some n)
+
+  -- the terms from k on are zeros
+  pub series-rest : (k n : ℕ) → k ≤ n → ((i : ℕ) → k ≤ i → i < n → Nought (t i)) → seriesF t n ≡ seriesF t k
+  series-rest k zero l h = ap (seriesF t) (omega arith)
+  series-rest k (suc n) l h =
+      elim (eq-or-lt-of-le l) [
+        | inl e ↦ ap (seriesF t) (sym e)
+        | inr g ↦ series-none n (h n (le-of-suc-le-suc g) (le-refl (suc n))) ∙ series-rest k n (le-of-suc-le-suc g) (λ (i : ℕ) (a : k ≤ i) (b : i < n). h i a (le-trans b (le-suc n)))
+      ]
 
 -- ---- what equals 0.0 is a zero
-pub zero-of-eq : (x : Float) → T (eq x (fin false 0 (pos 0))) → (s : Bool) × (e : ℤ) × (x ≡ fin s 0 e)
+pub zero-of-eq : (x : Float) → T (eq x (fin false 0 (pos 0))) → Nought x
 unfolding eq
 zero-of-eq nan t = absurd t
 zero-of-eq (inf s) t = absurd t

@@ -1,11 +1,13 @@
 -- A pass sees its eight inputs only, zeros give zeros, and the two passes make the transform. Assumes nothing.
+use mathlib.Core.Bool.{false}
 use mathlib.Core.List.{List, []}
 use mathlib.Core.Path.{_≡_, refl, sym, ap, _∙_, subst}
-use Prim.Native.Nat.{ℕ, zero, suc, _<_}
+use Prim.Native.Nat.{ℕ, zero, suc, _≤_, _<_}
 use native.Mathlib.Nat.{le-trans, le-refl, le-suc}
 use native.Mathlib.Omega.{arith}
 use lib.Dec.{T, eqb→eq}
-use lib.Ieee.{Float, nan, binary64, add, mul, ofInt, ofBits, neg}
+use lib.Ieee.{Float, nan, binary64, add, mul, ofInt, ofBits}
+use lib.Ieee.Fits.{mul-fits}
 use lib.IntN.{ℤ, pos, natAbs}
 use lib.ListN.{getD}
 use Rattle.numbers.proofs.Every.{every-at}
@@ -13,14 +15,16 @@ use Rattle.numbers.specs.Every.{every}
 use Rattle.numbers.proofs.Fill.{block-eq, build-eq, getD-build}
 use Rattle.numbers.proofs.Magnitudes.{zero-of-abs}
 use Rattle.numbers.specs.Grid.{block, build, cell}
+use Rattle.f64_error.proofs.Zeros.{Nought, nought-left, nought-right, series-rest}
 use Rattle.f64_error.specs.Series.{half, pass, seriesF}
-use Rattle.idct.specs.Cosines.{byTurnF, cosF, cF}
+use Rattle.idct.specs.Cosines.{cosF, cF}
 use Rattle.idct.specs.Exact.{Modest}
 use Rattle.idct.specs.Limits.{saturated}
 use Rattle.idct.specs.Rounding.{wholeOf, Roundable}
 use Rattle.idct.specs.Transform.{cellF, columnPass, computed, idct1d, isZero, rowIn, rowPass, whole, idct8x8}
 use Rattle.idct.specs.declared.rounding.HalfIntegerRounding.{HalfIntegerRounding}
 use Rattle.idct.proofs.Bounds.{bounded}
+use Rattle.idct.proofs.Tables.{c-const, cos-const}
 
 series-ext : (t s : ℕ → Float) (n : ℕ) → ((i : ℕ) → i < n → t i ≡ s i) → seriesF t n ≡ seriesF s n
 unfolding seriesF
@@ -39,28 +43,34 @@ idct1d-build g =
     build-eq 8 (λ (x : ℕ). pass cF (λ (u : ℕ). getD (build 8 g) u nan) (λ (u : ℕ). cosF u x)) (λ (x : ℕ). pass cF g (λ (u : ℕ). cosF u x))
     (λ (x : ℕ) (h : x < 8). pass-ext (λ (u : ℕ). getD (build 8 g) u nan) g (λ (u : ℕ). cosF u x) (λ (u : ℕ) (l : u < 8). getD-build 8 g u nan l))
 
--- ---- a row of zeros
+-- ---- zeros
 
-zero-pass : (x : ℕ) → x < 8 → pass cF (λ (u : ℕ). ofInt binary64 (pos 0)) (λ (u : ℕ). cosF u x) ≡ ofBits binary64 0
-unfolding seriesF cF byTurnF ofBits ofInt neg add mul
-zero-pass zero h = refl
-zero-pass (suc zero) h = refl
-zero-pass (suc (suc zero)) h = refl
-zero-pass (suc (suc (suc zero))) h = refl
-zero-pass (suc (suc (suc (suc zero)))) h = refl
-zero-pass (suc (suc (suc (suc (suc zero))))) h = refl
-zero-pass (suc (suc (suc (suc (suc (suc zero)))))) h = refl
-zero-pass (suc (suc (suc (suc (suc (suc (suc zero))))))) h = refl
-zero-pass (suc (suc (suc (suc (suc (suc (suc (suc x)))))))) h = absurd (omega arith)
+-- the inputs from n on are zeros
+pub pass-rest : (g : ℕ → Float) (x n : ℕ) → n ≤ 8 → ((u : ℕ) → n ≤ u → u < 8 → Nought (g u))
+    → pass cF g (λ (u : ℕ). cosF u x) ≡ mul binary64 half (seriesF (λ (u : ℕ). mul binary64 (mul binary64 (cF u) (g u)) (cosF u x)) n)
+pass-rest g x n l h =
+    ap (λ (a : Float). mul binary64 half a)
+    (series-rest (λ (u : ℕ). mul binary64 (mul binary64 (cF u) (g u)) (cosF u x)) (λ (u : ℕ). mul-fits binary64 (mul binary64 (cF u) (g u)) (cosF u x)) n 8 l
+    (λ (u : ℕ) (a : n ≤ u) (b : u < 8).
+    let c = c-const u in
+    let k = cos-const u x in
+    nought-left (mul binary64 (cF u) (g u)) (cosF u x) (k .w) (nought-right (cF u) (g u) (c .w) (c .is) (h u a b)) (k .is)))
+
+pub int-nought : (z : ℤ) → z ≡ pos 0 → Nought (ofInt binary64 z)
+unfolding ofInt
+int-nought z e = (false, pos 0, ap (ofInt binary64) e)
+
+pub zero-pass : (g : ℕ → Float) (x : ℕ) → ((u : ℕ) → u < 8 → Nought (g u)) → pass cF g (λ (u : ℕ). cosF u x) ≡ ofBits binary64 0
+unfolding seriesF mul ofBits
+zero-pass g x h = pass-rest g x 0 (omega arith) (λ (u : ℕ) (a : 0 ≤ u) (b : u < 8). h u b)
 
 pub zeros : (row : List ℤ) → T (every isZero row) → build 8 (λ (x : ℕ). ofBits binary64 0) ≡ idct1d (rowIn row)
 zeros row t =
     sym (idct1d-build (λ (u : ℕ). ofInt binary64 (getD row u (pos 0)))
     ∙ build-eq 8 (λ (x : ℕ). pass cF (λ (u : ℕ). ofInt binary64 (getD row u (pos 0))) (λ (u : ℕ). cosF u x)) (λ (x : ℕ). ofBits binary64 0)
     (λ (x : ℕ) (h : x < 8).
-    pass-ext (λ (u : ℕ). ofInt binary64 (getD row u (pos 0))) (λ (u : ℕ). ofInt binary64 (pos 0)) (λ (u : ℕ). cosF u x)
-    (λ (u : ℕ) (l : u < 8). ap (ofInt binary64) (zero-of-abs (getD row u (pos 0)) (eqb→eq (natAbs (getD row u (pos 0))) 0 (every-at isZero (pos 0) row tt t u))))
-    ∙ zero-pass x h))
+    zero-pass (λ (u : ℕ). ofInt binary64 (getD row u (pos 0))) x
+    (λ (u : ℕ) (l : u < 8). int-nought (getD row u (pos 0)) (zero-of-abs (getD row u (pos 0)) (eqb→eq (natAbs (getD row u (pos 0))) 0 (every-at isZero (pos 0) row tt t u))))))
 
 -- ---- two passes
 

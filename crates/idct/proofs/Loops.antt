@@ -1,7 +1,7 @@
 -- The sums of the 1-D transform: u is the number of terms that have been added at each x. Assumes nothing.
 use mathlib.Core.Bool.{Bool, true, false, not, true≢false}
 use mathlib.Core.List.{List}
-use mathlib.Core.Path.{_≡_, refl, sym, ap, _∙_}
+use mathlib.Core.Path.{_≡_, refl, sym, ap, _∙_, subst}
 use Prim.Native.Nat.{ℕ, _+_, _≤_, _<_}
 use native.Mathlib.Numerals.{add-one}
 use native.Mathlib.Omega.{arith}
@@ -12,7 +12,7 @@ use lib.IntN.{pos}
 use lib.ListN.{getD}
 use Rattle.numbers.proofs.Fill.{build-eq, getD-build}
 use Rattle.numbers.specs.Grid.{build}
-use Rattle.f64_error.proofs.Zeros.{mul-none-is, series-none, zero-of-eq}
+use Rattle.f64_error.proofs.Zeros.{Nought, nought-left, series-none, zero-of-eq}
 use Rattle.f64_error.specs.Series.{half, seriesF}
 use Rattle.idct.specs.Cosines.{cF, cosF}
 use Rattle.idct.specs.Transform.{idct1d}
@@ -60,8 +60,8 @@ module _ (input : List Float) where
       ∙ build-eq 8 (sumAt u) (sumAt (u + 1))
       (λ (x : ℕ) (h : x < 8).
       let k = cos-const u x in
-      let m = mul-none-is (z .0) (z .1) (cosF u x) (k .w) (k .is) in
-      sym (series-none (term x) (λ (i : ℕ). mul-fits binary64 (mul binary64 (cF i) (getD input i nan)) (cosF i x)) u (m .0) (pos 0) (ap (λ (y : Float). mul binary64 y (cosF u x)) (sym b ∙ z .2) ∙ m .1))
+      sym (series-none (term x) (λ (i : ℕ). mul-fits binary64 (mul binary64 (cF i) (getD input i nan)) (cosF i x)) u
+      (nought-left (mul binary64 (cF u) (getD input u nan)) (cosF u x) (k .w) (subst Nought b z) (k .is)))
       ∙ ap (λ (n : ℕ). sumAt n x) (sym (add-one u)))
     where
       is-zero : (t : Bool) → not t ≡ false → T t

@@ -1,14 +1,14 @@
 -- The transform of Annex A.1 in f64, each operation rounded once: rows, then columns; and the whole numbers and samples of a block (7.4.5). Definitions only.
-use mathlib.Core.Bool.{Bool}
+use mathlib.Core.Bool.{Bool, false}
 use mathlib.Core.List.{List, []}
 use Prim.Native.Nat.{ℕ}
 use lib.Dec.{eqb}
-use lib.Ieee.{Float, nan, binary64, ofInt}
+use lib.Ieee.{Float, fin, nan, binary64, add, mul, ofInt}
 use lib.IntN.{ℤ, pos, natAbs}
-use lib.ListN.{getD}
+use lib.ListN.{getD, set}
 use Rattle.numbers.proofs.Fill.{rows}
 use Rattle.numbers.specs.Grid.{build, block, cell}
-use Rattle.f64_error.specs.Series.{pass, blockF}
+use Rattle.f64_error.specs.Series.{half, pass, blockF}
 use Rattle.idct.specs.Cosines.{cF, cosF}
 use Rattle.idct.specs.Limits.{saturated}
 use Rattle.idct.specs.Rounding.{wholeOf}
@@ -30,6 +30,14 @@ columnIn rows x = build 8 (λ (v : ℕ). cellF rows v x)
 
 abbrev pub isZero : ℤ → Bool
 isZero z = eqb (natAbs z) 0
+
+-- a block with 0 for its DC
+abbrev pub withoutDc : List (List ℤ) → List (List ℤ)
+withoutDc l = set l 0 (set (getD l 0 []) 0 (pos 0))
+
+-- the 1-D transform of v and seven zeros, which is the same at every x
+abbrev pub dcPass : Float → Float
+dcPass v = mul binary64 half (add binary64 (fin false 0 (pos 0)) (mul binary64 (mul binary64 (cF 0) v) (cosF 0 0)))
 
 -- the transform of each row, and then of each column: list x of the second is column x
 abbrev pub rowPass : List (List ℤ) → List (List Float)

@@ -3,6 +3,7 @@
 //
 // No public function has a `requires`: each answers every input.
 mod cosines;
+mod dc;
 mod limits;
 mod rounding;
 mod transform;

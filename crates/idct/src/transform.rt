@@ -13,6 +13,8 @@ ghost use Rattle.idct.specs.Transform.{cellF, idct1d, rowIn, columnIn, r
 ghost use Rattle.idct.specs.Exact.{Modest};
 use crate::cosines::c;
 use crate::cosines::cos_table;
+use crate::dc::dc_alone;
+use crate::dc::dc_samples;
 use crate::limits::saturate_idct_sample;
 use crate::rounding::HalfIntegerRounding;
 use crate::rounding::round_to_integer;
@@ -69,7 +71,7 @@ fn row_in(row: [i32; 8]) -> [f64; 8]
 }
 
 // Whether a row has zeros only.
-fn all_zero(row: [i32; 8]) -> bool
+pub(crate) fn all_zero(row: [i32; 8]) -> bool
     ensures { λ r. ⌜ r ≡ every isZero row ⌝ }
 {
     for u in 0..8 {
@@ -150,6 +152,7 @@ fn to_samples(
 }
 
 // The samples of values within 2^15. The cosines are made once, and lent to every row and column.
+// A DC alone needs none.
 pub(crate) fn samples(
     coefficients: [[i32; 8]; 8],
     bits_per_pixel: u32,
@@ -158,6 +161,9 @@ pub(crate) fn samples(
     requires { ⌜ Modest coefficients ⌝ }
     ensures { λ r. ⌜ r ≡ idct8x8 rounding «bits_per_pixel» coefficients ⌝ }
 {
+    if dc_alone(coefficients) {
+        return dc_samples(coefficients, bits_per_pixel, rounding);
+    }
     let table = cos_table();
     let cos = &table;
     let rows = row_pass(coefficients, cos);

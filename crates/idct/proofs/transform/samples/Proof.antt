@@ -1,9 +1,18 @@
--- `idct::transform::samples` meets its contract: the two passes are the definition, and bounded. Assumes nothing.
-use mathlib.Core.Path.{_∙_}
+-- `idct::transform::samples` meets its contract: a DC alone, or the two passes, which are the definition, and bounded. Assumes nothing.
+use mathlib.Core.Path.{sym, _∙_}
 use borrow.Author.Needs.{needs}
 use Rattle.idct.proofs.Blocks.{columns-bounded, samples-are}
 use Rattle.idct.proofs.transform.samples.Statement.{statement}
 use Rattle.idct.proofs.transform.samples.Tie as tie
+
+dc-alone-requires : tie.Need-dc-alone-requires
+dc-alone-requires c κs = search needs
+
+dc-samples-requires : tie.Need-dc-samples-requires
+dc-samples-requires c κs = (c .before .before .pre, sym (c .before .dc-alone .ensures) ∙ c .if1 .taken)
+
+returns : tie.Need-returns
+returns c = search needs
 
 cos-table-requires : tie.Need-cos-table-requires
 cos-table-requires c κs = search needs
@@ -17,22 +26,25 @@ column-pass-requires c κs = search needs
 to-samples-requires : tie.Need-to-samples-requires
 to-samples-requires c κs =
     let r = c .before .row-pass in
-    let e = c .before .before .before .before in
+    let e = c .before .before .before .before .before .before in
     columns-bounded (e .args .coefficients) (r .result) (c .column-pass .result) (r .ensures) (c .column-pass .ensures) (e .pre)
 
-returns : tie.Need-returns
-returns c =
+returns-2 : tie.Need-returns-2
+returns-2 c =
     let r = c .before .before .row-pass in
     let k = c .before .column-pass in
-    let a = c .before .before .before .before .before .args in
+    let a = c .before .before .before .before .before .before .before .args in
     c .to-samples .ensures ∙ samples-are (a .coefficients) (r .result) (k .result) (r .ensures) (k .ensures) (a .bits-per-pixel) (a .rounding)
 
 pub samples-spec : {M : Type 1} → statement M
 samples-spec =
     tie.close
     (tie.spec
+    dc-alone-requires
+    dc-samples-requires
+    returns
     cos-table-requires
     row-pass-requires
     column-pass-requires
     to-samples-requires
-    returns)
+    returns-2)
