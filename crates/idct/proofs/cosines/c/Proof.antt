@@ -1,5 +1,5 @@
 -- `idct::cosines::c` meets its contract. Assumes nothing.
-use Rattle.idct.proofs.Turns.{c-zero, c-other}
+use Rattle.idct.proofs.Factors.{c-zero, c-other}
 use Rattle.idct.proofs.cosines.c.Statement.{statement}
 use Rattle.idct.proofs.cosines.c.Tie as tie
 
