@@ -5,7 +5,7 @@ use Prim.Native.Nat.{ℕ, zero, suc, _+_, _*_, _^_, _≤_, _<_}
 use native.Mathlib.Nat.{mul-right-comm, mul-one, eq-of-mul-eq-mul-right}
 use native.Mathlib.Omega.{arith}
 use lib.Dec.{T, ltb→lt, lit<, leb→le}
-use lib.Ieee.{Float, nan, inf, fin, low, up as numer, down as denom, round, add, mul, neg, lt, toSigned, binary64, sub, ofInt, inFloat}
+use lib.Ieee.{Float, nan, inf, fin, low, up as numer, down as denom, round, add, mul, neg, lt, binary64, sub, ofInt, inFloat}
 use lib.Ieee.Back.{round-whole}
 use lib.Ieee.Exact.{HasValue}
 use lib.Ieee.Fits.{down-pos}
@@ -13,7 +13,7 @@ use lib.IntN.{ℤ, pos, negℤ, natAbs, _+ℤ_, negsuc, _*ℤ_}
 use lib.Pow.{pow-add, pow-lt}
 use Rattle.numbers.proofs.Integers.{dn, up}
 use Rattle.f64_error.proofs.Operations.{Close, Times, add-val, mul-val, neg-val, val-of}
-use Rattle.f64_error.proofs.Order.{Le, Lt, lt-holds, lt-no, lt-yes, toSigned-val}
+use Rattle.f64_error.proofs.Order.{Le, Lt, lt-holds, lt-no, lt-yes}
 use Rattle.f64_error.specs.Units.{Is, grain, mesh, one, sgn}
 
 pub one-is : one ≡ 2 ^ 60 * grain
@@ -108,23 +108,11 @@ pub record Part (v t : ℤ) : Type 0 where
   pub over : up v + dn t * one < dn v + up t * one + one
   pub under : dn v + up t * one < up v + dn t * one + one
 
-pub part-is : (x : Float) (a : ℤ) → Is x a → natAbs a < 2 ^ 63 * one → Part a (toSigned 63 x)
-unfolding Is one
-part-is x a h s = let r = toSigned-val binary64 63 x a h s in record { over = r .0; under = r .1 }
-
 pub lt-shown : (x y : Float) (a b : ℤ) → Is x a → Is y b → Lt a b → T (lt x y)
 unfolding Is
 lt-shown x y a b h g l = lt-holds binary64 x y a b h g l
 
 -- ---- some powers of two
-pub top-is : Is (fin false 1 (pos 63)) (pos (2 ^ 63 * one))
-unfolding Is one
-top-is = (2 ^ 63 * 2 ^ 1074, refl, refl)
-
-pub bottom-is : Is (fin true 1 (pos 63)) (negℤ (pos (2 ^ 63 * one)))
-unfolding Is one
-bottom-is = (2 ^ 63 * 2 ^ 1074, refl, refl)
-
 pub half-is : Is (fin false 1 (negsuc 0)) (pos (2 ^ 59 * grain))
 unfolding Is grain
 half-is = (2 ^ 1073, refl, refl)

@@ -1,4 +1,4 @@
--- What a cast to an integer tells of the floor. Assumes nothing.
+-- What a whole number less than 1 away tells of the floor. Assumes nothing.
 use mathlib.Core.Path.{_≡_, ap}
 use Prim.Native.Nat.{ℕ, suc, _+_, _*_, _≤_, _<_}
 use native.Mathlib.Nat.{lt-of-mul-lt-mul-right}
@@ -20,7 +20,7 @@ part-size v (negsuc n) B p h = cancel (omega (arith, p .over))
     cancel : suc n * one < suc B * one → suc n ≤ B
     cancel g = let l : suc n < suc B = lt-of-mul-lt-mul-right one g in omega arith
 
--- t is x without its fraction: where x is below t, t - 1 is the floor, and otherwise t
+-- t is less than 1 from x: where x is below t, t - 1 is the floor, and otherwise t
 pub floor-under : (x : Float) (v t : ℤ) → Is x v → Part v t → up v + dn t * one < up t * one + dn v → FloorOf x (t -ℤ pos 1)
 floor-under x v t i p h =
     let e : (up (t -ℤ pos 1) + (dn t + 1)) * one ≡ (dn (t -ℤ pos 1) + (up t + 0)) * one = ap (λ (z : ℕ). z * one) (add-is t (negℤ (pos 1))) in

@@ -5,6 +5,7 @@ pub mod Operations
 pub mod Zeros
 pub mod Order
 pub mod Binary64
+pub mod Shifted
 pub mod Nearness
 pub mod Passes
 pub mod Constants

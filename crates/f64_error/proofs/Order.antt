@@ -1,17 +1,16 @@
--- `lt` compares the integers that two floats are, and a cast to an integer drops less than 1; the format is a variable. Assumes nothing.
-use mathlib.Core.Bool.{Bool, true, false, not, cond}
-use mathlib.Core.Path.{_≡_, sym, ap, _∙_, subst}
-use Prim.Native.Nat.{ℕ, _+_, _-_, _*_, _^_, _≤_, _<_, _/_, _%_, min}
-use native.Mathlib.Nat.{le-trans, le-of-eq, lt-of-le-of-lt, lt-of-lt-of-le, mul-le-mul-right, mul-lt-mul-of-pos-right, lt-of-mul-lt-mul-right, le-of-mul-le-mul-right, mul-pos, div-add-mod', mod-lt, div-lt-iff-lt-mul}
+-- `lt` compares the integers that two floats are; the format is a variable. Assumes nothing.
+use mathlib.Core.Bool.{Bool, true, false, not}
+use mathlib.Core.Path.{_≡_, sym, subst}
+use Prim.Native.Nat.{ℕ, _+_, _*_, _^_, _≤_, _<_}
+use native.Mathlib.Nat.{le-trans, le-of-eq, lt-of-le-of-lt, lt-of-lt-of-le, mul-le-mul-right, mul-lt-mul-of-pos-right, lt-of-mul-lt-mul-right, le-of-mul-le-mul-right, mul-pos}
 use native.Mathlib.Omega.{arith}
 use lib.Dec.{T, ltb, ltb→lt, nltb→le}
-use lib.Ieee.{Float, nan, inf, fin, Format, low, up as numer, down as denom, lt, below, toSigned}
+use lib.Ieee.{Float, nan, inf, fin, Format, low, up as numer, down as denom, lt, below}
 use lib.Ieee.Fits.{down-pos}
-use lib.Ieee.Nearest.{div-same}
-use lib.IntN.{ℤ, pos, negℤ, natAbs}
+use lib.IntN.{ℤ, pos, negℤ}
 use lib.Pow.{pow-pos}
 use Rattle.numbers.proofs.Integers.{dn, neg-dn, neg-up, up}
-use Rattle.f64_error.proofs.Operations.{abs-sgn, at-l, at-r}
+use Rattle.f64_error.proofs.Operations.{at-l, at-r}
 use Rattle.f64_error.specs.Units.{Val, sgn}
 
 -- a < b, as `omega` reads it
@@ -89,43 +88,6 @@ lt-yes f x y a b h g e = subst (λ (t : Bool). Says t a b) e (lt-says f x y a b 
 
 pub lt-no : (f : Format) (x y : Float) (a b : ℤ) → Val f x a → Val f y b → lt x y ≡ false → Le b a
 lt-no f x y a b h g e = subst (λ (t : Bool). Says t a b) e (lt-says f x y a b h g)
-
--- ---- toward zero: what is dropped is less than 1, which is L units
-cut : (s : Bool) (n L : ℕ) → 0 < L → (up (sgn s n) + dn (sgn s (n / L)) * L < dn (sgn s n) + up (sgn s (n / L)) * L + L) × (dn (sgn s n) + up (sgn s (n / L)) * L < up (sgn s n) + dn (sgn s (n / L)) * L + L)
-cut false n L l = let r = mod-lt n l in let e = div-add-mod' n L in omega arith
-cut true n L l =
-    let r = mod-lt n l in
-    let e = div-add-mod' n L in
-    simp (neg-up, neg-dn) (line n (n / L * L) (n % L) r e)
-  where
-    line : (n q r : ℕ) → r < L → q + r ≡ n → (0 + q < n + 0 * L + L) × (n + 0 * L < 0 + q + L)
-    line n q r h e = omega arith
-
-pub toSigned-val : (f : Format) (h : ℕ) (x : Float) (a : ℤ) → Val f x a → natAbs a < 2 ^ h * 2 ^ low f
-    → (up a + dn (toSigned h x) * 2 ^ low f < dn a + up (toSigned h x) * 2 ^ low f + 2 ^ low f) × (dn a + up (toSigned h x) * 2 ^ low f < up a + dn (toSigned h x) * 2 ^ low f + 2 ^ low f)
-unfolding toSigned
-toSigned-val f h nan a v s = absurd v
-toSigned-val f h (inf t) a v s = absurd v
-toSigned-val f h (fin t m e) a v s =
-    let n = v .0 in
-    let L = 2 ^ low f in
-    let q : m * numer e / denom e ≡ n / L = div-same (m * numer e) (denom e) n L (down-pos e) (pow-pos (low f)) (v .1) in
-    let n-lt : n < 2 ^ h * L = subst (λ (z : ℕ). z < 2 ^ h * L) (ap natAbs (v .2) ∙ abs-sgn t n) s in
-    let is : cond t (negℤ (pos (min (m * numer e / denom e) (2 ^ h)))) (pos (min (m * numer e / denom e) (2 ^ h - 1))) ≡ sgn t (n / L) =
-    ap (λ (z : ℕ). cond t (negℤ (pos (min z (2 ^ h)))) (pos (min z (2 ^ h - 1)))) q ∙ uncap t (n / L) (2 ^ h) (div-lt-iff-lt-mul (pow-pos (low f)) .1 n-lt) in
-    subst (λ (z : ℤ). (up a + dn z * L < dn a + up z * L + L) × (dn a + up z * L < up a + dn z * L + L)) (sym is)
-    (subst (λ (z : ℤ). (up z + dn (sgn t (n / L)) * L < dn z + up (sgn t (n / L)) * L + L) × (dn z + up (sgn t (n / L)) * L < up z + dn (sgn t (n / L)) * L + L)) (sym (v .2))
-    (cut t n L (pow-pos (low f))))
-  where
-    small : (z H : ℕ) → z < H → min z H ≡ z
-    small z H h = omega arith
-
-    less : (z H : ℕ) → z < H → min z (H - 1) ≡ z
-    less z H h = omega arith
-
-    uncap : (t : Bool) (z H : ℕ) → z < H → cond t (negℤ (pos (min z H))) (pos (min z (H - 1))) ≡ sgn t z
-    uncap true z H h = ap (λ (i : ℕ). negℤ (pos i)) (small z H h)
-    uncap false z H h = ap pos (less z H h)
 
 -- ---- from the numbers to the test
 pub lt-holds : (f : Format) (x y : Float) (a b : ℤ) → Val f x a → Val f y b → Lt a b → T (lt x y)

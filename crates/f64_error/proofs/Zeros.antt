@@ -6,7 +6,7 @@ use Prim.Native.Nat.{ℕ, zero, suc, _+_, _-_, _*_, _/_, _%_, _^_, _≤_, _<_, c
 use native.Mathlib.Nat.{add-mul, add-zero, div-div-eq-div-mul, eq-of-mul-eq-mul-right, eq-or-lt-of-le, le-of-suc-le-suc, le-refl, le-suc, le-div-iff-mul-le, le-trans, lt-of-lt-of-le, lt-of-mul-lt-mul-right, lt-of-not-le, mul-assoc, mul-comm, mul-le-mul-right, mul-lt-mul-of-pos-right, mul-one, mul-pos, mul-right-comm, not-le-of-lt, one-mul, sub-zero, zero-lt-suc, zero-mul}
 use native.Mathlib.Omega.{arith}
 use lib.Arith.{le→nltb}
-use lib.Dec.{T, eqb, eqb→eq, not-T, leb, leb→le, lt→ltb, ltb, ltb→lt, nltb→le}
+use lib.Dec.{T, eqb, eqb→eq, not-T, leb, leb→le, lt→ltb, ltb, ltb→lt}
 use lib.Ieee.{Float, nan, inf, fin, Format, prec, emax, low, unlike, up, down, size, odd, units, round, sum, add, mul, eq, fits, binary64, hid, top, toBits, ofBits}
 use lib.Ieee.Bits.{is-false, is-true, ofBits-toBits}
 use lib.Ieee.Digits.{size-lt, size-reaches}

@@ -1,79 +1,78 @@
--- The floor, out of the number that a cast to an integer gives. Assumes nothing.
-use mathlib.Core.Bool.{Bool, true, false, _||_}
+-- The floor, out of a whole number near to it: what the shift leaves, and one less where that is above. Assumes nothing.
+use mathlib.Core.Bool.{true, false}
 use mathlib.Core.Path.{_≡_, sym, ap, _∙_, subst}
-use Prim.Native.Nat.{ℕ, _+_, _*_, _^_, _≤_, _<_}
-use native.Mathlib.Nat.{le-trans, le-of-eq, lt-of-le-of-lt, mul-lt-mul-of-pos-right}
+use Prim.Native.Nat.{_≤_}
+use native.Mathlib.Nat.{le-trans, le-of-eq, lt-of-le-of-lt}
 use native.Mathlib.Omega.{arith}
 use lib.Dec.{T, lit<, lit≤}
-use lib.Ieee.{Float, fin, binary64, lt, eq, le, toSigned, ofInt}
-use lib.IntN.{ℤ, pos, negℤ, _-ℤ_, _*ℤ_, natAbs}
+use lib.Ieee.{Float, add, binary64, inSigned, lt, ofBits, ofInt, sub, toSigned}
+use lib.Ieee.Back.{negative-back, positive-back}
+use lib.IntN.{ℤ, pos, negsuc, _-ℤ_, _*ℤ_, natAbs}
 use mir.Facts.{toZ-ofZ}
-use mir.Syntax.{w32, w64}
+use mir.Syntax.{w32}
 use mir.Val.{SFits, toZ, ofZ}
 use Rattle.numbers.proofs.Expressions.{Sx, loc, lit, _⊟_, val-fits}
-use Rattle.numbers.proofs.Integers.{up, dn, neg-up, neg-dn, abs-is}
-use Rattle.numbers.proofs.Words.{fits-mag}
-use Rattle.f64_error.proofs.Binary64.{one-pos, Part, part-is, lt-is, nlt-is, lt-shown, bottom-is, int-is, top-is}
+use Rattle.numbers.proofs.Integers.{abs-is}
+use Rattle.f64_error.proofs.Binary64.{lt-is, nlt-is, int-is}
 use Rattle.f64_error.proofs.Floors.{part-size, floor-under, floor-at}
 use Rattle.f64_error.proofs.FromIntegers.{times-up, times-dn, in-float}
 use Rattle.f64_error.proofs.Nearest.{floor-is}
+use Rattle.f64_error.proofs.Shifted.{Shifted, shifted}
 use Rattle.f64_error.specs.Units.{one, Is}
 use Rattle.f64_error.specs.Wholes.{floorZ}
 use Rattle.idct.specs.Rounding.{Roundable}
 
-or-l : (a b : Bool) → T a → T (a || b)
-or-l true b t = tt
-or-l false b t = absurd t
+-- x with 3 * 2 ^ 51 added and taken off again
+abbrev pub near : Float → Float
+near x = sub binary64 (add binary64 x (ofBits binary64 4843621399236968448)) (ofBits binary64 4843621399236968448)
 
-room : 1048576 * one < 2 ^ 63 * one
-room = mul-lt-mul-of-pos-right (lit< tt) one-pos
+cast-back : (t : ℤ) → natAbs t ≤ 1048576 → T (inSigned binary64 31 (ofInt binary64 t)) × (toSigned 31 (ofInt binary64 t) ≡ t)
+cast-back (pos n) l = positive-back binary64 31 n (in-float (pos n) (le-trans l (lit≤ tt))) (lt-of-le-of-lt l (lit< tt))
+cast-back (negsuc k) l = negative-back binary64 31 k (in-float (negsuc k) (le-trans l (lit≤ tt))) (le-trans l (lit≤ tt))
+
+-- near x is t
+module _ (x : Float) (h : Roundable x) (s : Shifted x (h .v)) (e : near x ≡ ofInt binary64 (s .t)) where
+  size : natAbs (s .t) ≤ 1048576
+  size = part-size (h .v) (s .t) 1048576 (s .part) (le-trans (le-of-eq (sym (abs-is (h .v)))) (h .size))
+
+  castable : T (inSigned binary64 31 (near x))
+  castable = subst (λ (z : Float). T (inSigned binary64 31 z)) (sym e) (cast-back (s .t) size .0)
+
+  abbrev cut : Sx w32
+  cut = loc (s .t) 1048576 size
+
+  -- a local holds bits: what is read back from them is t
+  read-back : toZ w32 (ofZ w32 (toSigned 31 (near x))) ≡ s .t
+  read-back = ap (λ (z : Float). toZ w32 (ofZ w32 (toSigned 31 z))) e ∙ ap (λ (z : ℤ). toZ w32 (ofZ w32 z)) (cast-back (s .t) size .1) ∙ toZ-ofZ {w = w32} {z = s .t} (val-fits cut tt)
+
+  exactly : Is (near x) (s .t *ℤ pos one)
+  exactly = subst (λ (z : Float). Is z (s .t *ℤ pos one)) (sym e) (int-is (s .t) (in-float (s .t) (le-trans size (lit≤ tt))))
+
+  fits-less : SFits w32 (s .t -ℤ pos 1)
+  fits-less = val-fits (cut ⊟ lit (pos 1)) tt
+
+  less-floor : lt x (near x) ≡ true → s .t -ℤ pos 1 ≡ floorZ x
+  less-floor g = floor-is x (s .t -ℤ pos 1) (floor-under x (h .v) (s .t) (h .is) (s .part) (omega (arith, lt-is x (near x) (h .v) (s .t *ℤ pos one) (h .is) exactly g, times-up (s .t) one, times-dn (s .t) one)))
+
+  same-floor : lt x (near x) ≡ false → s .t ≡ floorZ x
+  same-floor g = floor-is x (s .t) (floor-at x (h .v) (s .t) (h .is) (s .part) (omega (arith, nlt-is x (near x) (h .v) (s .t *ℤ pos one) (h .is) exactly g, times-up (s .t) one, times-dn (s .t) one)))
 
 module _ (x : Float) (h : Roundable x) where
-  halves : up (h .v) + dn (h .v) ≤ 1048576 * one
-  halves = le-trans (le-of-eq (sym (abs-is (h .v)))) (h .size)
+  found : Shifted x (h .v)
+  found = shifted x (h .v) (h .is) (h .size)
 
-  pub above : T (le (fin true 1 (pos 63)) x)
-  unfolding le
-  above = or-l (lt (fin true 1 (pos 63)) x) (eq (fin true 1 (pos 63)) x) (lt-shown (fin true 1 (pos 63)) x (negℤ (pos (2 ^ 63 * one))) (h .v) bottom-is (h .is) (line (up (h .v)) (dn (h .v)) (2 ^ 63 * one) halves room))
-    where
-      line : (p n t : ℕ) → p + n ≤ 1048576 * one → 1048576 * one < t → up (negℤ (pos t)) + n < p + dn (negℤ (pos t))
-      line p n t a b = omega (arith, neg-up (pos t), neg-dn (pos t))
+  found-is : near x ≡ ofInt binary64 (found .t)
+  unfolding ofBits
+  found-is = found .is
 
-  pub under : T (lt x (fin false 1 (pos 63)))
-  under = lt-shown x (fin false 1 (pos 63)) (h .v) (pos (2 ^ 63 * one)) (h .is) top-is (line (up (h .v)) (dn (h .v)) (2 ^ 63 * one) halves room)
-    where
-      line : (p n t : ℕ) → p + n ≤ 1048576 * one → 1048576 * one < t → p + 0 < t + n
-      line p n t a b = omega arith
+  pub cast-fine : T (inSigned binary64 31 (near x))
+  cast-fine = castable x h found found-is
 
-  -- t is what the cast gives
-  module _ (t : ℤ) (e : t ≡ toSigned 63 x) where
-    part : Part (h .v) t
-    part = subst (λ (z : ℤ). Part (h .v) z) (sym e) (part-is x (h .v) (h .is) (lt-of-le-of-lt (h .size) room))
+  pub less-fits : SFits w32 (toZ w32 (ofZ w32 (toSigned 31 (near x))) -ℤ pos 1)
+  less-fits = subst (λ (z : ℤ). SFits w32 (z -ℤ pos 1)) (sym (read-back x h found found-is)) (fits-less x h found found-is)
 
-    size : natAbs t ≤ 1048576
-    size = part-size (h .v) t 1048576 part halves
+  pub floor-less : lt x (near x) ≡ true → toZ w32 (ofZ w32 (toZ w32 (ofZ w32 (toSigned 31 (near x))) -ℤ pos 1)) ≡ floorZ x
+  floor-less g = toZ-ofZ {w = w32} {z = toZ w32 (ofZ w32 (toSigned 31 (near x))) -ℤ pos 1} less-fits ∙ ap (λ (z : ℤ). z -ℤ pos 1) (read-back x h found found-is) ∙ less-floor x h found found-is g
 
-    abbrev cut : Sx w32
-    cut = loc t 1048576 size
-
-    pub fits : SFits w32 t
-    fits = val-fits cut tt
-
-    pub fits64 : SFits w64 t
-    fits64 = fits-mag 1048576 tt t size
-
-    -- a local holds bits: what is read back from them is t
-    pub read-back : toZ w32 (ofZ w32 (toZ w64 (ofZ w64 t))) ≡ t
-    read-back = ap (λ (z : ℤ). toZ w32 (ofZ w32 z)) (toZ-ofZ {w = w64} {z = t} fits64) ∙ toZ-ofZ {w = w32} {z = t} fits
-
-    pub fits-less : SFits w32 (t -ℤ pos 1)
-    fits-less = val-fits (cut ⊟ lit (pos 1)) tt
-
-    exactly : Is (ofInt binary64 t) (t *ℤ pos one)
-    exactly = int-is t (in-float t (le-trans size (lit≤ tt)))
-
-    pub less-floor : lt x (ofInt binary64 t) ≡ true → t -ℤ pos 1 ≡ floorZ x
-    less-floor g = floor-is x (t -ℤ pos 1) (floor-under x (h .v) t (h .is) part (omega (arith, lt-is x (ofInt binary64 t) (h .v) (t *ℤ pos one) (h .is) exactly g, times-up t one, times-dn t one)))
-
-    pub same-floor : lt x (ofInt binary64 t) ≡ false → t ≡ floorZ x
-    same-floor g = floor-is x t (floor-at x (h .v) t (h .is) part (omega (arith, nlt-is x (ofInt binary64 t) (h .v) (t *ℤ pos one) (h .is) exactly g, times-up t one, times-dn t one)))
+  pub floor-same : lt x (near x) ≡ false → toZ w32 (ofZ w32 (toSigned 31 (near x))) ≡ floorZ x
+  floor-same g = read-back x h found found-is ∙ same-floor x h found found-is g

@@ -18,13 +18,18 @@ impl HalfIntegerRounding {
 // The distance from one half below which a value counts as half-way.
 const HALF_INTEGER_TOLERANCE: f64 = 1e-8;
 
+// 3 * 2^51. Added to an f64 and taken off again it leaves a whole number at most a half away, since
+// the f64s from 2^52 on are the whole numbers.
+const SHIFT: f64 = 6_755_399_441_055_744.0;
+
 // The whole number at or below x.
 fn floor_of(x: f64) -> i32
     requires { ⌜ Roundable x ⌝ }
     ensures { λ r. ⌜ r ≡ floorZ x ⌝ }
 {
-    let t = std::num::truncating_f64_to_i64(x) as i32;
-    if x < (t as f64) { t - 1 } else { t }
+    let near = x + SHIFT - SHIFT;
+    let t = near as i32;
+    if x < near { t - 1 } else { t }
 }
 
 // |x|
