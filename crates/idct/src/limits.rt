@@ -76,12 +76,12 @@ fn row_within(row: [i32; 8], bits: u32) -> bool
     requires { ⌜ bits < 31 ⌝ }
     ensures { λ r. ⌜ r ≡ every (inBounds bits) row ⌝ }
 {
+    let mut fine = true;
     for u in 0..8 {
-        if !value_within(row[u], bits) {
-            return false;
-        }
+        let within = value_within(row[u], bits);
+        fine = fine & within;
     }
-    true
+    fine
 }
 
 // Whether each value is one of a depth's limits, -2^(bits_per_pixel + 3) ..= 2^(bits_per_pixel + 3) - 1
