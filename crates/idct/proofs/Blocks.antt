@@ -1,9 +1,10 @@
--- A pass sees its eight inputs only, zeros give zeros, and the two passes make the transform. Assumes nothing.
+-- A pass sees its eight inputs only, zeros give zeros, and the rows' terms added up make the transform. Assumes nothing.
 use mathlib.Core.Bool.{false}
 use mathlib.Core.List.{List, []}
 use mathlib.Core.Path.{_≡_, refl, sym, ap, _∙_, subst}
-use Prim.Native.Nat.{ℕ, zero, suc, _≤_, _<_}
+use Prim.Native.Nat.{ℕ, zero, suc, _+_, _≤_, _<_}
 use native.Mathlib.Nat.{le-trans, le-refl, le-suc}
+use native.Mathlib.Numerals.{add-one}
 use native.Mathlib.Omega.{arith}
 use lib.Dec.{T, eqb→eq}
 use lib.Ieee.{Float, nan, binary64, add, mul, ofInt, ofBits}
@@ -15,15 +16,16 @@ use Rattle.numbers.specs.Every.{every}
 use Rattle.numbers.proofs.Fill.{block-eq, build-eq, getD-build}
 use Rattle.numbers.proofs.Magnitudes.{zero-of-abs}
 use Rattle.numbers.specs.Grid.{block, build, cell}
-use Rattle.f64_error.proofs.Zeros.{Nought, nought-left, nought-right, series-rest}
+use Rattle.f64_error.proofs.Zeros.{Nought, nought-left, nought-right, series-none, series-rest}
 use Rattle.f64_error.specs.Series.{half, pass, seriesF}
 use Rattle.idct.specs.Cosines.{cosF, cF}
 use Rattle.idct.specs.Exact.{Modest}
 use Rattle.idct.specs.Limits.{saturated}
 use Rattle.idct.specs.Rounding.{wholeOf, Roundable}
-use Rattle.idct.specs.Transform.{cellF, columnPass, computed, idct1d, isZero, rowIn, rowPass, whole, idct8x8}
+use Rattle.idct.specs.Transform.{cellF, computed, idct1d, isZero, rowAt, rowIn, rowTerms, sumOfRows, whole, idct8x8}
 use Rattle.idct.specs.declared.rounding.HalfIntegerRounding.{HalfIntegerRounding}
 use Rattle.idct.proofs.Bounds.{bounded}
+use Rattle.idct.proofs.Loops.{zero-bits}
 use Rattle.idct.proofs.Tables.{c-const, cos-const}
 
 series-ext : (t s : ℕ → Float) (n : ℕ) → ((i : ℕ) → i < n → t i ≡ s i) → seriesF t n ≡ seriesF s n
@@ -64,35 +66,70 @@ pub zero-pass : (g : ℕ → Float) (x : ℕ) → ((u : ℕ) → u < 8 → Nough
 unfolding seriesF mul ofBits
 zero-pass g x h = pass-rest g x 0 (omega arith) (λ (u : ℕ) (a : 0 ≤ u) (b : u < 8). h u b)
 
-pub zeros : (row : List ℤ) → T (every isZero row) → build 8 (λ (x : ℕ). ofBits binary64 0) ≡ idct1d (rowIn row)
-zeros row t =
-    sym (idct1d-build (λ (u : ℕ). ofInt binary64 (getD row u (pos 0)))
-    ∙ build-eq 8 (λ (x : ℕ). pass cF (λ (u : ℕ). ofInt binary64 (getD row u (pos 0))) (λ (u : ℕ). cosF u x)) (λ (x : ℕ). ofBits binary64 0)
-    (λ (x : ℕ) (h : x < 8).
-    zero-pass (λ (u : ℕ). ofInt binary64 (getD row u (pos 0))) x
-    (λ (u : ℕ) (l : u < 8). int-nought (getD row u (pos 0)) (zero-of-abs (getD row u (pos 0)) (eqb→eq (natAbs (getD row u (pos 0))) 0 (every-at isZero (pos 0) row tt t u))))))
-
--- ---- two passes
+-- ---- the second pass, row after row
 
 pub cellF-block : (f : ℕ → ℕ → Float) (v u : ℕ) → v < 8 → u < 8 → cellF (block f) v u ≡ f v u
 cellF-block f v u p q = ap (λ (r : List Float). getD r u nan) (getD-build 8 (λ (i : ℕ). build 8 (f i)) v [] p) ∙ getD-build 8 (f v) u nan q
 
+-- the terms of a row, as the program makes them
+pub row-terms : (row : List ℤ) (v : ℕ) (input transformed terms : List Float) (k : Float) → input ≡ rowIn row → transformed ≡ idct1d input → k ≡ cF v
+    → terms ≡ build 8 (λ (x : ℕ). mul binary64 k (getD transformed x nan)) → terms ≡ rowTerms row v
+row-terms row v input transformed terms k a b c e =
+    e
+    ∙ build-eq 8 (λ (x : ℕ). mul binary64 k (getD transformed x nan)) (λ (x : ℕ). mul binary64 (cF v) (pass cF (λ (u : ℕ). ofInt binary64 (getD row u (pos 0))) (λ (u : ℕ). cosF u x)))
+    (λ (x : ℕ) (h : x < 8).
+    ap (λ (y : Float). mul binary64 y (getD transformed x nan)) c
+    ∙ ap (λ (y : List Float). mul binary64 (cF v) (getD y x nan)) (b ∙ ap idct1d a ∙ idct1d-build (λ (u : ℕ). ofInt binary64 (getD row u (pos 0))))
+    ∙ ap (mul binary64 (cF v)) (getD-build 8 (λ (x : ℕ). pass cF (λ (u : ℕ). ofInt binary64 (getD row u (pos 0))) (λ (u : ℕ). cosF u x)) x nan h))
+
 module _ (l : List (List ℤ)) where
-  passes-are : (x y : ℕ) → x < 8 → y < 8 → cellF (columnPass (rowPass l)) x y ≡ computed l y x
-  passes-are x y p q =
-      cellF-block (λ (x y : ℕ). pass cF (λ (v : ℕ). cellF (rowPass l) v x) (λ (v : ℕ). cosF v y)) x y p q
-      ∙ pass-ext (λ (v : ℕ). cellF (rowPass l) v x) (λ (v : ℕ). pass cF (λ (u : ℕ). ofInt binary64 (cell l v u)) (λ (u : ℕ). cosF u x)) (λ (v : ℕ). cosF v y)
-      (λ (v : ℕ) (h : v < 8). cellF-block (λ (v x : ℕ). pass cF (λ (u : ℕ). ofInt binary64 (cell l v u)) (λ (u : ℕ). cosF u x)) v x h p)
+  abbrev rowTerm : ℕ → ℕ → ℕ → Float
+  rowTerm y x v = mul binary64 (mul binary64 (cF v) (rowAt l v x)) (cosF v y)
 
-  module _ (rows columns : List (List Float)) (r : rows ≡ rowPass l) (c : columns ≡ columnPass rows) where
-    columns-are : (x y : ℕ) → x < 8 → y < 8 → cellF columns x y ≡ computed l y x
-    columns-are x y p q = ap (λ (b : List (List Float)). cellF b x y) (c ∙ ap columnPass r) ∙ passes-are x y p q
+  pub no-rows : block (λ (y x : ℕ). ofBits binary64 0) ≡ block (sumOfRows l 0)
+  unfolding seriesF
+  no-rows = block-eq (λ (y x : ℕ). ofBits binary64 0) (sumOfRows l 0) (λ (y x : ℕ) (p : y < 8) (q : x < 8). zero-bits)
 
-    pub columns-bounded : Modest l → (x y : ℕ) → x < 8 → y < 8 → Roundable (cellF columns x y)
-    columns-bounded m x y p q = subst Roundable (sym (columns-are x y p q)) (bounded l m y x q p)
+  -- the terms of a row added at every y and x
+  pub row-more : (v : ℕ) (sums more : List (List Float)) (terms cosines : List Float) → sums ≡ block (sumOfRows l v) → terms ≡ rowTerms (getD l v []) v → cosines ≡ build 8 (cosF v)
+      → more ≡ block (λ (y x : ℕ). add binary64 (cellF sums y x) (mul binary64 (getD terms x nan) (getD cosines y nan))) → more ≡ block (sumOfRows l (v + 1))
+  unfolding seriesF
+  row-more v sums more terms cosines a b k e =
+      e
+      ∙ block-eq (λ (y x : ℕ). add binary64 (cellF sums y x) (mul binary64 (getD terms x nan) (getD cosines y nan))) (sumOfRows l (v + 1))
+      (λ (y x : ℕ) (p : y < 8) (q : x < 8).
+      ap (λ (z : Float). add binary64 z (mul binary64 (getD terms x nan) (getD cosines y nan))) (ap (λ (s : List (List Float)). cellF s y x) a ∙ cellF-block (sumOfRows l v) y x p q)
+      ∙ ap (λ (z : Float). add binary64 (sumOfRows l v y x) (mul binary64 z (getD cosines y nan))) (ap (λ (s : List Float). getD s x nan) b ∙ getD-build 8 (λ (x : ℕ). mul binary64 (cF v) (rowAt l v x)) x nan q)
+      ∙ ap (λ (z : Float). add binary64 (sumOfRows l v y x) (mul binary64 (mul binary64 (cF v) (rowAt l v x)) z)) (ap (λ (s : List Float). getD s y nan) k ∙ getD-build 8 (cosF v) y nan p)
+      ∙ ap (λ (n : ℕ). sumOfRows l n y x) (sym (add-one v)))
 
-    pub samples-are : (depth : ℕ) (rounding : HalfIntegerRounding) → block (λ (y x : ℕ). saturated depth (wholeOf rounding (cellF columns x y))) ≡ idct8x8 rounding depth l
+  -- a row of zeros
+  pub row-skip : (v : ℕ) (sums : List (List Float)) → T (every isZero (getD l v [])) → sums ≡ block (sumOfRows l v) → sums ≡ block (sumOfRows l (v + 1))
+  row-skip v sums t a =
+      a
+      ∙ block-eq (sumOfRows l v) (sumOfRows l (v + 1))
+      (λ (y x : ℕ) (p : y < 8) (q : x < 8).
+      let c = c-const v in
+      let k = cos-const v y in
+      let z : Nought (rowAt l v x) = (false, pos 0, zero-row x ∙ zero-bits) in
+      sym (series-none (rowTerm y x) (λ (i : ℕ). mul-fits binary64 (mul binary64 (cF i) (rowAt l i x)) (cosF i y)) v
+      (nought-left (mul binary64 (cF v) (rowAt l v x)) (cosF v y) (k .w) (nought-right (cF v) (rowAt l v x) (c .w) (c .is) z) (k .is)))
+      ∙ ap (λ (n : ℕ). sumOfRows l n y x) (sym (add-one v)))
+    where
+      zero-row : (x : ℕ) → rowAt l v x ≡ ofBits binary64 0
+      zero-row x =
+          zero-pass (λ (u : ℕ). ofInt binary64 (cell l v u)) x
+          (λ (u : ℕ) (h : u < 8). int-nought (cell l v u) (zero-of-abs (cell l v u) (eqb→eq (natAbs (cell l v u)) 0 (every-at isZero (pos 0) (getD l v []) tt t u))))
+
+  module _ (sums : List (List Float)) (s : sums ≡ block (sumOfRows l 8)) where
+    halves-are : (y x : ℕ) → y < 8 → x < 8 → mul binary64 half (cellF sums y x) ≡ computed l y x
+    halves-are y x p q = ap (mul binary64 half) (ap (λ (b : List (List Float)). cellF b y x) s ∙ cellF-block (sumOfRows l 8) y x p q)
+
+    pub sums-bounded : Modest l → (y x : ℕ) → y < 8 → x < 8 → Roundable (mul binary64 half (cellF sums y x))
+    sums-bounded m y x p q = subst Roundable (sym (halves-are y x p q)) (bounded l m y x p q)
+
+    pub samples-are : (depth : ℕ) (rounding : HalfIntegerRounding) → block (λ (y x : ℕ). saturated depth (wholeOf rounding (mul binary64 half (cellF sums y x)))) ≡ idct8x8 rounding depth l
     unfolding whole
     samples-are depth rounding =
-        block-eq (λ (y x : ℕ). saturated depth (wholeOf rounding (cellF columns x y))) (λ (y x : ℕ). saturated depth (wholeOf rounding (computed l y x)))
-        (λ (y x : ℕ) (p : y < 8) (q : x < 8). ap (λ (z : Float). saturated depth (wholeOf rounding z)) (columns-are x y q p))
+        block-eq (λ (y x : ℕ). saturated depth (wholeOf rounding (mul binary64 half (cellF sums y x)))) (λ (y x : ℕ). saturated depth (wholeOf rounding (computed l y x)))
+        (λ (y x : ℕ) (p : y < 8) (q : x < 8). ap (λ (z : Float). saturated depth (wholeOf rounding z)) (halves-are y x p q))

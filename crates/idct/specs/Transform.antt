@@ -8,7 +8,7 @@ use lib.IntN.{ℤ, pos, natAbs}
 use lib.ListN.{getD, set}
 use Rattle.numbers.proofs.Fill.{rows}
 use Rattle.numbers.specs.Grid.{build, block, cell}
-use Rattle.f64_error.specs.Series.{half, pass, blockF}
+use Rattle.f64_error.specs.Series.{half, pass, blockF, seriesF}
 use Rattle.idct.specs.Cosines.{cF, cosF}
 use Rattle.idct.specs.Limits.{saturated}
 use Rattle.idct.specs.Rounding.{wholeOf}
@@ -21,12 +21,9 @@ cellF b v u = getD (getD b v []) u nan
 abbrev pub idct1d : List Float → List Float
 idct1d input = build 8 (λ (x : ℕ). pass cF (λ (u : ℕ). getD input u nan) (λ (u : ℕ). cosF u x))
 
--- a row of coefficients, and column x of what the rows gave
+-- a row of coefficients
 abbrev pub rowIn : List ℤ → List Float
 rowIn row = build 8 (λ (u : ℕ). ofInt binary64 (getD row u (pos 0)))
-
-abbrev pub columnIn : List (List Float) → ℕ → List Float
-columnIn rows x = build 8 (λ (v : ℕ). cellF rows v x)
 
 abbrev pub isZero : ℤ → Bool
 isZero z = eqb (natAbs z) 0
@@ -39,12 +36,16 @@ withoutDc l = set l 0 (set (getD l 0 []) 0 (pos 0))
 abbrev pub dcPass : Float → Float
 dcPass v = mul binary64 half (add binary64 (fin false 0 (pos 0)) (mul binary64 (mul binary64 (cF 0) v) (cosF 0 0)))
 
--- the transform of each row, and then of each column: list x of the second is column x
-abbrev pub rowPass : List (List ℤ) → List (List Float)
-rowPass l = block (λ (v x : ℕ). pass cF (λ (u : ℕ). ofInt binary64 (cell l v u)) (λ (u : ℕ). cosF u x))
+-- row v transformed, at x; and a row with its factor C(v)
+abbrev pub rowAt : List (List ℤ) → ℕ → ℕ → Float
+rowAt l v x = pass cF (λ (u : ℕ). ofInt binary64 (cell l v u)) (λ (u : ℕ). cosF u x)
 
-abbrev pub columnPass : List (List Float) → List (List Float)
-columnPass rows = block (λ (x y : ℕ). pass cF (λ (v : ℕ). cellF rows v x) (λ (v : ℕ). cosF v y))
+abbrev pub rowTerms : List ℤ → ℕ → List Float
+rowTerms row v = build 8 (λ (x : ℕ). mul binary64 (cF v) (pass cF (λ (u : ℕ). ofInt binary64 (getD row u (pos 0))) (λ (u : ℕ). cosF u x)))
+
+-- at row y and column x the sum of the terms of the first n rows: half of it, for 8 rows, is `computed`
+abbrev pub sumOfRows : List (List ℤ) → ℕ → ℕ → ℕ → Float
+sumOfRows l n y x = seriesF (λ (v : ℕ). mul binary64 (mul binary64 (cF v) (rowAt l v x)) (cosF v y)) n
 
 -- the f64 at row y and column x
 abbrev pub computed : List (List ℤ) → ℕ → ℕ → Float

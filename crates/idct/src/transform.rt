@@ -9,7 +9,7 @@ ghost use Rattle.f64_error.specs.Series.{half};
 ghost use Rattle.idct.specs.Cosines.{cosF};
 ghost use Rattle.idct.specs.Rounding.{Roundable, wholeOf};
 ghost use Rattle.idct.specs.Limits.{saturated};
-ghost use Rattle.idct.specs.Transform.{cellF, idct1d, rowIn, columnIn, rowPass, columnPass, idct8x8, isZero};
+ghost use Rattle.idct.specs.Transform.{cellF, idct1d, rowIn, rowTerms, sumOfRows, idct8x8, isZero};
 ghost use Rattle.idct.specs.Exact.{Modest};
 use crate::cosines::c;
 use crate::cosines::cos_table;
@@ -82,77 +82,91 @@ pub(crate) fn all_zero(row: [i32; 8]) -> bool
     true
 }
 
-// The transform of a row. Zeros give zeros.
-fn idct_row(row: [i32; 8], cos: &[[f64; 8]; 8]) -> [f64; 8]
-    requires { ⌜ now cos ≡ block cosF ⌝ }
-    ensures { λ r. ⌜ r ≡ idct1d (rowIn row) ⌝ }
+// Each value times k.
+fn scaled(row: [f64; 8], k: f64) -> [f64; 8]
+    ensures { λ r. ⌜ r ≡ build 8 (λ (x : ℕ). mul binary64 k (getD row x nan)) ⌝ }
 {
-    if all_zero(row) {
-        return [0.0f64; 8];
+    let mut output = [0.0f64; 8];
+    for x in 0..8 {
+        output[x] = k * row[x];
     }
-    let input = row_in(row);
-    idct_1d(input, cos)
+    output
 }
 
-// The transform of each row.
-fn row_pass(coefficients: [[i32; 8]; 8], cos: &[[f64; 8]; 8]) -> [[f64; 8]; 8]
+// Row v transformed, each value times C(v).
+fn row_terms(row: [i32; 8], v: usize, cos: &[[f64; 8]; 8]) -> [f64; 8]
     requires { ⌜ now cos ≡ block cosF ⌝ }
-    ensures { λ r. ⌜ r ≡ rowPass coefficients ⌝ }
+    ensures { λ r. ⌜ r ≡ rowTerms row v ⌝ }
 {
-    let mut rows = [[0.0f64; 8]; 8];
+    let input = row_in(row);
+    let transformed = idct_1d(input, cos);
+    scaled(transformed, c(v))
+}
+
+// Terms, each times k, added to the sums of a row.
+fn add_row(sums: [f64; 8], terms: [f64; 8], k: f64) -> [f64; 8]
+    ensures { λ r. ⌜ r ≡ build 8 (λ (x : ℕ). add binary64 (getD sums x nan) (mul binary64 (getD terms x nan) k)) ⌝ }
+{
+    let mut output = [0.0f64; 8];
+    for x in 0..8 {
+        output[x] = sums[x] + terms[x] * k;
+    }
+    output
+}
+
+// The same for each row y, with the cosine there.
+fn add_rows(sums: [[f64; 8]; 8], terms: [f64; 8], cosines: [f64; 8]) -> [[f64; 8]; 8]
+    ensures { λ r. ⌜ r ≡ block (λ (y x : ℕ). add binary64 (cellF sums y x) (mul binary64 (getD terms x nan) (getD cosines y nan))) ⌝ }
+{
+    let mut output = [[0.0f64; 8]; 8];
+    for y in 0..8 {
+        let row = sums[y];
+        output[y] = add_row(row, terms, cosines[y]);
+    }
+    output
+}
+
+// The sums of the second pass, before they are halved: the terms of each row of coefficients are added
+// from v = 0 up at every y and x in one go. A row of zeros changes no sum.
+fn column_sums(coefficients: [[i32; 8]; 8], cos: &[[f64; 8]; 8]) -> [[f64; 8]; 8]
+    requires { ⌜ now cos ≡ block cosF ⌝ }
+    ensures { λ r. ⌜ r ≡ block (sumOfRows coefficients 8) ⌝ }
+{
+    let mut sums = [[0.0f64; 8]; 8];
     for v in 0..8 {
         let row = coefficients[v];
-        rows[v] = idct_row(row, cos);
+        if !all_zero(row) {
+            let terms = row_terms(row, v, cos);
+            let cosines = cos[v];
+            let more = add_rows(sums, terms, cosines);
+            sums = more;
+        }
     }
-    rows
+    sums
 }
 
-// Column x of what the rows gave.
-fn column_in(rows: [[f64; 8]; 8], x: usize) -> [f64; 8]
-    requires { ⌜ x < 8 ⌝ }
-    ensures { λ r. ⌜ r ≡ columnIn rows x ⌝ }
-{
-    let mut column = [0.0f64; 8];
-    for v in 0..8 {
-        column[v] = rows[v][x];
-    }
-    column
-}
-
-// The transform of each column: row x of the result is column x.
-fn column_pass(rows: [[f64; 8]; 8], cos: &[[f64; 8]; 8]) -> [[f64; 8]; 8]
-    requires { ⌜ now cos ≡ block cosF ⌝ }
-    ensures { λ r. ⌜ r ≡ columnPass rows ⌝ }
-{
-    let mut columns = [[0.0f64; 8]; 8];
-    for x in 0..8 {
-        let input = column_in(rows, x);
-        columns[x] = idct_1d(input, cos);
-    }
-    columns
-}
-
-// Each value rounded and saturated, and the columns turned back into rows.
+// Each sum halved, rounded and saturated.
 fn to_samples(
-    columns: [[f64; 8]; 8],
+    sums: [[f64; 8]; 8],
     bits_per_pixel: u32,
     rounding: HalfIntegerRounding,
 ) -> [[i32; 8]; 8]
-    requires { ⌜ ((x y : ℕ) → x < 8 → y < 8 → Roundable (cellF columns x y)) ⌝ }
-    ensures { λ r. ⌜ r ≡ block (λ (y x : ℕ). saturated «bits_per_pixel» (wholeOf rounding (cellF columns x y))) ⌝ }
+    requires { ⌜ ((y x : ℕ) → y < 8 → x < 8 → Roundable (mul binary64 half (cellF sums y x))) ⌝ }
+    ensures { λ r. ⌜ r ≡ block (λ (y x : ℕ). saturated «bits_per_pixel» (wholeOf rounding (mul binary64 half (cellF sums y x)))) ⌝ }
 {
     let mut out = [[0i32; 8]; 8];
     for y in 0..8 {
         for x in 0..8 {
-            let n = round_to_integer(columns[x][y], rounding);
+            let value = 0.5 * sums[y][x];
+            let n = round_to_integer(value, rounding);
             out[y][x] = saturate_idct_sample(n, bits_per_pixel);
         }
     }
     out
 }
 
-// The samples of values within 2^15. The cosines are made once, and lent to every row and column.
-// A DC alone needs none.
+// The samples of values within 2^15. The cosines are made once, and lent to both passes. A
+// DC alone needs none.
 pub(crate) fn samples(
     coefficients: [[i32; 8]; 8],
     bits_per_pixel: u32,
@@ -166,7 +180,6 @@ pub(crate) fn samples(
     }
     let table = cos_table();
     let cos = &table;
-    let rows = row_pass(coefficients, cos);
-    let columns = column_pass(rows, cos);
-    to_samples(columns, bits_per_pixel, rounding)
+    let sums = column_sums(coefficients, cos);
+    to_samples(sums, bits_per_pixel, rounding)
 }

@@ -1,7 +1,7 @@
 -- `idct::transform::samples` meets its contract: a DC alone, or the two passes, which are the definition, and bounded. Assumes nothing.
 use mathlib.Core.Path.{sym, _∙_}
 use borrow.Author.Needs.{needs}
-use Rattle.idct.proofs.Blocks.{columns-bounded, samples-are}
+use Rattle.idct.proofs.Blocks.{samples-are, sums-bounded}
 use Rattle.idct.proofs.transform.samples.Statement.{statement}
 use Rattle.idct.proofs.transform.samples.Tie as tie
 
@@ -17,24 +17,19 @@ returns c = search needs
 cos-table-requires : tie.Need-cos-table-requires
 cos-table-requires c κs = search needs
 
-row-pass-requires : tie.Need-row-pass-requires
-row-pass-requires c κs = search needs
-
-column-pass-requires : tie.Need-column-pass-requires
-column-pass-requires c κs = search needs
+column-sums-requires : tie.Need-column-sums-requires
+column-sums-requires c κs = search needs
 
 to-samples-requires : tie.Need-to-samples-requires
 to-samples-requires c κs =
-    let r = c .before .row-pass in
-    let e = c .before .before .before .before .before .before in
-    columns-bounded (e .args .coefficients) (r .result) (c .column-pass .result) (r .ensures) (c .column-pass .ensures) (e .pre)
+    let e = c .before .before .before .before .before in
+    sums-bounded (e .args .coefficients) (c .column-sums .result) (c .column-sums .ensures) (e .pre)
 
 returns-2 : tie.Need-returns-2
 returns-2 c =
-    let r = c .before .before .row-pass in
-    let k = c .before .column-pass in
-    let a = c .before .before .before .before .before .before .before .args in
-    c .to-samples .ensures ∙ samples-are (a .coefficients) (r .result) (k .result) (r .ensures) (k .ensures) (a .bits-per-pixel) (a .rounding)
+    let s = c .before .column-sums in
+    let a = c .before .before .before .before .before .before .args in
+    c .to-samples .ensures ∙ samples-are (a .coefficients) (s .result) (s .ensures) (a .bits-per-pixel) (a .rounding)
 
 pub samples-spec : {M : Type 1} → statement M
 samples-spec =
@@ -44,7 +39,6 @@ samples-spec =
     dc-samples-requires
     returns
     cos-table-requires
-    row-pass-requires
-    column-pass-requires
+    column-sums-requires
     to-samples-requires
     returns-2)
