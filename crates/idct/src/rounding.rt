@@ -18,8 +18,8 @@ impl HalfIntegerRounding {
 // The distance from one half below which a value counts as half-way.
 const HALF_INTEGER_TOLERANCE: f64 = 1e-8;
 
-// 3 * 2^51. Added to an f64 and taken off again it leaves a whole number at most a half away, since
-// the f64s from 2^52 on are the whole numbers.
+// 3 * 2^51. Added to an f64 below 2^51 in size and taken off again, it leaves a whole number at most a
+// half away: from 2^52 on an f64 is a whole number.
 const SHIFT: f64 = 6_755_399_441_055_744.0;
 
 // The whole number at or below x.

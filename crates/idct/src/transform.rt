@@ -42,7 +42,8 @@ fn add_term(sums: [f64; 8], f: f64, cosines: [f64; 8]) -> [f64; 8]
 }
 
 // The 1-D transform: at x, half the sum over u of C(u) F(u) cos((2x + 1) u pi / 16). The terms are added
-// from u = 0 up, at every x in one go, since C(u) F(u) serves every x. One of zeros changes no sum.
+// from u = 0 up, at every x in one go, since C(u) F(u) serves every x. One that is zero
+// changes no sum, and is left out.
 fn idct_1d(input: [f64; 8], cos: &[[f64; 8]; 8]) -> [f64; 8]
     requires { ⌜ now cos ≡ block cosF ⌝ }
     ensures { λ r. ⌜ r ≡ idct1d input ⌝ }
