@@ -1,16 +1,26 @@
 #!/bin/sh
 # Shows that a comparison can fail: one place at a time of the original, or of the driver's picture layer, is altered in a copy, and the
-# comparison must report each:
-#     oracle/altered.sh FOLDER_OF_THE_RUST_SOURCES block|macroblock|picture [SCALE]
+# comparison must report each; of `record`, what is recorded must be another than the stored output of `replay`:
+#     oracle/altered.sh FOLDER_OF_THE_RUST_SOURCES block|macroblock|picture|record [SCALE]
 set -eu
-name=${2:?block, macroblock or picture}
+name=${2:?block, macroblock, picture or record}
 . "$(dirname "$0")/common/build.sh"
 begin "$(dirname "$0")/$name" "${1:-}"
-offered "$name"
+if [ "$name" != record ]; then offered "$name"; fi
 scale=${3:-}
 originals=$sources
 drivers=$here
 missed=0
+
+compared() {
+    if [ "$name" != record ]; then
+        "$work/$name" ${scale:+"$scale"}
+        return
+    fi
+    mkdir -p "$work/recorded"
+    "$work/record" "$work/recorded" || return 1
+    cmp -s "$work/recorded/stdout" "$top/crates/replay/stdout" || { echo 'DIFFERS: what is recorded'; return 1; }
+}
 
 # The comparisons that see it, the file, what sed does to it, and what that is.
 alter() {
@@ -21,8 +31,11 @@ alter() {
     mkdir -p "$work/altered"
     cp -r "$originals" "$sources"
     cp -r "$drivers" "$here"
+    cp -r "$drivers/../picture" "$work/altered/picture"
     file=$sources/$2
-    if [ -e "$here/$2" ]; then file=$here/$2; fi
+    for folder in "$work/altered/picture" "$here"; do
+        if [ -e "$folder/$2" ]; then file=$folder/$2; fi
+    done
     sed "$3" "$file" >"$work/file"
     if cmp -s "$work/file" "$file"; then
         echo "nothing to alter: $4" >&2
@@ -30,7 +43,7 @@ alter() {
     fi
     cp "$work/file" "$file"
     driven "$name"
-    if "$work/$name" ${scale:+"$scale"} >"$work/told" 2>&1; then
+    if compared >"$work/told" 2>&1; then
         echo "NOT REPORTED  $4"
         missed=1
     elif grep -q '^DIFFERS' "$work/told"; then
@@ -42,7 +55,7 @@ alter() {
     fi
 }
 
-all='block macroblock picture'
+all='block macroblock picture record'
 alter "$all" predictor.rs 's/if d_ab < d_bc/if d_ab <= d_bc/' 'C on equal gradients'
 alter "$all" predictor.rs 's/(n + d \/ 2) \/ d/n \/ d/' 'division cut instead of rounded'
 alter "$all" predictor.rs 's/value.clamp(-2048, 2047)/value.clamp(-2047, 2047)/' 'levels limited to -2047'
@@ -59,21 +72,21 @@ alter "$all" block.rs 's/^ *predictors.qp_a,$/ctx.quantiser_scale,/' "A's quanti
 alter "$all" block.rs '0,/if ctx.alternate_vertical_scan {/s//if false {/' 'alternate_vertical_scan not looked at'
 alter "$all" block.rs 's/let hi = (1i32 << ctx.bits_per_pixel) - 1;/let hi = (1i32 << ctx.bits_per_pixel) - 2;/' 'samples limited one lower'
 alter "$all" block.rs 's/        decode_ac_events(br, TcoefTable::Intra)?/        decode_ac_events(br, TcoefTable::Inter)?/' 'the other table'
-alter macroblock block.rs 's/cbpc & 0b10 != 0/cbpc \& 0b01 != 0/' "Cb coded by Cr's bit"
-alter macroblock block.rs 's/(0, 8), (8, 0)/(8, 0), (0, 8)/' 'blocks 1 and 2 exchanged'
-alter macroblock block.rs '0,/if header.not_coded {/s//if false {/' 'a macroblock not coded taken as coded'
-alter macroblock block.rs 's/Some(DerivedMbType::Intra) | Some(DerivedMbType::IntraQ) => {}/Some(DerivedMbType::Intra) => {}/' 'intra with a quantiser refused'
-alter macroblock block.rs 's/cb: blocks\[4\]/cb: blocks[5]/' 'Cr in the place of Cb'
-alter picture layer.rs 's/let there = beside(here, left, above)?;/let there = beside(place(if i == 1 { 0 } else { i }, column, row), left, above)?;/' 'the neighbours of block 1 taken from outside'
-alter picture layer.rs 's/let around = predictors(of(1, 0), of(1, 1), of(0, 1)/let around = predictors(of(0, 1), of(1, 1), of(1, 0)/' 'A and C exchanged'
-alter picture layer.rs 's/let around = predictors(of(1, 0), of(1, 1)/let around = predictors(of(1, 0), of(1, 0)/' 'A in the place of B'
-alter picture layer.rs 's/1 << (depth + 2)/1 << (depth + 3)/' 'a missing DC twice as great'
-alter picture layer.rs 's/k.map_or(quantiser, |k| k.quantiser as u32)/quantiser/' "the neighbours' quantisers unused"
-alter picture layer.rs 's/column: std::array::from_fn(|v| qf\[v + 1\]\[0\])/column: std::array::from_fn(|v| qf[v][0])/' 'the column kept from row 0 on'
-alter picture layer.rs 's/(x >= left \&\& y >= above)/(x >= left \&\& y > above)/' 'the first row of blocks taken as outside'
-alter picture layer.rs 's/stored < 192 \* width as usize/stored < 96 * width as usize/' 'half a store enough'
+alter 'macroblock record' block.rs 's/cbpc & 0b10 != 0/cbpc \& 0b01 != 0/' "Cb coded by Cr's bit"
+alter 'macroblock record' block.rs 's/(0, 8), (8, 0)/(8, 0), (0, 8)/' 'blocks 1 and 2 exchanged'
+alter 'macroblock record' block.rs '0,/if header.not_coded {/s//if false {/' 'a macroblock not coded taken as coded'
+alter 'macroblock record' block.rs 's/Some(DerivedMbType::Intra) | Some(DerivedMbType::IntraQ) => {}/Some(DerivedMbType::Intra) => {}/' 'intra with a quantiser refused'
+alter 'macroblock record' block.rs 's/cb: blocks\[4\]/cb: blocks[5]/' 'Cr in the place of Cb'
+alter 'picture record' layer.rs 's/let there = beside(here, left, above)?;/let there = beside(place(if i == 1 { 0 } else { i }, column, row), left, above)?;/' 'the neighbours of block 1 taken from outside'
+alter 'picture record' layer.rs 's/let around = predictors(of(1, 0), of(1, 1), of(0, 1)/let around = predictors(of(0, 1), of(1, 1), of(1, 0)/' 'A and C exchanged'
+alter 'picture record' layer.rs 's/let around = predictors(of(1, 0), of(1, 1)/let around = predictors(of(1, 0), of(1, 0)/' 'A in the place of B'
+alter 'picture record' layer.rs 's/1 << (depth + 2)/1 << (depth + 3)/' 'a missing DC twice as great'
+alter 'picture record' layer.rs 's/k.map_or(quantiser, |k| k.quantiser as u32)/quantiser/' "the neighbours' quantisers unused"
+alter 'picture record' layer.rs 's/column: std::array::from_fn(|v| qf\[v + 1\]\[0\])/column: std::array::from_fn(|v| qf[v][0])/' 'the column kept from row 0 on'
+alter 'picture record' layer.rs 's/(x >= left \&\& y >= above)/(x >= left \&\& y > above)/' 'the first row of blocks taken as outside'
+alter 'picture record' layer.rs 's/stored < 192 \* width as usize/stored < 96 * width as usize/' 'half a store enough'
 alter picture layer.rs 's/return 13;/return 15;/' 'a number out of range in the store told as 15'
 alter picture layer.rs 's/let row = c.is_none_or.*/let row = true;/' 'AC values of C out of range let through'
-alter picture layer.rs 's/return 15;/return 11;/' 'a complete picture told as 11'
-alter picture layer.rs 's/a.picture.numbers\[3\] += 1;//' 'the same macroblock due again'
+alter 'picture record' layer.rs 's/return 15;/return 11;/' 'a complete picture told as 11'
+alter 'picture record' layer.rs 's/a.picture.numbers\[3\] += 1;//' 'the same macroblock due again'
 exit $missed

@@ -1,14 +1,13 @@
 // `block::decode_intra_block_full` against the original, with `pattern_code` and the default matrix. Where the state is fine both must
 // give the same number and figure, or the same position, DC, samples and levels; elsewhere Rattle must refuse by 11, 12 or 13. On a
 // refusal everything lent must stay as it was (the original's reader moves: that is not asked).
-use crate::bitreader::BitReader;
 use crate::block;
-use crate::common::bits::{Bits, any_bytes, bytes_of, flip, push};
+use crate::common::bits::{any_bytes, bytes_of, flip, push};
+use crate::common::block_call::{Answer, Call, lent};
 use crate::common::counts;
 use crate::common::dice::Dice;
-use crate::common::numbers::{self, MOST_BYTES, data_fine};
-use crate::common::sentence;
-use crate::common::setting::{self, Block, Matrix, Setting, Seven};
+use crate::common::numbers::MOST_BYTES;
+use crate::common::setting::{Block, Matrix, Setting, Seven};
 use crate::common::tally::Tally;
 use crate::common::test::{self, Test};
 
@@ -17,42 +16,6 @@ unsafe extern "C" {
     fn rt_pattern_code(cbpy: u8, cbpc: u8, out: &mut [bool; 6]);
     fn rt_default_matrix(out: &mut Matrix);
     fn rt_block(data: *const u8, len: usize, at: usize, i: usize, reading: &[bool; 3], quantiser_scale: u32, bits_per_pixel: u32, flags: &[bool; 5], dcs: &[i32; 3], qps: &[u32; 2], has: &[bool; 2], column: &Seven, row: &Seven, matrix: &Matrix, figure: &mut u32, position: &mut usize, dc: &mut i32, spatial: &mut Block, qf: &mut Block) -> u32;
-}
-
-#[derive(Clone, Copy, Debug)]
-struct Call {
-    i: usize,
-    // coded, use_intra_dc_vlc, reversible_vlc
-    reading: [bool; 3],
-    setting: Setting,
-}
-
-// A number (0: accepted), its figure, the position after the call, and the rest.
-#[derive(Clone, Copy, PartialEq, Debug)]
-struct Answer {
-    number: u32,
-    figure: u32,
-    position: usize,
-    dc: i32,
-    samples: Block,
-    levels: Block,
-}
-
-// Before the call: numbers that no block gives.
-fn lent(at: usize) -> Answer {
-    let mut a = Answer {
-        number: 0,
-        figure: 0,
-        position: at,
-        dc: 999_999,
-        samples: [[0; 8]; 8],
-        levels: [[0; 8]; 8],
-    };
-    for k in 0..64 {
-        a.samples[k / 8][k % 8] = 1_000_000 + k as i32;
-        a.levels[k / 8][k % 8] = -1_000_000 - k as i32;
-    }
-    a
 }
 
 impl test::Call for Call {
@@ -71,30 +34,8 @@ impl test::Call for Call {
         a
     }
 
-    // 11, 12, 13, or what the original gives.
     fn due(&self, data: &[u8], at: usize) -> Answer {
-        let mut a = lent(at);
-        a.number = if self.i > 5 || !data_fine(data, at) {
-            11
-        } else {
-            self.setting.state()
-        };
-        if a.number != 0 {
-            return a;
-        }
-        let mut br = BitReader::new(data);
-        br.skip_bits(at).unwrap();
-        let s = &self.setting;
-        match setting::read(&mut br, self.i, self.reading, s.context(), s.predictors(), &s.matrix) {
-            Ok(one) => {
-                a.position = br.bit_position();
-                a.dc = one.dc;
-                a.samples = one.spatial;
-                a.levels = one.qf;
-            }
-            Err(e) => (a.number, a.figure) = numbers::of_block(e),
-        }
-        a
+        Call::due(self, data, at)
     }
 
     fn number(answer: &Answer) -> u32 {
@@ -106,22 +47,6 @@ impl test::Call for Call {
         let first = (self.i < 6 && self.i != 0).then_some(Call { i: 0, ..*self });
         first.into_iter().chain(settings).collect()
     }
-}
-
-fn call(dice: &mut Dice) -> Call {
-    Call {
-        i: dice.below(6),
-        reading: [dice.below(8) != 0, dice.below(3) != 0, dice.flag()],
-        setting: Setting::drawn(dice),
-    }
-}
-
-// A DC part and 1 to `longest` events, as the call reads them (none where it is not coded); if they are to fit, every landing is below 64.
-fn sentence(dice: &mut Dice, c: &Call, fits: bool, longest: usize) -> Bits {
-    let mut bits = Bits::new();
-    let [coded, dc_coded, reversible] = c.reading;
-    sentence::block(dice, &mut bits, c.i, coded, dc_coded, reversible, fits, longest);
-    bits
 }
 
 // ---- what was among those accepted
@@ -172,7 +97,7 @@ impl Blocks {
             !c.reading[1],
             b.levels.iter().flatten().any(|&z| z == -2048 || z == 2047),
             b.samples.iter().flatten().all(|&z| z > 0 && z < (1 << s.bits_per_pixel) - 1),
-            test::Call::due(&other, data, at).samples != b.samples,
+            other.due(data, at).samples != b.samples,
         ];
         for (n, x) in self.seen.iter_mut().zip(what) {
             *n += u64::from(x);
@@ -189,8 +114,8 @@ impl Blocks {
 // Whole, followed by the end and by other bits, cut, one to three bits flipped.
 fn sentences(test: &mut Blocks, dice: &mut Dice, n: usize) {
     for k in 0..n {
-        let c = call(dice);
-        let one = sentence(dice, &c, k % 8 != 0, 20);
+        let c = Call::drawn(dice);
+        let one = c.sentence(dice, k % 8 != 0, 20);
         test.bits(dice, &c, &one);
         let mut more = one.clone();
         push(&mut more, dice.next(), dice.below(65));
@@ -202,23 +127,23 @@ fn sentences(test: &mut Blocks, dice: &mut Dice, n: usize) {
     }
     test.says("sentences, and with other bits after");
     for _ in 0..n {
-        let mut c = call(dice);
+        let mut c = Call::drawn(dice);
         c.setting = Setting::grey(dice);
         c.reading[0] = dice.flag();
-        let one = sentence(dice, &c, true, 2);
+        let one = c.sentence(dice, true, 2);
         test.bits(dice, &c, &one);
     }
     test.says("short sentences, grey neighbours");
     for _ in 0..n {
-        let c = call(dice);
-        let one = sentence(dice, &c, true, 20);
+        let c = Call::drawn(dice);
+        let one = c.sentence(dice, true, 20);
         let kept = dice.below(one.len() + 1);
         test.bits(dice, &c, &one[..kept]);
     }
     test.says("cut sentences");
     for _ in 0..n {
-        let c = call(dice);
-        let mut bad = sentence(dice, &c, true, 20);
+        let c = Call::drawn(dice);
+        let mut bad = c.sentence(dice, true, 20);
         push(&mut bad, dice.next(), dice.below(65));
         flip(dice, &mut bad);
         test.bits(dice, &c, &bad);
@@ -226,7 +151,7 @@ fn sentences(test: &mut Blocks, dice: &mut Dice, n: usize) {
     test.says("one to three bits flipped");
     for k in 0..n {
         let data = any_bytes(dice, if k % 8 == 0 { 100 } else { 12 });
-        test.bytes(&call(dice), &data, dice.below(8 * data.len() + 1));
+        test.bytes(&Call::drawn(dice), &data, dice.below(8 * data.len() + 1));
     }
     test.says("random bytes");
 }
@@ -257,8 +182,8 @@ fn constants() {
 fn states(test: &mut Blocks, dice: &mut Dice, n: usize) {
     let mut data = Vec::new();
     for _ in 0..n {
-        let mut c = call(dice);
-        let one = sentence(dice, &c, true, 20);
+        let mut c = Call::drawn(dice);
+        let one = c.sentence(dice, true, 20);
         let mut at = bytes_of(&mut data, &one, dice.below(20), dice.next());
         for _ in 0..1 + dice.below(2) {
             match dice.below(9) {
@@ -271,7 +196,9 @@ fn states(test: &mut Blocks, dice: &mut Dice, n: usize) {
     }
     for n in [MOST_BYTES, MOST_BYTES + 1] {
         let data = vec![0x6d; n];
-        (8 * n - 40..=8 * n).chain([0, 3]).for_each(|at| test.bytes(&call(dice), &data, at));
+        (8 * n - 40..=8 * n)
+            .chain([0, 3])
+            .for_each(|at| test.bytes(&Call::drawn(dice), &data, at));
     }
     test.says("a bad state, or the longest data");
 }

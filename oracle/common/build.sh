@@ -1,5 +1,5 @@
-# What the run.sh of each comparison sources. Needs rt and rustc, on x86-64. Nothing is written into the repository: all is built in a
-# temporary folder, or in ORACLE_WORK, which is kept, so that rt proves no crate there a second time.
+# What the run.sh of each comparison, and of record, sources. Needs rustc and, for a comparison, rt, on x86-64. Nothing is built in the
+# repository: all is in a temporary folder, or in ORACLE_WORK, which is kept, so that rt proves no crate there a second time.
 
 # The folder of a comparison, and that of the Rust sources.
 begin() {
@@ -38,9 +38,9 @@ offered() {
     library=$work/target/staticlib/lib$crate.a
 }
 
-# The driver (main.rs, or the file named) over that library and the original, as $work/NAME. The original's modules are as they are, but
-# for the private function, which is made visible; what they lack is common/missing.rs. `more` names modules that stand in $work;
-# `checks`, where it is set, stands for the flags that make the original stop at an overflow or an assertion.
+# The driver (main.rs, or the file named) over that library, if there is one, and the original, as $work/NAME. The original's modules
+# are as they are, but for the private function, which is made visible; what they lack is common/missing.rs. `more` names modules that
+# stand in $work; `checks`, where it is set, stands for the flags that make the original stop at an overflow or an assertion.
 driven() {
     sed 's/^fn decode_intra_block_tail(/pub &/' "$sources/block.rs" >"$work/block.rs"
     {
@@ -53,5 +53,5 @@ driven() {
         printf '#[path = "%s/%s"]\nmod driver;\nfn main() {\n    driver::main()\n}\n' "$here" "${2:-main.rs}"
     } >"$work/main.rs"
     # shellcheck disable=SC2086
-    quietly rustc -O ${checks--C overflow-checks=on -C debug-assertions=on} --edition 2024 -A warnings -o "$work/$1" "$work/main.rs" -C link-arg="$library"
+    quietly rustc -O ${checks--C overflow-checks=on -C debug-assertions=on} --edition 2024 -A warnings -o "$work/$1" "$work/main.rs" ${library:+-C link-arg="$library"}
 }

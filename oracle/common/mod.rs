@@ -1,11 +1,14 @@
 // What the drivers share.
 pub mod bits;
+pub mod block_call;
 pub mod counts;
 pub mod dice;
 pub mod header;
+pub mod macroblock_call;
 pub mod numbers;
 pub mod sentence;
 pub mod setting;
 pub mod smallest;
+pub mod symbol_call;
 pub mod tally;
 pub mod test;

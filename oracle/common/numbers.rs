@@ -1,4 +1,5 @@
 // Document 01's numbers of the original's errors, and its ranges.
+use super::tally::first_bad;
 use crate::block::BlockAssemblyError;
 use crate::scan::InverseScanError;
 use crate::texture::TextureParseError;
@@ -54,4 +55,10 @@ pub fn depth_fine(d: u32) -> bool {
 // Data that is too long, or a start past its end, is 11.
 pub fn data_fine(data: &[u8], at: usize) -> bool {
     data.len() <= MOST_BYTES && at <= 8 * data.len()
+}
+
+// Of the transform alone: 12, 13, or 0.
+pub fn transform_state(values: &[[i32; 8]; 8], depth: u32) -> u32 {
+    let fine = |v: &i32| (-8 << depth..8 << depth).contains(v);
+    first_bad(depth_fine(depth), depth_fine(depth) && values.iter().flatten().all(fine))
 }

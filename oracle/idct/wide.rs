@@ -1,9 +1,9 @@
 // The transform against the original on pseudo-random blocks of six kinds under both rules; outside the domain Rattle must refuse by 12
 // or 13 and leave the lent block as it was. Then both are timed.
 use crate::common::dice::Dice;
-use crate::common::numbers::depth_fine;
+use crate::common::numbers::transform_state;
 use crate::common::setting::{Block, rule};
-use crate::common::tally::{Tally, first_bad};
+use crate::common::tally::Tally;
 use crate::idct::{HalfIntegerRounding, idct_8x8_rounded};
 use std::hint::black_box;
 use std::time::Instant;
@@ -38,11 +38,6 @@ fn block(dice: &mut Dice, depth: u32, kind: usize) -> Block {
     b
 }
 
-fn limits_fine(b: &Block, depth: u32) -> bool {
-    let limit = 1i32 << (depth + 3);
-    b.iter().flatten().all(|v| (-limit..limit).contains(v))
-}
-
 fn compare(dice: &mut Dice, blocks: usize) {
     let mut tallies = ["idct_8x8_rounded, away from zero", "idct_8x8_rounded, to even"].map(Tally::new);
     for i in 0..blocks + blocks / 16 {
@@ -63,7 +58,7 @@ fn compare(dice: &mut Dice, blocks: usize) {
                 (b, told),
                 [[1_000_000; 8]; 8],
                 |(b, depth), out| unsafe { rt_idct(b, *depth, to_even == 1, out) },
-                |(b, depth)| first_bad(depth_fine(*depth), depth_fine(*depth) && limits_fine(b, *depth)),
+                |(b, depth)| transform_state(b, *depth),
                 |(b, depth)| idct_8x8_rounded(b, *depth, rule(to_even == 1)),
             );
         }

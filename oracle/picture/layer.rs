@@ -3,7 +3,7 @@
 use crate::bitreader::BitReader;
 use crate::block::{BlockAssemblyError, BlockPredictors, MacroblockTextureContext};
 use crate::common::header::{Header, lent, put};
-use crate::common::numbers::{self, data_fine, dc_fine, level_fine};
+use crate::common::numbers::{self, data_fine, dc_fine, depth_fine, level_fine};
 use crate::common::setting::{self, Block, Matrix, Seven, context_fine, rule};
 
 // What one call brings.
@@ -37,6 +37,15 @@ pub struct Answer {
     pub position: usize,
     pub picture: Picture,
     pub samples: Vec<i32>,
+}
+
+// 11, 12 or 0.
+pub fn opening(width: u32, height: u32, depth: u32) -> u32 {
+    match () {
+        _ if !(1..=45).contains(&width) || !(1..=36).contains(&height) => 11,
+        _ if !depth_fine(depth) => 12,
+        _ => 0,
+    }
 }
 
 // Before the call.
@@ -193,6 +202,7 @@ fn six(p: Picture, s: &Step, br: &mut BitReader, kept: &dyn Fn(Place) -> Kept) -
 }
 
 // A picture with all of its blocks.
+#[derive(Clone)]
 pub struct Layer {
     pub picture: Picture,
     grids: [Vec<Option<Kept>>; 3],

@@ -1,16 +1,15 @@
 // `picture` against a picture layer over the original's block reading (layer.rs). Both must give the same number and figure, or the
 // same number of bits, position, samples and picture. A refusal must leave samples, store and picture as they were, so that the same
 // macroblock is due again; what is lent past 384 samples, or past 192 numbers of store for each macroblock of width, must always stay.
-use crate::common::bits::{Bits, any_bytes, bits_from, bytes_of, flip, push};
+use crate::common::bits::push;
 use crate::common::counts::{self, Counts};
 use crate::common::dice::Dice;
-use crate::common::header::{Header, samples_told};
-use crate::common::numbers::depth_fine;
-use crate::common::sentence::{self, Escapes, FEW, SOME, component};
-use crate::common::setting::{self, Matrix, matrix_told};
+use crate::common::header::samples_told;
+use crate::common::setting::{Matrix, matrix_told};
 use crate::common::smallest::data_told;
-use layer::{Answer, Layer, Picture, Step, before};
+use layer::{Answer, Layer, Picture, Step, before, opening};
 use scene::Scene;
+use style::{Style, put_bits, spoil};
 
 #[path = "elsewhere.rs"]
 mod elsewhere;
@@ -18,6 +17,8 @@ mod elsewhere;
 mod layer;
 #[path = "scene.rs"]
 mod scene;
+#[path = "style.rs"]
+mod style;
 
 #[rustfmt::skip]
 unsafe extern "C" {
@@ -109,117 +110,6 @@ impl Play {
 }
 
 // ---- pictures
-
-// How a picture's macroblocks are drawn.
-struct Style {
-    // the same all over, any, or a little up and down
-    quantisers: usize,
-    // never, always, any
-    ac_pred: usize,
-    // of DC parts
-    sizes: Option<usize>,
-    longest: usize,
-    escapes: &'static Escapes,
-    // blocks that are coded, out of 4
-    coded: usize,
-    // use_intra_dc_vlc, reversible_vlc, or any
-    reading: Option<[bool; 2]>,
-    matrix: Option<Matrix>,
-}
-
-impl Style {
-    fn drawn(dice: &mut Dice) -> Style {
-        let fixed = dice.flag().then(|| setting::matrix(dice));
-        Style {
-            quantisers: dice.below(3),
-            ac_pred: dice.below(3),
-            sizes: dice.of(&[Some(2), Some(4), Some(6), None]),
-            longest: dice.of(&[1, 3, 8, 63]),
-            escapes: if dice.flag() { &FEW } else { &SOME },
-            coded: dice.below(5),
-            reading: dice.of(&[
-                None,
-                Some([true, false]),
-                Some([true, true]),
-                Some([false, false]),
-                Some([false, true]),
-            ]),
-            matrix: fixed,
-        }
-    }
-
-    // A call that is fine, with the bits of a sentence that fits.
-    fn step(&self, dice: &mut Dice, quantiser: &mut u32) -> (Step, Bits) {
-        *quantiser = match self.quantisers {
-            0 => *quantiser,
-            1 => 1 + dice.below(31) as u32,
-            _ => (*quantiser + dice.below(5) as u32).clamp(3, 33) - 2,
-        };
-        let pattern = (0..6).fold(0, |p, _| 2 * p + usize::from(dice.below(4) < self.coded));
-        let [dc_coded, reversible] = self.reading.unwrap_or_else(|| [dice.flag(), dice.flag()]);
-        let ac_pred = [false, true, dice.flag()][self.ac_pred];
-        let s = Step {
-            header: Header::intra(dice, pattern),
-            quantiser_scale: *quantiser,
-            flags: [ac_pred, dice.rarely(), dice.flag(), dice.flag(), dc_coded, reversible],
-            matrix: self.matrix.unwrap_or_else(|| setting::matrix(dice)),
-            data: Vec::new(),
-            at: 0,
-            room: if dice.rarely() { 384 + dice.below(20) } else { 384 },
-            stored: usize::MAX,
-        };
-        let mut bits = Bits::new();
-        for i in 0..6 {
-            if dc_coded {
-                sentence::dc_part(dice, &mut bits, component(i >= 4), self.sizes);
-            }
-            if s.header.coded(i) {
-                sentence::list(
-                    dice,
-                    &mut bits,
-                    self.escapes,
-                    reversible,
-                    false,
-                    usize::from(dc_coded),
-                    true,
-                    self.longest,
-                );
-            }
-        }
-        (s, bits)
-    }
-}
-
-fn put_bits(dice: &mut Dice, s: &mut Step, bits: &[bool]) {
-    s.at = bytes_of(&mut s.data, bits, dice.below(20), dice.next());
-}
-
-// One thing of a call bad, or most likely bad.
-fn spoil(dice: &mut Dice, s: &mut Step, width: u32) {
-    let mut bits = bits_from(&s.data, s.at);
-    match dice.below(10) {
-        0 | 1 => {
-            bits.truncate(dice.below(bits.len() + 1));
-            put_bits(dice, s, &bits);
-        }
-        2 | 3 => {
-            flip(dice, &mut bits);
-            put_bits(dice, s, &bits);
-        }
-        4 => {
-            s.data = any_bytes(dice, 24);
-            s.at = dice.below(8 * s.data.len() + 1);
-        }
-        5 => s.header.spoil(dice),
-        6 => s.room = dice.of(&[0, 1, 63, 64, 256, 320, 383]),
-        7 => s.stored = dice.below(192 * width as usize),
-        8 => s.quantiser_scale = dice.outside(1, 31) as u32,
-        _ => s.matrix[dice.below(8)][dice.below(8)] = 0,
-    }
-    if dice.below(20) == 0 {
-        s.at = dice.of(&[8 * s.data.len() + 1, usize::MAX]);
-    }
-}
 
 // What was among those accepted.
 const SEEN: [&str; 5] = [
@@ -313,10 +203,9 @@ fn openings(counts: &mut Counts) {
             for method in [false, true] {
                 let (mut numbers, mut left) = ([999; 4], !method);
                 let number = unsafe { rt_open(width, height, depth, method, &mut numbers, &mut left) };
-                let due = match () {
-                    _ if !(1..=45).contains(&width) || !(1..=36).contains(&height) => (11, [999; 4], !method),
-                    _ if !depth_fine(depth) => (12, [999; 4], !method),
-                    _ => (0, [width, height, depth, 0], method),
+                let due = match opening(width, height, depth) {
+                    0 => (0, [width, height, depth, 0], method),
+                    number => (number, [999; 4], !method),
                 };
                 if (number, numbers, left) != due {
                     println!("DIFFERS: opening {width} by {height} at depth {depth}, method 1 {method}");

@@ -1,12 +1,11 @@
 // `texture` against the original. Both must give the same number, figure, position and values. On a refusal the position and the numbers
 // lent must stay as they were (the original's reader moves: that is not asked).
-use crate::bitreader::BitReader;
 use crate::common::bits::{Bits, any_bytes, bytes_of, flip, push};
 use crate::common::dice::Dice;
-use crate::common::numbers::{MOST_BYTES, data_fine, of_scan, of_texture};
-use crate::common::sentence::{self, MANY, component, table};
+use crate::common::numbers::MOST_BYTES;
+use crate::common::sentence::{self, MANY};
+use crate::common::symbol_call::{Answer, Call, due, lent};
 use crate::common::test::{self, Test};
-use crate::scan;
 use crate::texture::{self, TcoefTable};
 
 #[rustfmt::skip]
@@ -16,36 +15,6 @@ unsafe extern "C" {
     fn rt_ac_event_rvlc(data: *const u8, len: usize, at: usize, inter: bool, figure: &mut u32, last: &mut bool, run: &mut u32, level: &mut i32, position: &mut usize) -> u32;
     fn rt_ac_events(data: *const u8, len: usize, at: usize, inter: bool, dc_coded: bool, qfs: &mut [i32; 64], figure: &mut u32, position: &mut usize) -> u32;
     fn rt_ac_events_rvlc(data: *const u8, len: usize, at: usize, inter: bool, dc_coded: bool, qfs: &mut [i32; 64], figure: &mut u32, position: &mut usize) -> u32;
-}
-
-#[derive(Clone, Copy, Debug)]
-enum Call {
-    Dc { chroma: bool },
-    Event { reversible: bool, inter: bool },
-    List { reversible: bool, inter: bool, dc_coded: bool },
-}
-
-// A number (0: accepted), its figure, the position after the call, and the values: size and difference; last, run and level; the 64 places.
-#[derive(Clone, Copy, PartialEq, Debug)]
-struct Answer {
-    number: u32,
-    figure: u32,
-    position: usize,
-    values: [i32; 64],
-}
-
-// Before the call: numbers that no reading gives.
-fn lent(at: usize) -> Answer {
-    let mut values = [0; 64];
-    for (i, v) in values.iter_mut().enumerate() {
-        *v = 1_000_000 + i as i32;
-    }
-    Answer {
-        number: 0,
-        figure: 0,
-        position: at,
-        values,
-    }
 }
 
 fn ours(call: Call, data: &[u8], at: usize) -> Answer {
@@ -73,69 +42,6 @@ fn ours(call: Call, data: &[u8], at: usize) -> Answer {
             let read = if reversible { rt_ac_events_rvlc } else { rt_ac_events };
             a.number = unsafe { read(p, n, at, inter, dc_coded, &mut a.values, figure, position) };
         }
-    }
-    a
-}
-
-// What the original gives, or document 01's 11, which comes before any bit.
-fn due(call: Call, data: &[u8], at: usize) -> Answer {
-    let mut a = lent(at);
-    if let Call::Event { .. } = call {
-        a.values[0] = 1;
-    }
-    if !data_fine(data, at) {
-        a.number = 11;
-        return a;
-    }
-    let mut br = BitReader::new(data);
-    br.skip_bits(at).unwrap();
-    let refusal = match call {
-        Call::Dc { chroma } => match texture::decode_intra_dc(&mut br, component(chroma)) {
-            Ok(dc) => {
-                a.values[..2].copy_from_slice(&[dc.size.into(), dc.differential]);
-                None
-            }
-            Err(e) => Some(of_texture(e)),
-        },
-        Call::Event { reversible, inter } => {
-            let read = if reversible {
-                texture::decode_ac_event_rvlc
-            } else {
-                texture::decode_ac_event
-            };
-            match read(&mut br, table(inter)) {
-                Ok(v) => {
-                    a.values[..3].copy_from_slice(&[v.last.into(), v.run as i32, v.level]);
-                    None
-                }
-                Err(e) => Some(of_texture(e)),
-            }
-        }
-        Call::List {
-            reversible,
-            inter,
-            dc_coded,
-        } => {
-            let read = if reversible {
-                texture::decode_ac_events_rvlc
-            } else {
-                texture::decode_ac_events
-            };
-            match read(&mut br, table(inter)) {
-                Ok(events) => match scan::events_to_qfs(&events, dc_coded.then_some(0)) {
-                    Ok(qfs) => {
-                        a.values = qfs;
-                        None
-                    }
-                    Err(e) => Some(of_scan(e)),
-                },
-                Err(e) => Some(of_texture(e)),
-            }
-        }
-    };
-    match refusal {
-        None => a.position = br.bit_position(),
-        Some((number, figure)) => (a.number, a.figure) = (number, figure),
     }
     a
 }

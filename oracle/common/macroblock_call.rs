@@ -1,0 +1,132 @@
+// One macroblock alone: the call, and what it must give.
+use super::bits::Bits;
+use super::dice::Dice;
+use super::header::{Header, lent, put};
+use super::numbers::{self, data_fine};
+use super::sentence;
+use super::setting::{self, Setting};
+use crate::bitreader::BitReader;
+use crate::block::{self, BlockAssemblyError};
+
+pub const READINGS: [[bool; 2]; 4] = [[true, false], [true, true], [false, false], [false, true]];
+
+#[derive(Clone, Copy, Debug)]
+pub struct Call {
+    pub header: Header,
+    // use_intra_dc_vlc, reversible_vlc
+    pub reading: [bool; 2],
+    pub setting: Setting,
+    // how many samples are lent
+    pub room: usize,
+}
+
+// A number (0: accepted), its figure, the number of bits, the position after the call, and the samples.
+#[derive(Clone, PartialEq, Debug)]
+pub struct Answer {
+    pub number: u32,
+    pub figure: u32,
+    pub bits: usize,
+    pub position: usize,
+    pub samples: Vec<i32>,
+}
+
+impl Call {
+    pub fn lent(&self, at: usize) -> Answer {
+        Answer {
+            number: 0,
+            figure: 0,
+            bits: 999_999,
+            position: at,
+            samples: lent(self.room),
+        }
+    }
+
+    // 11, 12, 13, 14, 9, 10, in this order.
+    fn state(&self, data: &[u8], at: usize) -> u32 {
+        if !data_fine(data, at) {
+            return 11;
+        }
+        match self.setting.state() {
+            0 if self.room < 384 => 14,
+            0 => self.header.state(),
+            number => number,
+        }
+    }
+
+    fn original(&self, br: &mut BitReader, samples: &mut [i32]) -> Result<(), BlockAssemblyError> {
+        let (s, [dc_coded, reversible]) = (&self.setting, self.reading);
+        let mut made = [0; 384];
+        if dc_coded && !reversible {
+            let one = block::decode_intra_macroblock(br, &self.header.original(), s.context(), s.predictors(), &s.matrix)?;
+            let numbers = one
+                .luma
+                .iter()
+                .flatten()
+                .chain(one.cb.iter().flatten())
+                .chain(one.cr.iter().flatten());
+            made.iter_mut().zip(numbers).for_each(|(to, from)| *to = *from);
+        } else {
+            for i in 0..6 {
+                let reading = [self.header.coded(i), dc_coded, reversible];
+                put(
+                    &mut made,
+                    i,
+                    &setting::read(br, i, reading, s.context(), s.predictors(), &s.matrix)?.spatial,
+                );
+            }
+        }
+        samples[..384].copy_from_slice(&made);
+        Ok(())
+    }
+
+    pub fn due(&self, data: &[u8], at: usize) -> Answer {
+        let mut a = self.lent(at);
+        a.number = self.state(data, at);
+        // 9 and 10 the original tells itself, where it is the reference
+        if a.number != 0 && !(matches!(a.number, 9 | 10) && self.reading == [true, false]) {
+            return a;
+        }
+        let mut br = BitReader::new(data);
+        br.skip_bits(at).unwrap();
+        match self.original(&mut br, &mut a.samples) {
+            Ok(()) => {
+                a.number = 0;
+                a.position = br.bit_position();
+                a.bits = a.position - at;
+            }
+            Err(e) => (a.number, a.figure) = numbers::of_block(e),
+        }
+        a
+    }
+
+    // One that is fine, with this pattern and reading.
+    pub fn drawn(dice: &mut Dice, pattern: usize, reading: [bool; 2]) -> Call {
+        Call {
+            header: Header::intra(dice, pattern),
+            reading,
+            setting: if dice.below(3) == 0 {
+                Setting::grey(dice)
+            } else {
+                Setting::drawn(dice)
+            },
+            room: if dice.rarely() { 384 + dice.below(20) } else { 384 },
+        }
+    }
+
+    pub fn any(dice: &mut Dice) -> Call {
+        let (pattern, reading) = (dice.below(64), dice.of(&READINGS));
+        Call::drawn(dice, pattern, reading)
+    }
+
+    // As the call reads it, with 1 to `longest` events in a coded block; if they are to fit, every landing is below 64.
+    pub fn sentence(&self, dice: &mut Dice, fits: bool, longest: usize) -> Bits {
+        let mut bits = Bits::new();
+        let [dc_coded, reversible] = self.reading;
+        // where they are not to fit, one block is the cause
+        let wide = if fits { 6 } else { dice.below(6) };
+        for i in 0..6 {
+            sentence::block(dice, &mut bits, i, self.header.coded(i), dc_coded, reversible, i != wide, longest);
+        }
+        bits
+    }
+}
