@@ -1,4 +1,4 @@
-// `coefficients` against the original. In the domain both must give the same; outside it Rattle must refuse by 12 or 13, the first that
+// `coefficients` and `inverse_quant` against the original. In the domain both must give the same; outside it Rattle must refuse by 12 or 13, the first that
 // holds, and leave lent memory as it was.
 use crate::block::BlockPredictors;
 use crate::common::dice::Dice;

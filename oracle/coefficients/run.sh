@@ -1,10 +1,10 @@
 #!/bin/sh
-# Compares every public function of `coefficients` with the original, outside the gate:
+# Compares every public function of `coefficients` and `inverse_quant` with the original, outside the gate:
 #     oracle/coefficients/run.sh FOLDER_OF_THE_RUST_SOURCES [RANDOM_CASES_A_FUNCTION]
 set -eu
 . "$(dirname "$0")/../common/build.sh"
 begin "$(dirname "$0")" "${1:-}"
-offered coefficients
+offered inverse_quant
 # block.rs's own lines from places to levels, which stand inside its reading of a block
 {
     printf 'use crate::block::BlockPredictors;\nuse crate::predictor::*;\nuse crate::scan::{inverse_scan, select_scan_type};\nuse crate::texture::DcComponent;\n'

@@ -9,8 +9,8 @@ use Rattle.bits.specs.Bits.{Bits, bitsFrom}
 use Rattle.bits.specs.declared.cursor.Cursor.{Cursor}
 use Rattle.codes.specs.declared.dc_size.DcComponent.{DcComponent}
 use Rattle.coefficients.proofs.BlockTests.{test-all}
-use Rattle.coefficients.proofs.LimitLaws.{Limited, dequantised1-limited, dequantised1-small, dequantised1-square, dequantised2-limited, dequantised2-small, dequantised2-square}
-use Rattle.coefficients.specs.Dequantised.{dequantised1, dequantised2}
+use Rattle.inverse_quant.proofs.LimitLaws.{Limited, dequantised1-limited, dequantised1-small, dequantised1-square, dequantised2-limited, dequantised2-small, dequantised2-square}
+use Rattle.inverse_quant.specs.Dequantised.{dequantised1, dequantised2}
 use Rattle.coefficients.specs.Level.{placesFine}
 use Rattle.idct.proofs.Refusals.{depth-least}
 use Rattle.idct.proofs.Refusals as Refusals

@@ -11,7 +11,7 @@ use Rattle.bits.specs.declared.cursor.BitCount.{BitCount}
 use Rattle.bits.specs.declared.cursor.BitCount.the-variants.{Bits as CountIs, Refused as CountRefused}
 use Rattle.bits.specs.declared.error.BitReaderError.{BitReaderError}
 use Rattle.bits.specs.declared.error.BitReaderError.the-variants.{OutOfRange as BitsOut}
-use Rattle.coefficients.specs.Dequantised.{nonZero}
+use Rattle.inverse_quant.specs.Dequantised.{nonZero}
 use Rattle.coefficients.specs.Level.{predictorsFine}
 use Rattle.coefficients.specs.declared.predictor.BlockPredictors.{BlockPredictors}
 use Rattle.numbers.specs.Every.{every}

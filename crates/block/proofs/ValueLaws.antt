@@ -5,8 +5,8 @@ use mathlib.Core.Path.{_≡_, ap, ap₂, refl, sym, _∙_}
 use Prim.Native.Nat.{ℕ}
 use lib.IntN.{ℤ}
 use Rattle.codes.specs.declared.dc_size.DcComponent.{DcComponent}
-use Rattle.coefficients.specs.Dequantised.{answer1, answer2, blockFine, dequantised1, dequantised2, nonZero}
-use Rattle.coefficients.specs.Level.{levelsAnswer, placesFine, predictorsFine}
+use Rattle.inverse_quant.specs.Dequantised.{answer1, answer2, dequantised1, dequantised2, nonZero}
+use Rattle.coefficients.specs.Level.{blockFine, levelsAnswer, placesFine, predictorsFine}
 use Rattle.coefficients.specs.Refusal.{after, firstBad}
 use Rattle.coefficients.specs.declared.predictor.BlockPredictors.{BlockPredictors}
 use Rattle.coefficients.specs.declared.refusal.Stage.{Stage}

@@ -9,9 +9,9 @@ use Rattle.numbers.specs.Grid.{block}
 use Rattle.numbers.specs.Limit.{clampZ}
 use Rattle.ranges.specs.Range.{depthFine, quantiserFine}
 use Rattle.codes.specs.declared.dc_size.DcComponent.{DcComponent}
-use Rattle.coefficients.specs.declared.inverse_quant.InverseQuantContext.{InverseQuantContext}
+use Rattle.inverse_quant.specs.declared.context.InverseQuantContext.{InverseQuantContext}
 use Rattle.coefficients.specs.declared.predictor.BlockPredictors.{BlockPredictors}
-use Rattle.coefficients.specs.Dequantised.{answer1, answer2, dequantised1, dequantised2, nonZero}
+use Rattle.inverse_quant.specs.Dequantised.{answer1, answer2, dequantised1, dequantised2, nonZero}
 use Rattle.coefficients.specs.Level.{levels, levelsAnswer}
 use Rattle.coefficients.specs.Refusal.{after}
 use Rattle.coefficients.specs.declared.refusal.Stage.{Stage}

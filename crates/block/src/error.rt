@@ -78,7 +78,7 @@ pub fn context_fine(ctx: MacroblockTextureContext, w: [[u8; 8]; 8]) -> bool
         return false;
     }
     if ctx.quant_type {
-        return coefficients::matrix_fine(w);
+        return inverse_quant::matrix_fine(w);
     }
     true
 }

@@ -8,7 +8,7 @@ ghost use Rattle.block.specs.Values.{levelsLeft, samplesLeft, valuesLeft
 use crate::context::MacroblockTextureContext;
 use codes::DcComponent;
 use coefficients::BlockPredictors;
-use coefficients::InverseQuantContext;
+use inverse_quant::InverseQuantContext;
 
 // QF.
 pub fn levels_of(
@@ -45,14 +45,14 @@ pub fn values_of(
         short_video_header: false,
     };
     if !ctx.quant_type {
-        coefficients::inverse_quant_method2(qf, quant, &mut f);
+        inverse_quant::inverse_quant_method2(qf, quant, &mut f);
         return f;
     }
     if ctx.intra_mismatch_exempt {
-        coefficients::inverse_quant_method1_no_mismatch(qf, w, quant, &mut f);
+        inverse_quant::inverse_quant_method1_no_mismatch(qf, w, quant, &mut f);
         return f;
     }
-    coefficients::inverse_quant_method1(qf, w, quant, &mut f);
+    inverse_quant::inverse_quant_method1(qf, w, quant, &mut f);
     f
 }
 

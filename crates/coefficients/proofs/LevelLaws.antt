@@ -13,8 +13,7 @@ use Rattle.ranges.specs.Range.{levelFine}
 use Rattle.coefficients.specs.declared.predictor.BlockPredictors.{BlockPredictors}
 use Rattle.coefficients.specs.Scan.{scanned}
 use Rattle.coefficients.specs.Prediction.{directionBy, predicted}
-use Rattle.coefficients.specs.Level.{saturated, intraScan, levels}
-use Rattle.coefficients.specs.Dequantised.{blockFine}
+use Rattle.coefficients.specs.Level.{saturated, intraScan, levels, blockFine}
 use Rattle.coefficients.specs.Stages.{LevelsGood}
 use Rattle.coefficients.proofs.RangeLaws.{within-of}
 use Rattle.coefficients.proofs.BlockTests.{test-block}

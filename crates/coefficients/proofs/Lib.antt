@@ -2,14 +2,9 @@
 pub mod RangeLaws
 pub mod BlockLaws
 pub mod BlockTests
-pub mod BlockSums
 pub mod ScanLaws
 pub mod PredictionLaws
 pub mod PredictionBlock
 pub mod RefusalLaws
 pub mod MissingLaws
 pub mod LevelLaws
-pub mod MethodLaws
-pub mod LimitLaws
-pub mod MismatchLaws
-pub mod AnswerLaws

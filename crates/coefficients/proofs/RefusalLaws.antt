@@ -9,16 +9,14 @@ use lib.Dec.{T}
 use lib.IntN.{ℤ, pos, natAbs}
 use lib.ListN.{length, getD}
 use Rattle.numbers.specs.Grid.{cell}
-use Rattle.ranges.specs.Range.{depthFine, quantiserFine, levelFine, differenceFine, dcFine}
-use Rattle.coefficients.specs.declared.inverse_quant.InverseQuantContext.{InverseQuantContext}
+use Rattle.ranges.specs.Range.{quantiserFine, levelFine, differenceFine, dcFine}
 use Rattle.coefficients.specs.declared.predictor.BlockPredictors.{BlockPredictors}
 use Rattle.numbers.specs.Every.{every}
-use Rattle.coefficients.specs.Level.{valuesFine, predictorsFine, placesFine}
-use Rattle.coefficients.specs.Dequantised.{contextFine, blockFine}
-use Rattle.coefficients.specs.Stages.{PredictorsGood, PlacesGood, LevelsGood, ContextGood}
+use Rattle.coefficients.specs.Level.{valuesFine, predictorsFine, placesFine, blockFine}
+use Rattle.coefficients.specs.Stages.{PredictorsGood, PlacesGood, LevelsGood}
 use Rattle.numbers.proofs.Tests.{both-true, true-both, and-false}
 use Rattle.numbers.proofs.Every.{every-in, every-fails, every-get}
-use Rattle.coefficients.proofs.RangeLaws.{level-abs, abs-level, difference-abs, abs-difference, dc-abs, quantiser-range, range-quantiser, depth-range, range-depth}
+use Rattle.coefficients.proofs.RangeLaws.{level-abs, abs-level, difference-abs, abs-difference, dc-abs, quantiser-range}
 use Rattle.coefficients.proofs.BlockTests.{test-at}
 
 -- ---- the places
@@ -71,17 +69,7 @@ predictors-good p e =
       row = λ t k h. values-good (p .«c_has_row») (p .«c_first_row») (v .1) t k;
     }
 
--- ---- a block of levels, and a context
+-- ---- a block of levels
 
 pub block-good : (qf : List (List ℤ)) → blockFine qf ≡ true → LevelsGood qf
 block-good qf e v u = level-abs (cell qf v u) (test-at levelFine (pos 0) qf refl e v u)
-
-pub context-good : (ctx : InverseQuantContext) → contextFine ctx ≡ true → ContextGood ctx
-context-good ctx e =
-    let b = both-true (quantiserFine (ctx .«quantiser_scale»)) (depthFine (ctx .«bits_per_pixel»)) e in
-    let q = quantiser-range (ctx .«quantiser_scale») (b .0) in
-    record { positive = q .0; quantiser = omega (arith, q); depth = depth-range (ctx .«bits_per_pixel») (b .1) .1 }
-
-pub context-fine : (ctx : InverseQuantContext) → 1 ≤ ctx .«quantiser_scale» → ctx .«quantiser_scale» ≤ 31
-    → 4 ≤ ctx .«bits_per_pixel» → ctx .«bits_per_pixel» ≤ 12 → contextFine ctx ≡ true
-context-fine ctx a b c d = true-both (range-quantiser (ctx .«quantiser_scale») a b) (range-depth (ctx .«bits_per_pixel») c d)

@@ -55,3 +55,7 @@ placesFine qfs = differenceFine (getD qfs 0 (pos 0)) && every levelFine (drop 1 
 
 abbrev pub levelsAnswer : ℕ → BlockPredictors → List ℤ → Stage
 levelsAnswer q p qfs = firstBad (quantiserFine q) (predictorsFine p && placesFine qfs)
+
+-- every value of a block is a level
+abbrev pub blockFine : List (List ℤ) → Bool
+blockFine qf = every (every levelFine) qf

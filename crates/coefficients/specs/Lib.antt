@@ -1,7 +1,6 @@
--- From 64 places to dequantised values (7.4.2 to 7.4.4), each rule a function over the integers.
+-- From 64 places to the levels QF (7.4.2 and 7.4.3), each rule a function over the integers.
 pub mod Refusal
 pub mod Scan
 pub mod Prediction
 pub mod Level
-pub mod Dequantised
 pub mod Stages

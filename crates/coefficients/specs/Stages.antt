@@ -1,8 +1,8 @@
--- What each public function of prediction and inverse quantisation answers by itself, refusals included. Definitions only.
-use mathlib.Core.Bool.{Bool, true, cond, _&&_, not}
+-- What each public function of prediction answers by itself, refusals included. Definitions only.
+use mathlib.Core.Bool.{Bool, true, cond, _&&_}
 use mathlib.Core.List.{List}
 use Prim.Native.Nat.{ℕ, _≤_, _<_}
-use lib.Dec.{T, eqb}
+use lib.Dec.{T}
 use lib.ListN.{getD}
 use lib.IntN.{ℤ, pos, natAbs, _+ℤ_}
 use Rattle.numbers.specs.Grid.{build, cell}
@@ -17,13 +17,11 @@ use Rattle.coefficients.specs.declared.refusal.Value.{Value}
 use Rattle.coefficients.specs.declared.refusal.Value.the-variants.{Is as ValueIs, Refused as ValueRefused}
 use Rattle.coefficients.specs.declared.scan.DcPredictionDirection.{DcPredictionDirection}
 use Rattle.coefficients.specs.declared.predictor.BlockPredictors.{BlockPredictors}
-use Rattle.coefficients.specs.declared.inverse_quant.InverseQuantContext.{InverseQuantContext}
 use Rattle.ranges.specs.Range.{quantiserFine, depthFine, levelFine, differenceFine, dcFine}
 use Rattle.coefficients.specs.Refusal.{firstBad}
 use Rattle.numbers.specs.Every.{every}
 use Rattle.coefficients.specs.Prediction.{dcScaler, directionOf, defaultDc, dcPrediction, acPrediction}
 use Rattle.coefficients.specs.Level.{valuesFine}
-use Rattle.coefficients.specs.Dequantised.{intraDc, method1, method2}
 
 -- 12 unless the context is fine, then 13 unless the values are, else the value
 abbrev pub valueUnless : Bool → Bool → ℤ → Value
@@ -50,17 +48,7 @@ acAdded pqf has qf qp q = build 7 (λ (k : ℕ). getD pqf k (pos 0) +ℤ cond ha
 abbrev pub acAnswer : List ℤ → Bool → List ℤ → ℕ → ℕ → Stage
 acAnswer pqf has qf qp q = firstBad (quantiserFine q) (every levelFine pqf && (quantiserFine qp && valuesFine has qf))
 
--- one value of 7.4.4
-abbrev pub intraDcAnswer : ℤ → DcComponent → ℕ → Bool → Value
-intraDcAnswer qf c q short = valueUnless (quantiserFine q) (levelFine qf) (intraDc qf c q short)
-
-abbrev pub method1Answer : ℤ → ℕ → ℕ → Bool → Value
-method1Answer qf w q intra = valueUnless (quantiserFine q && not (eqb w 0)) (levelFine qf) (method1 intra qf w q)
-
-abbrev pub method2Answer : ℤ → ℕ → Value
-method2Answer qf q = valueUnless (quantiserFine q) (levelFine qf) (method2 qf q)
-
--- ---- what the functions inside the crate may take for granted
+-- ---- what the functions behind the refusals may take for granted
 
 -- predictors that pass 13's test, as magnitudes
 pub record PredictorsGood (p : BlockPredictors) : Type 0 where
@@ -76,11 +64,6 @@ pub record PredictorsGood (p : BlockPredictors) : Type 0 where
 abbrev pub PlacesGood : List ℤ → Type 0
 PlacesGood qfs = (k : ℕ) → natAbs (getD qfs k (pos 0)) ≤ 4095
 
--- levels, and a context that passes 12's
+-- levels
 abbrev pub LevelsGood : List (List ℤ) → Type 0
 LevelsGood qf = (v u : ℕ) → natAbs (cell qf v u) ≤ 2048
-
-pub record ContextGood (ctx : InverseQuantContext) : Type 0 where
-  pub positive : 1 ≤ ctx .«quantiser_scale»
-  pub quantiser : ctx .«quantiser_scale» ≤ 511
-  pub depth : ctx .«bits_per_pixel» ≤ 12

@@ -1,22 +1,13 @@
-// From 64 places to dequantised values (ISO/IEC 14496-2, 7.4.2 to 7.4.4), a module for each file of the
-// original. Blocks are 8 by 8 arrays that go by value from stage to stage.
+// From 64 places to the levels QF (scan.rs, predictor.rs; ISO/IEC 14496-2, 7.4.2 and 7.4.3). Blocks are
+// 8 by 8 arrays that go by value from stage to stage.
 //
-// No public function has a `requires`. Where a call has a quantiser, a depth, a matrix, a level or a
-// predictor that document 01 refuses, it is refused by 12 or 13, and lent memory stays as it was.
-mod inverse_quant;
+// No public function has a `requires`. Where a call has a quantiser, a depth, a level or a predictor that
+// document 01 refuses, it is refused by 12 or 13, and lent memory stays as it was.
 mod level;
 mod predictor;
 mod refusal;
 mod scan;
 
-pub use inverse_quant::InverseQuantContext;
-pub use inverse_quant::inverse_quant_intra_dc;
-pub use inverse_quant::inverse_quant_method1;
-pub use inverse_quant::inverse_quant_method1_coef;
-pub use inverse_quant::inverse_quant_method1_no_mismatch;
-pub use inverse_quant::inverse_quant_method2;
-pub use inverse_quant::inverse_quant_method2_coef;
-pub use inverse_quant::matrix_fine;
 pub use level::intra_levels;
 pub use level::predictors_fine;
 pub use level::saturate_block;
@@ -27,6 +18,7 @@ pub use predictor::default_neighbour_dc;
 pub use predictor::predict_intra_ac_column;
 pub use predictor::predict_intra_ac_row;
 pub use predictor::predict_intra_dc;
+pub use predictor::scaler_of;
 pub use predictor::select_dc_direction;
 pub use refusal::CoefficientError;
 pub use refusal::Direction;

@@ -73,12 +73,22 @@ pub fn default_neighbour_dc(bits_per_pixel: u32) -> Value
     Value::Is(missing_dc(bits_per_pixel))
 }
 
-// Table 7-1, of a quantiser up to 511.
-pub(crate) fn scaler_of(component: DcComponent, quantiser_scale: u32) -> u32
-    requires { ⌜ «quantiser_scale» ≤ 511 ⌝ }
-    ensures { λ r. ⌜ (r ≡ dcScaler component «quantiser_scale») × (r ≤ 1006) ⌝ }
+// A quantiser up to 511; a greater one is taken as 511.
+fn at_most_511(quantiser_scale: u32) -> u32
+    ensures { λ r. ⌜ r ≡ min «quantiser_scale» 511 ⌝ }
 {
-    let q = quantiser_scale;
+    if quantiser_scale < 511 {
+        quantiser_scale
+    } else {
+        511
+    }
+}
+
+// Table 7-1, of a quantiser up to 511; a greater one is taken as 511.
+pub fn scaler_of(component: DcComponent, quantiser_scale: u32) -> u32
+    ensures { λ r. ⌜ (r ≡ dcScaler component (min «quantiser_scale» 511)) × (r ≤ 1006) ⌝ }
+{
+    let q = at_most_511(quantiser_scale);
     match component {
         DcComponent::Luminance => {
             if q <= 4 {

@@ -16,7 +16,7 @@ use Rattle.texture.specs.EventReader.{event}
 use Rattle.coefficients.specs.declared.scan.DcPredictionDirection.{DcPredictionDirection}
 use Rattle.coefficients.specs.declared.scan.DcPredictionDirection.the-variants.{FromLeft}
 use Rattle.coefficients.specs.Prediction.{dcScaler, directionOf}
-use Rattle.coefficients.specs.Dequantised.{method1, method2}
+use Rattle.inverse_quant.specs.Dequantised.{method1, method2}
 
 -- numbers, a refusal's number, or a side to predict from
 pub data Said : Type 0 where

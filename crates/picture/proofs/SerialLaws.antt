@@ -13,8 +13,7 @@ use borrow.Author.Tests.{le-leb}
 use Rattle.coefficients.proofs.BlockTests.{test-at}
 use Rattle.coefficients.proofs.LevelLaws.{levels-fine}
 use Rattle.coefficients.proofs.RangeLaws.{abs-dc, quantiser-range}
-use Rattle.coefficients.specs.Dequantised.{blockFine}
-use Rattle.coefficients.specs.Level.{placesFine}
+use Rattle.coefficients.specs.Level.{blockFine, placesFine}
 use Rattle.idct.specs.Limits.{valuesFine}
 use Rattle.numbers.proofs.Fill.{getD-build, lt-or-le}
 use Rattle.numbers.specs.Grid.{build, cell}

@@ -1,6 +1,6 @@
 -- `coefficients::predictor::predictions` meets its contract: the DC alone, then the first column from A or the first row from C, of which the places before v or u are done. Assumes nothing.
 use mathlib.Core.Path.{_≡_, refl, sym, ap, _∙_}
-use Prim.Native.Nat.{_-_, _≤_}
+use Prim.Native.Nat.{_-_, _≤_, min}
 use native.Mathlib.Omega.{arith}
 use lib.IntN.{ℤ, pos}
 use lib.ListN.{getD}
@@ -11,7 +11,7 @@ use Rattle.numbers.proofs.Tests.{true-T}
 use Rattle.numbers.proofs.Words.{held}
 use Rattle.coefficients.proofs.PredictionBlock.{above-missing, aboveOf, column-all, column-begins, column-more, columnRows, dcOf, from-above, from-left, left-missing, leftOf, no-ac, none, row-all, row-begins, row-more, rowCells, shaped}
 use Rattle.coefficients.proofs.predictor.predictions.Statement.{statement}
-use Rattle.coefficients.specs.Prediction.{acPrediction, dcPrediction, directionBy, directionOf}
+use Rattle.coefficients.specs.Prediction.{acPrediction, dcPrediction, dcScaler, directionBy, directionOf}
 use Rattle.coefficients.specs.declared.scan.DcPredictionDirection.the-variants.{FromAbove, FromLeft}
 use Rattle.numbers.specs.Grid.{block, build, cell}
 use Rattle.coefficients.proofs.predictor.predictions.Tie as tie
@@ -50,7 +50,7 @@ direction-is c =
     c .direction-of .ensures ∙ (λ i. directionOf (reads-a t i) (reads-b t i) (reads-c t i))
 
 scaler-of-requires : tie.Need-scaler-of-requires Inv-loop μ-loop Inv-loop2 μ-loop2
-scaler-of-requires c κs = c .before .before .before .before .pre .0
+scaler-of-requires c κs = search needs
 
 dc-prediction-requires : tie.Need-dc-prediction-requires Inv-loop μ-loop Inv-loop2 μ-loop2
 dc-prediction-requires c κs =
@@ -69,9 +69,12 @@ dc-is : (c : tie.After-dc-prediction Inv-loop μ-loop Inv-loop2 μ-loop2) → dc
 dc-is c =
     let d = c .before .before .before .before in
     let t = d .before .before .before in
+    let q = start c .args .quantiser-scale in
+    let m : min q 511 ≡ q = omega arith in
+    let s = c .before .before .before .scaler-of .ensures .0 ∙ ap (dcScaler (start c .args .component)) m in
     held (c .dc-prediction .result) (c .dc-prediction .ok)
     ∙ c .dc-prediction .ensures .0
-    ∙ (λ i. dcPrediction (direction-is d i) (reads-a t i) (reads-c t i) (c .before .before .before .scaler-of .ensures .0 i))
+    ∙ (λ i. dcPrediction (direction-is d i) (reads-a t i) (reads-c t i) (s i))
 
 -- the arms
 goes-left : (c : tie.After-enum-told Inv-loop μ-loop Inv-loop2 μ-loop2) → directionBy (start (c .before .before .before) .args .p) ≡ FromLeft

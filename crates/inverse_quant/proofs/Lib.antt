@@ -1,0 +1,7 @@
+-- The laws of this crate, each file over those above it.
+pub mod BlockSums
+pub mod RefusalLaws
+pub mod MethodLaws
+pub mod LimitLaws
+pub mod MismatchLaws
+pub mod AnswerLaws

@@ -1,0 +1,152 @@
+-- `inverse_quant::block::f_prime1` meets its contract: each turn stores the value of F' at its cell. Assumes nothing.
+use mathlib.Core.List.{List}
+use mathlib.Core.Path.{_≡_, refl, ap, _∙_}
+use Prim.Native.Nat.{ℕ, _≤_, _<_, _-_}
+use native.Mathlib.Omega.{arith}
+use lib.IntN.{ℤ, pos}
+use mir.Syntax.{w32}
+use mir.Val.{ofZ, toZ}
+use Rattle.numbers.specs.Grid.{build, cell, cellN}
+use Rattle.numbers.proofs.Expressions.{back, loc}
+use Rattle.numbers.proofs.Fill.{rows, filled, rows-none, rows-all, row-begins, row-ends, fill-more}
+use Rattle.inverse_quant.specs.declared.context.InverseQuantContext.{InverseQuantContext}
+use Rattle.inverse_quant.specs.Dequantised.{valueOf1}
+use Rattle.numbers.proofs.Words.{held}
+use Rattle.inverse_quant.proofs.block.f_prime1.Statement.{statement}
+use Rattle.inverse_quant.proofs.block.f_prime1.Tie as tie
+
+abbrev f : InverseQuantContext → List (List ℤ) → List (List ℕ) → ℕ → ℕ → ℤ
+f ctx qf w v u = valueOf1 ctx v u (cell qf v u) (cellN w v u)
+
+abbrev z : ℕ → ℕ → ℤ
+z v u = pos 0
+
+abbrev Inv-loop2 : tie.InvT-loop2
+Inv-loop2 ctx qf w out₀ v u₀ out u = (v < 8) × (u ≤ 8) × (out ≡ filled 8 8 (f ctx qf w) z v u)
+
+abbrev μ-loop2 : tie.MeasureT-loop2
+μ-loop2 ctx qf w out₀ v u₀ out u = 8 - u
+
+abbrev Inv-loop : tie.InvT-loop
+Inv-loop ctx qf w out₀ v₀ out v = (v ≤ 8) × (out ≡ rows 8 8 (f ctx qf w) z v)
+
+abbrev μ-loop : tie.MeasureT-loop
+μ-loop ctx qf w out₀ v₀ out v = 8 - v
+
+loop-holds : tie.Need-loop-holds Inv-loop2 μ-loop2 Inv-loop μ-loop
+unfolding build
+loop-holds c = (omega arith, rows-none 8 8 (f (c .args .ctx) (c .args .t1) (c .args .t2)) z _ refl)
+
+loop2-holds : tie.Need-loop2-holds Inv-loop2 μ-loop2 Inv-loop μ-loop
+loop2-holds c = (c .loop-test .taken, omega arith, row-begins 8 8 _ _ _ _ (c .loop-test .taken) (c .before .loop .inv .1))
+
+mul-value1 : tie.Need-mul-value1 Inv-loop2 μ-loop2 Inv-loop μ-loop
+mul-value1 c = omega arith
+
+mul-value1-2 : tie.Need-mul-value1-2 Inv-loop2 μ-loop2 Inv-loop μ-loop
+mul-value1-2 c = omega arith
+
+index-1-value1 : tie.Need-index-1-value1 Inv-loop2 μ-loop2 Inv-loop μ-loop
+index-1-value1 c = omega arith
+
+index-2-value1 : tie.Need-index-2-value1 Inv-loop2 μ-loop2 Inv-loop μ-loop
+index-2-value1 c = omega arith
+
+mul-value1-3 : tie.Need-mul-value1-3 Inv-loop2 μ-loop2 Inv-loop μ-loop
+mul-value1-3 c = omega arith
+
+index-1-value1-2 : tie.Need-index-1-value1-2 Inv-loop2 μ-loop2 Inv-loop μ-loop
+index-1-value1-2 c = omega arith
+
+index-2-value1-2 : tie.Need-index-2-value1-2 Inv-loop2 μ-loop2 Inv-loop μ-loop
+index-2-value1-2 c = omega arith
+
+-- the level, as the call has it
+module _ (l : tie.At-loop2 Inv-loop2 μ-loop2 Inv-loop μ-loop) where
+  abbrev qf : ℤ
+  qf = cell (l .before .before .before .args .t1) (l .before .before .loop .v) (l .loop2 .u)
+
+  level : toZ w32 (ofZ w32 qf) ≡ qf
+  level = back {w = w32} (loc qf 2048 (l .before .before .before .pre .0 (l .before .before .loop .v) (l .loop2 .u))) tt
+
+value1-requires : tie.Need-value1-requires Inv-loop2 μ-loop2 Inv-loop μ-loop
+value1-requires c κs =
+    let l = c .before .before .before in
+    let s = l .before .before .before in
+    (rw (level l) (s .pre .0 (l .before .before .loop .v) (l .loop2 .u)), s .pre .1)
+
+mul-t26 : tie.Need-mul-t26 Inv-loop2 μ-loop2 Inv-loop μ-loop
+mul-t26 c = omega arith
+
+mul-t29 : tie.Need-mul-t29 Inv-loop2 μ-loop2 Inv-loop μ-loop
+mul-t29 c = omega arith
+
+index-1-out : tie.Need-index-1-out Inv-loop2 μ-loop2 Inv-loop μ-loop
+index-1-out c = omega arith
+
+index-2-out : tie.Need-index-2-out Inv-loop2 μ-loop2 Inv-loop μ-loop
+index-2-out c = omega arith
+
+add-u : tie.Need-add-u Inv-loop2 μ-loop2 Inv-loop μ-loop
+add-u c = omega arith
+
+loop2-less : tie.Need-loop2-less Inv-loop2 μ-loop2 Inv-loop μ-loop
+loop2-less c = omega arith
+
+loop2-again : tie.Need-loop2-again Inv-loop2 μ-loop2 Inv-loop μ-loop
+loop2-again c =
+    let i = c .before .before .before in
+    let l = i .before in
+    let s = l .before .before .before in
+    let v = l .before .before .loop .v in
+    let u = l .loop2 .u in
+    let e = l .loop2 .inv in (
+      e .0,
+      omega arith,
+      fill-more 8 8 _ _ (pos 0) _ _ _ _ _ (e .0) (i .loop2-test .taken) (e .2)
+          (held (c .value1 .result) (c .value1 .ok) ∙ c .value1 .ensures ∙ ap (λ (z : ℤ). valueOf1 (s .args .ctx) v u z (cellN (s .args .t2) v u)) (level l)),
+    )
+
+add-v : tie.Need-add-v Inv-loop2 μ-loop2 Inv-loop μ-loop
+add-v c = omega arith
+
+loop-less : tie.Need-loop-less Inv-loop2 μ-loop2 Inv-loop μ-loop
+loop-less c = omega arith
+
+loop-again : tie.Need-loop-again Inv-loop2 μ-loop2 Inv-loop μ-loop
+loop-again c =
+    let l = c .before in
+    (omega arith, row-ends 8 8 _ _ _ _ _ (l .loop2 .inv .0) (c .loop2-test .left) (l .loop2 .inv .1) (l .loop2 .inv .2))
+
+returns : tie.Need-returns Inv-loop2 μ-loop2 Inv-loop μ-loop
+returns c = let a = c .before in rows-all 8 8 _ _ _ _ (c .loop-test .left) (a .loop .inv .0) (a .loop .inv .1)
+
+pub f-prime1-spec : {M : Type 1} → statement M
+f-prime1-spec =
+    tie.close
+    (tie.spec
+    Inv-loop2
+    μ-loop2
+    Inv-loop
+    μ-loop
+    loop-holds
+    loop2-holds
+    mul-value1
+    mul-value1-2
+    index-1-value1
+    index-2-value1
+    mul-value1-3
+    index-1-value1-2
+    index-2-value1-2
+    value1-requires
+    mul-t26
+    mul-t29
+    index-1-out
+    index-2-out
+    add-u
+    loop2-less
+    loop2-again
+    add-v
+    loop-less
+    loop-again
+    returns)

@@ -1,0 +1,3 @@
+-- From the levels QF to dequantised values (7.4.4), each rule a function over the integers.
+pub mod Dequantised
+pub mod Stages

@@ -1,0 +1,153 @@
+// One coefficient (7.4.4.1 to 7.4.4.4): the DC of an intra block, both methods, and the limit.
+ghost use mathlib.Core.Path.{_≡_};
+ghost use Prim.Native.Nat.{_≤_};
+ghost use lib.IntN.{natAbs};
+ghost use Rattle.inverse_quant.specs.Dequantised.{intraDc, method1, magnitude2, method2, limitedF, valueOf1, valueOf2};
+ghost use Rattle.inverse_quant.specs.Stages.{intraDcAnswer, method1Answer, method2Answer, ContextGood};
+use crate::context::InverseQuantContext;
+use codes::DcComponent;
+use coefficients::CoefficientError;
+use coefficients::Value;
+
+// 7.4.4.1.1, of a level and a quantiser up to 511.
+fn intra_dc(
+    qf00: i32,
+    component: DcComponent,
+    quantiser_scale: u32,
+    short_video_header: bool,
+) -> i32
+    requires { ⌜ (natAbs qf00 ≤ 2048) × («quantiser_scale» ≤ 511) ⌝ }
+    ensures { λ r. ⌜ r ≡ intraDc qf00 component «quantiser_scale» «short_video_header» ⌝ }
+{
+    if short_video_header {
+        return qf00 * 8;
+    }
+    qf00 * (coefficients::scaler_of(component, quantiser_scale) as i32)
+}
+
+// 7.4.4.1.1: the DC of an intra block, before limiting; or 12 or 13.
+pub fn inverse_quant_intra_dc(
+    qf00: i32,
+    component: DcComponent,
+    quantiser_scale: u32,
+    short_video_header: bool,
+) -> Value
+    ensures { λ r. ⌜ r ≡ intraDcAnswer qf00 component «quantiser_scale» «short_video_header» ⌝ }
+{
+    if !ranges::Quantiser::fine(quantiser_scale) {
+        return Value::Refused(CoefficientError::Context);
+    }
+    if !ranges::Level::fine(qf00) {
+        return Value::Refused(CoefficientError::OutOfRange);
+    }
+    Value::Is(intra_dc(qf00, component, quantiser_scale, short_video_header))
+}
+
+// 7.4.4.1.2, of a level and a quantiser up to 511: cut toward zero.
+fn method1_coef(qf: i32, w: u8, quantiser_scale: u32, macroblock_intra: bool) -> i32
+    requires { ⌜ (natAbs qf ≤ 2048) × («quantiser_scale» ≤ 511) ⌝ }
+    ensures { λ r. ⌜ r ≡ method1 «macroblock_intra» qf w «quantiser_scale» ⌝ }
+{
+    if qf == 0 {
+        return 0;
+    }
+    if macroblock_intra {
+        return (qf * (w as i32) * (quantiser_scale as i32) * 2) / 16;
+    }
+    let sign = if qf < 0 { -1 } else { 1 };
+    ((2 * qf + sign) * (w as i32) * (quantiser_scale as i32)) / 16
+}
+
+// 7.4.4.1.2: one value by method 1, before limiting; or 12 or 13.
+pub fn inverse_quant_method1_coef(
+    qf: i32,
+    w: u8,
+    quantiser_scale: u32,
+    macroblock_intra: bool,
+) -> Value
+    ensures { λ r. ⌜ r ≡ method1Answer qf w «quantiser_scale» «macroblock_intra» ⌝ }
+{
+    if !ranges::Quantiser::fine(quantiser_scale) {
+        return Value::Refused(CoefficientError::Context);
+    }
+    if w == 0 {
+        return Value::Refused(CoefficientError::Context);
+    }
+    if !ranges::Level::fine(qf) {
+        return Value::Refused(CoefficientError::OutOfRange);
+    }
+    Value::Is(method1_coef(qf, w, quantiser_scale, macroblock_intra))
+}
+
+// 7.4.4.2.1, of the magnitude.
+fn magnitude(a: u32, quantiser_scale: u32) -> u32
+    requires { ⌜ (a ≤ 2048) × (1 ≤ «quantiser_scale») × («quantiser_scale» ≤ 511) ⌝ }
+    ensures { λ r. ⌜ (r ≡ magnitude2 a «quantiser_scale») × (r ≤ 2093567) ⌝ }
+{
+    if quantiser_scale % 2 == 1 {
+        return (2 * a + 1) * quantiser_scale;
+    }
+    (2 * a + 1) * quantiser_scale - 1
+}
+
+// 7.4.4.2.1, of a level and a quantiser up to 511.
+fn method2_coef(qf: i32, quantiser_scale: u32) -> i32
+    requires { ⌜ (natAbs qf ≤ 2048) × (1 ≤ «quantiser_scale») × («quantiser_scale» ≤ 511) ⌝ }
+    ensures { λ r. ⌜ r ≡ method2 qf «quantiser_scale» ⌝ }
+{
+    if qf == 0 {
+        return 0;
+    }
+    let m = magnitude(numbers::abs(qf), quantiser_scale) as i32;
+    if qf < 0 { -m } else { m }
+}
+
+// 7.4.4.2.1: one value by method 2, before limiting; or 12 or 13.
+pub fn inverse_quant_method2_coef(qf: i32, quantiser_scale: u32) -> Value
+    ensures { λ r. ⌜ r ≡ method2Answer qf «quantiser_scale» ⌝ }
+{
+    if !ranges::Quantiser::fine(quantiser_scale) {
+        return Value::Refused(CoefficientError::Context);
+    }
+    if !ranges::Level::fine(qf) {
+        return Value::Refused(CoefficientError::OutOfRange);
+    }
+    Value::Is(method2_coef(qf, quantiser_scale))
+}
+
+// 7.4.4.4: a value limited by the depth.
+fn saturate_fprime(value: i32, bits_per_pixel: u32) -> i32
+    requires { ⌜ «bits_per_pixel» ≤ 12 ⌝ }
+    ensures { λ r. ⌜ r ≡ limitedF «bits_per_pixel» value ⌝ }
+{
+    let top = 1i32 << (bits_per_pixel + 3);
+    numbers::clamp(value, -top, top - 1)
+}
+
+// One value of F' by method 1.
+pub(crate) fn value1(qf: i32, w: u8, v: usize, u: usize, ctx: InverseQuantContext) -> i32
+    requires { ⌜ (natAbs qf ≤ 2048) × ContextGood ctx ⌝ }
+    ensures { λ r. ⌜ r ≡ valueOf1 ctx v u qf w ⌝ }
+{
+    if ctx.macroblock_intra && v == 0 && u == 0 {
+        let component = ctx.component;
+        let dc = intra_dc(qf, component, ctx.quantiser_scale, ctx.short_video_header);
+        return saturate_fprime(dc, ctx.bits_per_pixel);
+    }
+    let f = method1_coef(qf, w, ctx.quantiser_scale, ctx.macroblock_intra);
+    saturate_fprime(f, ctx.bits_per_pixel)
+}
+
+// One value of F' by method 2.
+pub(crate) fn value2(qf: i32, v: usize, u: usize, ctx: InverseQuantContext) -> i32
+    requires { ⌜ (natAbs qf ≤ 2048) × ContextGood ctx ⌝ }
+    ensures { λ r. ⌜ r ≡ valueOf2 ctx v u qf ⌝ }
+{
+    if ctx.macroblock_intra && v == 0 && u == 0 {
+        let component = ctx.component;
+        let dc = intra_dc(qf, component, ctx.quantiser_scale, ctx.short_video_header);
+        return saturate_fprime(dc, ctx.bits_per_pixel);
+    }
+    let f = method2_coef(qf, ctx.quantiser_scale);
+    saturate_fprime(f, ctx.bits_per_pixel)
+}
