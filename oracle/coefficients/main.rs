@@ -1,5 +1,5 @@
-// `coefficients` and `inverse_quant` against the original. In the domain both must give the same; outside it Rattle must refuse by 12 or 13, the first that
-// holds, and leave lent memory as it was.
+// `coefficients` and `inverse_quant` against the original. In the domain both must give the same; outside it Rattle must refuse by 12 or
+// 13, the first that holds, and leave lent memory as it was.
 use crate::block::BlockPredictors;
 use crate::common::dice::Dice;
 use crate::common::numbers::{dc_fine, depth_fine, level_fine, quantiser_fine};

@@ -1,5 +1,6 @@
 -- The laws of this crate, each file over those above it.
 pub mod RangeLaws
+pub mod EveryLaws
 pub mod BlockLaws
 pub mod BlockTests
 pub mod ScanLaws

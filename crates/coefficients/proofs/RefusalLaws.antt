@@ -14,18 +14,12 @@ use Rattle.coefficients.specs.declared.predictor.BlockPredictors.{BlockP
 use Rattle.numbers.specs.Every.{every}
 use Rattle.coefficients.specs.Level.{valuesFine, predictorsFine, placesFine, blockFine}
 use Rattle.coefficients.specs.Stages.{PredictorsGood, PlacesGood, LevelsGood}
-use Rattle.numbers.proofs.Tests.{both-true, true-both, and-false}
-use Rattle.numbers.proofs.Every.{every-in, every-fails, every-get}
+use Rattle.numbers.proofs.Tests.{both-true, true-both}
+use Rattle.numbers.proofs.Every.{every-in, every-get}
 use Rattle.coefficients.proofs.RangeLaws.{level-abs, abs-level, difference-abs, abs-difference, dc-abs, quantiser-range}
 use Rattle.coefficients.proofs.BlockTests.{test-at}
 
 -- ---- the places
-
-pub place-refused : (qfs : List ℤ) (k : ℕ) → 1 ≤ k → k < length qfs → levelFine (getD qfs k (pos 0)) ≡ false → placesFine qfs ≡ false
-place-refused [] k l h e = absurd (not-suc-le-zero h)
-place-refused (z ∷ zs) zero l h e = absurd (omega arith)
-place-refused (z ∷ zs) (suc k) l h e =
-    ap (λ (t : Bool). differenceFine z && t) (every-fails levelFine (pos 0) zs k (le-of-suc-le-suc h) e) ∙ and-false (differenceFine z)
 
 pub places-pass : (qfs : List ℤ) → differenceFine (getD qfs 0 (pos 0)) ≡ true → ((i : ℕ) → 1 ≤ i → i < length qfs → levelFine (getD qfs i (pos 0)) ≡ true) → placesFine qfs ≡ true
 places-pass [] e h = true-both e (every-in levelFine (pos 0) [] (λ (i : ℕ) (p : i < 0). absurd (not-suc-le-zero p)))

@@ -120,15 +120,12 @@ pub fn predictors_fine(p: BlockPredictors) -> bool
 fn places_fine(qfs: [i32; 64]) -> bool
     ensures { λ r. ⌜ r ≡ placesFine qfs ⌝ }
 {
-    if !ranges::Difference::fine(qfs[0]) {
-        return false;
-    }
+    let mut fine = ranges::Difference::fine(qfs[0]);
     for k in 1..64 {
-        if !ranges::Level::fine(qfs[k]) {
-            return false;
-        }
+        let level = ranges::Level::fine(qfs[k]);
+        fine = fine & level;
     }
-    true
+    fine
 }
 
 // The levels QF of an intra block out of its 64 places, into `qf`; or 12 or 13, and `qf` as it was.

@@ -195,12 +195,12 @@ fn ac_prediction(qf: i32, qp: u32, qp_x: u32) -> i32
 pub(crate) fn all_levels(values: [i32; 7]) -> bool
     ensures { λ r. ⌜ r ≡ every levelFine values ⌝ }
 {
+    let mut fine = true;
     for k in 0..7 {
-        if !ranges::Level::fine(values[k]) {
-            return false;
-        }
+        let level = ranges::Level::fine(values[k]);
+        fine = fine & level;
     }
-    true
+    fine
 }
 
 // Whether a neighbour's values may be handed in, where it is there.

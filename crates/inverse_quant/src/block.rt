@@ -5,6 +5,7 @@ ghost use Rattle.coefficients.specs.Refusal.{after};
 ghost use Rattle.coefficients.specs.Stages.{LevelsGood};
 ghost use Rattle.inverse_quant.specs.Dequantised.{fPrime1, fPrime2, dequantised1, dequantised2, answer1, answer2};
 ghost use Rattle.inverse_quant.specs.Stages.{ContextGood};
+use crate::coefficient::dc_value;
 use crate::coefficient::value1;
 use crate::coefficient::value2;
 use crate::context::InverseQuantContext;
@@ -15,7 +16,7 @@ use crate::mismatch::mismatch_control;
 use coefficients::CoefficientError;
 use coefficients::Stage;
 
-// F' by method 1.
+// F' by method 1; the DC of an intra block is written last.
 fn f_prime1(qf: [[i32; 8]; 8], w: [[u8; 8]; 8], ctx: InverseQuantContext) -> [[i32; 8]; 8]
     requires { ⌜ LevelsGood qf × ContextGood ctx ⌝ }
     ensures { λ r. ⌜ r ≡ fPrime1 ctx w qf ⌝ }
@@ -23,13 +24,17 @@ fn f_prime1(qf: [[i32; 8]; 8], w: [[u8; 8]; 8], ctx: InverseQuantContext) -> [[i
     let mut out = [[0i32; 8]; 8];
     for v in 0..8 {
         for u in 0..8 {
-            out[v][u] = value1(qf[v][u], w[v][u], v, u, ctx);
+            out[v][u] = value1(qf[v][u], w[v][u], ctx);
         }
     }
+    if !ctx.macroblock_intra {
+        return out;
+    }
+    out[0][0] = dc_value(qf[0][0], ctx);
     out
 }
 
-// F' by method 2.
+// F' by method 2; the DC of an intra block is written last.
 fn f_prime2(qf: [[i32; 8]; 8], ctx: InverseQuantContext) -> [[i32; 8]; 8]
     requires { ⌜ LevelsGood qf × ContextGood ctx ⌝ }
     ensures { λ r. ⌜ r ≡ fPrime2 ctx qf ⌝ }
@@ -37,9 +42,13 @@ fn f_prime2(qf: [[i32; 8]; 8], ctx: InverseQuantContext) -> [[i32; 8]; 8]
     let mut out = [[0i32; 8]; 8];
     for v in 0..8 {
         for u in 0..8 {
-            out[v][u] = value2(qf[v][u], v, u, ctx);
+            out[v][u] = value2(qf[v][u], ctx);
         }
     }
+    if !ctx.macroblock_intra {
+        return out;
+    }
+    out[0][0] = dc_value(qf[0][0], ctx);
     out
 }
 

@@ -2,7 +2,7 @@
 ghost use mathlib.Core.Path.{_≡_};
 ghost use Prim.Native.Nat.{_≤_};
 ghost use lib.IntN.{natAbs};
-ghost use Rattle.inverse_quant.specs.Dequantised.{intraDc, method1, magnitude2, method2, limitedF, valueOf1, valueOf2};
+ghost use Rattle.inverse_quant.specs.Dequantised.{intraDc, method1, magnitude2, method2, limitedF};
 ghost use Rattle.inverse_quant.specs.Stages.{intraDcAnswer, method1Answer, method2Answer, ContextGood};
 use crate::context::InverseQuantContext;
 use codes::DcComponent;
@@ -124,30 +124,30 @@ fn saturate_fprime(value: i32, bits_per_pixel: u32) -> i32
     numbers::clamp(value, -top, top - 1)
 }
 
-// One value of F' by method 1.
-pub(crate) fn value1(qf: i32, w: u8, v: usize, u: usize, ctx: InverseQuantContext) -> i32
+// The DC of an intra block, limited.
+pub(crate) fn dc_value(qf: i32, ctx: InverseQuantContext) -> i32
     requires { ⌜ (natAbs qf ≤ 2048) × ContextGood ctx ⌝ }
-    ensures { λ r. ⌜ r ≡ valueOf1 ctx v u qf w ⌝ }
+    ensures { λ r. ⌜ r ≡ limitedF (ctx .«bits_per_pixel») (intraDc qf (ctx .component) (ctx .«quantiser_scale») (ctx .«short_video_header»)) ⌝ }
 {
-    if ctx.macroblock_intra && v == 0 && u == 0 {
-        let component = ctx.component;
-        let dc = intra_dc(qf, component, ctx.quantiser_scale, ctx.short_video_header);
-        return saturate_fprime(dc, ctx.bits_per_pixel);
-    }
+    let component = ctx.component;
+    let dc = intra_dc(qf, component, ctx.quantiser_scale, ctx.short_video_header);
+    saturate_fprime(dc, ctx.bits_per_pixel)
+}
+
+// One value by method 1, limited.
+pub(crate) fn value1(qf: i32, w: u8, ctx: InverseQuantContext) -> i32
+    requires { ⌜ (natAbs qf ≤ 2048) × ContextGood ctx ⌝ }
+    ensures { λ r. ⌜ r ≡ limitedF (ctx .«bits_per_pixel») (method1 (ctx .«macroblock_intra») qf w (ctx .«quantiser_scale»)) ⌝ }
+{
     let f = method1_coef(qf, w, ctx.quantiser_scale, ctx.macroblock_intra);
     saturate_fprime(f, ctx.bits_per_pixel)
 }
 
-// One value of F' by method 2.
-pub(crate) fn value2(qf: i32, v: usize, u: usize, ctx: InverseQuantContext) -> i32
+// One value by method 2, limited.
+pub(crate) fn value2(qf: i32, ctx: InverseQuantContext) -> i32
     requires { ⌜ (natAbs qf ≤ 2048) × ContextGood ctx ⌝ }
-    ensures { λ r. ⌜ r ≡ valueOf2 ctx v u qf ⌝ }
+    ensures { λ r. ⌜ r ≡ limitedF (ctx .«bits_per_pixel») (method2 qf (ctx .«quantiser_scale»)) ⌝ }
 {
-    if ctx.macroblock_intra && v == 0 && u == 0 {
-        let component = ctx.component;
-        let dc = intra_dc(qf, component, ctx.quantiser_scale, ctx.short_video_header);
-        return saturate_fprime(dc, ctx.bits_per_pixel);
-    }
     let f = method2_coef(qf, ctx.quantiser_scale);
     saturate_fprime(f, ctx.bits_per_pixel)
 }

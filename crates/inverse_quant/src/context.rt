@@ -1,6 +1,7 @@
 // What inverse quantisation takes: the parameters of a block, and the tests of 12 and 13.
 ghost use mathlib.Core.Path.{_≡_};
 ghost use Rattle.numbers.specs.Every.{every};
+ghost use Rattle.ranges.specs.Range.{levelFine};
 ghost use Rattle.coefficients.specs.Level.{blockFine};
 ghost use Rattle.inverse_quant.specs.Dequantised.{nonZero, contextFine};
 use codes::DcComponent;
@@ -24,26 +25,52 @@ pub(crate) fn context_fine(ctx: InverseQuantContext) -> bool
     ranges::Depth::fine(ctx.bits_per_pixel)
 }
 
+// Whether a row of a matrix has no zero.
+fn row_nonzero(row: [u8; 8]) -> bool
+    ensures { λ r. ⌜ r ≡ every nonZero row ⌝ }
+{
+    let mut fine = true;
+    for u in 0..8 {
+        let nonzero = row[u] != 0;
+        fine = fine & nonzero;
+    }
+    fine
+}
+
 // Whether a matrix has no zero.
 pub fn matrix_fine(w: [[u8; 8]; 8]) -> bool
     ensures { λ r. ⌜ r ≡ every (every nonZero) w ⌝ }
 {
-    for k in 0..64 {
-        if w[k / 8][k % 8] == 0 {
-            return false;
-        }
+    let mut fine = true;
+    for v in 0..8 {
+        let row = w[v];
+        let nonzero = row_nonzero(row);
+        fine = fine & nonzero;
     }
-    true
+    fine
+}
+
+// Whether each value of a row is a level.
+fn row_fine(row: [i32; 8]) -> bool
+    ensures { λ r. ⌜ r ≡ every levelFine row ⌝ }
+{
+    let mut fine = true;
+    for u in 0..8 {
+        let level = ranges::Level::fine(row[u]);
+        fine = fine & level;
+    }
+    fine
 }
 
 // Whether a block's every value is a level.
 pub(crate) fn block_fine(qf: [[i32; 8]; 8]) -> bool
     ensures { λ r. ⌜ r ≡ blockFine qf ⌝ }
 {
-    for k in 0..64 {
-        if !ranges::Level::fine(qf[k / 8][k % 8]) {
-            return false;
-        }
+    let mut fine = true;
+    for v in 0..8 {
+        let row = qf[v];
+        let levels = row_fine(row);
+        fine = fine & levels;
     }
-    true
+    fine
 }

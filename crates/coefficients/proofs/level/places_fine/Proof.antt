@@ -1,28 +1,25 @@
--- `coefficients::level::places_fine` meets its contract: the first place holds a difference, and every other before k a level. Assumes nothing.
-use mathlib.Core.Bool.{true}
-use mathlib.Core.Path.{_≡_, sym, ap, _∙_}
-use Prim.Native.Nat.{ℕ, _-_, _≤_, _<_}
+-- `coefficients::level::places_fine` meets its contract, one test a turn: what is told so far, with the tests that are left. Assumes nothing.
+use mathlib.Core.Bool.{Bool, _&&_}
+use mathlib.Core.Path.{_≡_, ap, sym, _∙_}
+use Prim.Native.Nat.{_-_, _≤_}
 use native.Mathlib.Omega.{arith}
-use lib.IntN.{ℤ, pos}
-use lib.ListN.{getD, length}
+use lib.IntN.{pos}
+use lib.ListN.{drop, getD, length}
 use mir.Syntax.{w32}
-use borrow.Author.Count.{below-more}
 use borrow.Kind.Array.{eSInt, good-length}
+use Rattle.numbers.specs.Every.{every}
 use Rattle.numbers.proofs.Words.{held}
-use Rattle.numbers.proofs.Tests.{flag-passes, flag-refuses}
-use Rattle.coefficients.proofs.RefusalLaws.{place-refused, places-pass}
-use Rattle.coefficients.proofs.level.places_fine.Statement.{statement}
 use Rattle.ranges.specs.Range.{differenceFine, levelFine}
+use Rattle.coefficients.specs.Level.{placesFine}
+use Rattle.coefficients.proofs.EveryLaws.{test-done, test-more}
+use Rattle.coefficients.proofs.level.places_fine.Statement.{statement}
 use Rattle.coefficients.proofs.level.places_fine.Tie as tie
 
 abbrev Inv-loop : tie.InvT-loop
-Inv-loop qfs k₀ k = (1 ≤ k) × (k ≤ 64) × ((i : ℕ) → i < k → 1 ≤ i → levelFine (getD qfs i (pos 0)) ≡ true)
+Inv-loop qfs fine₀ k₀ fine k = (1 ≤ k) × (k ≤ 64) × (placesFine qfs ≡ (fine && every levelFine (drop k qfs)))
 
 abbrev μ-loop : tie.MeasureT-loop
-μ-loop qfs k₀ k = 64 - k
-
-places : (s : tie.Start Inv-loop μ-loop) → length (s .args .t1) ≡ 64
-places s = good-length (eSInt w32) 64 (s .args .t1) _ (s .good .0)
+μ-loop qfs fine₀ k₀ fine k = 64 - k
 
 array-copy-out-fine : tie.Need-array-copy-out-fine Inv-loop μ-loop
 array-copy-out-fine c = omega arith
@@ -30,24 +27,11 @@ array-copy-out-fine c = omega arith
 fine-requires : tie.Need-fine-requires Inv-loop μ-loop
 fine-requires c κs = tt
 
--- the first place, and place k, whose tests the flags are
-abbrev first : tie.Start Inv-loop μ-loop → ℤ
-first s = getD (s .args .t1) 0 (pos 0)
-
-abbrev place : tie.In-loop Inv-loop μ-loop → ℤ
-place c = getD (c .before .before .before .before .before .args .t1) (c .before .loop .k) (pos 0)
-
-first-is : (c : tie.After-fine Inv-loop μ-loop) → c .fine .result ≡ differenceFine (first (c .before .before))
-first-is c = c .fine .ensures ∙ ap differenceFine (held (first (c .before .before)) (c .before .fine-arg .given))
-
-place-is : (c : tie.After-fine2 Inv-loop μ-loop) → c .fine2 .result ≡ levelFine (place (c .before .before))
-place-is c = c .fine2 .ensures ∙ ap levelFine (held (place (c .before .before)) (c .before .fine-arg2 .given))
-
-returns : tie.Need-returns Inv-loop μ-loop
-returns c = rw (flag-refuses (first-is (c .before)) (c .if1 .taken))
-
 loop-holds : tie.Need-loop-holds Inv-loop μ-loop
-loop-holds c = (omega arith, omega arith, λ i h l. absurd (omega arith))
+loop-holds c =
+    let qfs = c .before .before .args .t1 in
+    let e = c .fine .ensures ∙ ap differenceFine (held (getD qfs 0 (pos 0)) (c .before .fine-arg .given)) in
+    (omega arith, omega arith, ap (λ (b : Bool). b && every levelFine (drop 1 qfs)) (sym e))
 
 mul-fine : tie.Need-mul-fine Inv-loop μ-loop
 mul-fine c = omega arith
@@ -58,44 +42,31 @@ array-copy-out-fine-2 c = omega arith
 fine-requires-2 : tie.Need-fine-requires-2 Inv-loop μ-loop
 fine-requires-2 c κs = tt
 
-returns-2 : tie.Need-returns-2 Inv-loop μ-loop
-returns-2 c =
-    let s = c .before .before .before .before .before .before .before .before in
-    let l = c .before .before .before .before .loop in
-    sym (place-refused (s .args .t1) (l .k) (l .inv .0) (omega (arith, places s)) (flag-refuses (place-is (c .before)) (c .if2 .taken)))
-
 add-k : tie.Need-add-k Inv-loop μ-loop
 add-k c = omega arith
 
 loop-less : tie.Need-loop-less Inv-loop μ-loop
 loop-less c = omega arith
 
+places : (s : tie.Start Inv-loop μ-loop) → length (s .args .t1) ≡ 64
+places s = good-length (eSInt w32) 64 (s .args .t1) _ (s .good .0)
+
 loop-again : tie.Need-loop-again Inv-loop μ-loop
 loop-again c =
-    (omega arith, omega arith, below-more _ _ (c .before .before .before .before .loop .inv .2) (λ l. flag-passes (place-is (c .before)) (c .if2 .left)))
+    let a = c .before .before .before in
+    let s = a .before .before .before in
+    let z = getD (s .args .t1) (a .loop .k) (pos 0) in (
+      omega arith,
+      omega arith,
+      test-more levelFine (pos 0) (s .args .t1) (placesFine (s .args .t1)) (a .loop .k) (a .loop .fine) (c .fine2 .result) (omega (arith, places s)) (a .loop .inv .2)
+          (c .fine2 .ensures ∙ ap levelFine (held z (c .before .fine-arg2 .given))),
+    )
 
-returns-3 : tie.Need-returns-3 Inv-loop μ-loop
-returns-3 c =
-    let s = c .before .before .before .before .before in
-    sym
-    (places-pass (s .args .t1) (flag-passes (first-is (c .before .before .before)) (c .before .before .if1 .left))
-    (λ i l h. c .before .loop .inv .2 i (omega (arith, places s)) l))
+returns : tie.Need-returns Inv-loop μ-loop
+returns c =
+    let a = c .before in
+    let s = a .before .before .before in
+    test-done levelFine (pos 0) (s .args .t1) (placesFine (s .args .t1)) (a .loop .k) (a .loop .fine) (omega (arith, places s)) (a .loop .inv .2)
 
 pub places-fine-spec : {M : Type 1} → statement M
-places-fine-spec =
-    tie.close
-    (tie.spec
-    Inv-loop
-    μ-loop
-    array-copy-out-fine
-    fine-requires
-    returns
-    loop-holds
-    mul-fine
-    array-copy-out-fine-2
-    fine-requires-2
-    returns-2
-    add-k
-    loop-less
-    loop-again
-    returns-3)
+places-fine-spec = tie.close (tie.spec Inv-loop μ-loop array-copy-out-fine fine-requires loop-holds mul-fine array-copy-out-fine-2 fine-requires-2 add-k loop-less loop-again returns)

@@ -1,44 +1,39 @@
--- `inverse_quant::context::matrix_fine` meets its contract: the first k cells pass, row by row, and the first that fails decides. Assumes nothing.
-use mathlib.Core.Path.{sym}
-use Prim.Native.Nat.{_≤_, _-_}
+-- `inverse_quant::context::matrix_fine` meets its contract, one row a turn: what is told so far, with the rows that are left. Assumes nothing.
+use mathlib.Core.Bool.{_&&_}
+use mathlib.Core.List.{[]}
+use mathlib.Core.Path.{_≡_, refl}
+use Prim.Native.Nat.{_-_, _≤_}
 use native.Mathlib.Omega.{arith}
-use mir.Syntax.{w8}
-use denote.Plain.{UInt}
-use borrow.Author.Tests.{ne-eqb}
+use lib.ListN.{drop, length}
+use Rattle.numbers.specs.Every.{every}
 use Rattle.inverse_quant.specs.Dequantised.{nonZero}
-use Rattle.coefficients.proofs.BlockLaws.{Square, square-owned}
-use Rattle.coefficients.proofs.BlockTests.{Passed, passed-all, passed-more, passed-none, passed-not}
+use Rattle.coefficients.proofs.EveryLaws.{test-done, test-more}
 use Rattle.inverse_quant.proofs.context.matrix_fine.Statement.{statement}
 use Rattle.inverse_quant.proofs.context.matrix_fine.Tie as tie
 
 abbrev Inv-loop : tie.InvT-loop
-Inv-loop w k₀ k = (k ≤ 64) × Passed nonZero 0 w k
+Inv-loop b fine₀ v₀ fine v = (v ≤ 8) × (every (every nonZero) b ≡ (fine && every (every nonZero) (drop v b)))
 
 abbrev μ-loop : tie.MeasureT-loop
-μ-loop w k₀ k = 64 - k
+μ-loop b fine₀ v₀ fine v = 8 - v
 
-square : (s : tie.Start Inv-loop μ-loop) → Square (s .args .t1)
-square s = let g = s .good .0 in square-owned (UInt w8) (s .args .t1) (g .0) (g .1 .0 .1) (g .1 .1)
+eight : (s : tie.Start Inv-loop μ-loop) → length (s .args .t1) ≡ 8
+eight s = s .good .0 .1 .0 .1
 
 loop-holds : tie.Need-loop-holds Inv-loop μ-loop
-loop-holds c = (omega arith, passed-none nonZero 0 (c .args .t1))
+loop-holds c = (omega arith, refl)
 
-mul-if1 : tie.Need-mul-if1 Inv-loop μ-loop
-mul-if1 c = omega arith
+mul-row : tie.Need-mul-row Inv-loop μ-loop
+mul-row c = omega arith
 
-index-1-if1 : tie.Need-index-1-if1 Inv-loop μ-loop
-index-1-if1 c = omega arith
+array-copy-out-row : tie.Need-array-copy-out-row Inv-loop μ-loop
+array-copy-out-row c = omega arith
 
-index-2-if1 : tie.Need-index-2-if1 Inv-loop μ-loop
-index-2-if1 c = omega arith
+row-nonzero-requires : tie.Need-row-nonzero-requires Inv-loop μ-loop
+row-nonzero-requires c κs = tt
 
-returns : tie.Need-returns Inv-loop μ-loop
-returns c =
-    let a = c .before .before .before in
-    sym (passed-not nonZero 0 (a .before .args .t1) (square (a .before)) (a .loop .k) (c .before .before .loop-test .taken) (rw (c .if1 .taken)))
-
-add-k : tie.Need-add-k Inv-loop μ-loop
-add-k c = omega arith
+add-v : tie.Need-add-v Inv-loop μ-loop
+add-v c = omega arith
 
 loop-less : tie.Need-loop-less Inv-loop μ-loop
 loop-less c = omega arith
@@ -46,12 +41,17 @@ loop-less c = omega arith
 loop-again : tie.Need-loop-again Inv-loop μ-loop
 loop-again c =
     let a = c .before .before .before in
-    (omega arith, passed-more nonZero 0 (a .before .args .t1) (a .loop .k) (a .loop .inv .1) (rw (ne-eqb _ 0 (c .if1 .left))))
+    let s = a .before in (
+      omega arith,
+      test-more (every nonZero) [] (s .args .t1) (every (every nonZero) (s .args .t1)) (a .loop .v) (a .loop .fine) (c .row-nonzero .result) (omega (arith, eight s)) (a .loop .inv .1)
+          (c .row-nonzero .ensures),
+    )
 
-returns-2 : tie.Need-returns-2 Inv-loop μ-loop
-returns-2 c =
+returns : tie.Need-returns Inv-loop μ-loop
+returns c =
     let a = c .before in
-    sym (passed-all nonZero 0 (a .before .args .t1) (square (a .before)) (a .loop .k) (c .loop-test .left) (a .loop .inv .1))
+    let s = a .before in
+    test-done (every nonZero) [] (s .args .t1) (every (every nonZero) (s .args .t1)) (a .loop .v) (a .loop .fine) (omega (arith, eight s)) (a .loop .inv .1)
 
 pub matrix-fine-spec : {M : Type 1} → statement M
-matrix-fine-spec = tie.close (tie.spec Inv-loop μ-loop loop-holds mul-if1 index-1-if1 index-2-if1 returns add-k loop-less loop-again returns-2)
+matrix-fine-spec = tie.close (tie.spec Inv-loop μ-loop loop-holds mul-row array-copy-out-row row-nonzero-requires add-v loop-less loop-again returns)
