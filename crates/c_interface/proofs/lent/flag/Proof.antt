@@ -1,0 +1,16 @@
+-- `c_interface::lent::flag` meets its contract. Assumes nothing.
+use mathlib.Core.Path.{refl}
+use Rattle.c_interface.specs.Lent.{flagAt}
+use borrow.Author.Needs.{needs}
+use Rattle.c_interface.proofs.lent.flag.Statement.{statement}
+use Rattle.c_interface.proofs.lent.flag.Tie as tie
+
+shr-result : tie.Need-shr-result
+shr-result c = search needs
+
+returns : tie.Need-returns
+unfolding flagAt
+returns c = refl
+
+pub flag-spec : {M : Type 1} → statement M
+flag-spec = tie.close (tie.spec shr-result returns)

@@ -1,0 +1,3 @@
+-- What the lent numbers of a call mean, and what it leaves in them.
+pub mod Lent
+pub mod Answer
