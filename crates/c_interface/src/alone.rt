@@ -1,4 +1,8 @@
 // A macroblock read alone, with neighbours that are lent.
+ghost use mathlib.Core.Bool.{cond};
+ghost use mathlib.Core.Path.{_≡_};
+ghost use Rattle.c_interface.specs.Answer.{answerAfter, toldAlone};
+ghost use Rattle.c_interface.specs.Calls.{decodedAlone, longEnoughAlone, samplesAfter};
 use bits::Cursor;
 
 // 14 where neighbours, matrix or answer is too short: then nothing is written.
@@ -16,7 +20,11 @@ pub extern "C" fn vaxembro_decode_intra_macroblock(
     matrix: &[u8],
     samples: &mut [i32],
     answer: &mut [usize],
-) -> u32 {
+) -> u32
+    ensures { λ r. ⌜ r ≡ cond (longEnoughAlone (now (neighbours .entry)) (now (matrix .entry)) (now (answer .entry))) (toldAlone (decodedAlone (now («data» .entry)) at «mb_type» cbpy cbpc «quantiser_scale» «bits_per_pixel» flags (now (neighbours .entry)) (now (matrix .entry)) (now (samples .entry))) at .number) 14 ⌝ }
+    ensures samples { λ r. ⌜ now (samples .exit) ≡ cond (longEnoughAlone (now (neighbours .entry)) (now (matrix .entry)) (now (answer .entry))) (samplesAfter (now («data» .entry)) at «mb_type» cbpy cbpc «quantiser_scale» «bits_per_pixel» flags (now (neighbours .entry)) (now (matrix .entry)) (now (samples .entry))) (now (samples .entry)) ⌝ }
+    ensures answer { λ r. ⌜ now (answer .exit) ≡ cond (longEnoughAlone (now (neighbours .entry)) (now (matrix .entry)) (now (answer .entry))) (answerAfter (toldAlone (decodedAlone (now («data» .entry)) at «mb_type» cbpy cbpc «quantiser_scale» «bits_per_pixel» flags (now (neighbours .entry)) (now (matrix .entry)) (now (samples .entry))) at) (now (answer .entry))) (now (answer .entry)) ⌝ }
+{
     if neighbours.len() < 21 {
         return 14;
     }

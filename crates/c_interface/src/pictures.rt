@@ -1,6 +1,12 @@
 // A picture whose state is lent: its opening, and the macroblock that is due.
+ghost use mathlib.Core.Bool.{cond};
+ghost use mathlib.Core.Path.{_≡_};
 ghost use Prim.Native.Nat.{_≤_};
 ghost use lib.ListN.{length};
+ghost use Rattle.picture.specs.Call.{answerOut, samplesOut, storeOut};
+ghost use Rattle.c_interface.specs.Answer.{answerAfter, toldOf};
+ghost use Rattle.c_interface.specs.Calls.{inputBy, longEnough, openedBy, openedNumber, openedState, stateLong, stateOut};
+ghost use Rattle.c_interface.specs.Lent.{pictureOf};
 use bits::Cursor;
 use picture::Picture;
 use picture::PictureDecoded;
@@ -9,6 +15,7 @@ use picture::PictureOpened;
 // The opened picture into the state; a refusal leaves it, and its number is the answer.
 fn opened(state: &mut [u32], o: PictureOpened) -> u32
     requires { ⌜ 5 ≤ length (now state) ⌝ }
+    ensures { λ r. ⌜ (r ≡ openedNumber o) × (now (state .exit) ≡ openedState o (now (state .entry))) ⌝ }
 {
     match o {
         PictureOpened::Refused(e) => e.number(),
@@ -27,7 +34,10 @@ pub extern "C" fn vaxembro_open(
     bits_per_pixel: u32,
     quant_type: u32,
     state: &mut [u32],
-) -> u32 {
+) -> u32
+    ensures { λ r. ⌜ r ≡ cond (stateLong (now (state .entry))) (openedNumber (openedBy width height «bits_per_pixel» «quant_type»)) 14 ⌝ }
+    ensures state { λ r. ⌜ now (state .exit) ≡ cond (stateLong (now (state .entry))) (openedState (openedBy width height «bits_per_pixel» «quant_type») (now (state .entry))) (now (state .entry)) ⌝ }
+{
     if state.len() < 5 {
         return 14;
     }
@@ -38,6 +48,7 @@ pub extern "C" fn vaxembro_open(
 // The picture with one more accepted into the state; a refusal leaves it.
 fn onward(state: &mut [u32], d: PictureDecoded)
     requires { ⌜ 5 ≤ length (now state) ⌝ }
+    ensures { λ _. ⌜ now (state .exit) ≡ stateOut d (now (state .entry)) ⌝ }
 {
     match d {
         PictureDecoded::Refused(_) => {}
@@ -60,7 +71,13 @@ pub extern "C" fn vaxembro_decode_macroblock(
     samples: &mut [i32],
     store: &mut [i32],
     answer: &mut [usize],
-) -> u32 {
+) -> u32
+    ensures { λ r. ⌜ r ≡ cond (longEnough (now (state .entry)) (now (matrix .entry)) (now (answer .entry))) (toldOf (answerOut (pictureOf (now (state .entry))) (inputBy (now («data» .entry)) at «mb_type» cbpy cbpc «quantiser_scale» flags (now (matrix .entry)) (now (samples .entry))) (now (store .entry))) at .number) 14 ⌝ }
+    ensures state { λ r. ⌜ now (state .exit) ≡ cond (longEnough (now (state .entry)) (now (matrix .entry)) (now (answer .entry))) (stateOut (answerOut (pictureOf (now (state .entry))) (inputBy (now («data» .entry)) at «mb_type» cbpy cbpc «quantiser_scale» flags (now (matrix .entry)) (now (samples .entry))) (now (store .entry))) (now (state .entry))) (now (state .entry)) ⌝ }
+    ensures samples { λ r. ⌜ now (samples .exit) ≡ cond (longEnough (now (state .entry)) (now (matrix .entry)) (now (answer .entry))) (samplesOut (pictureOf (now (state .entry))) (inputBy (now («data» .entry)) at «mb_type» cbpy cbpc «quantiser_scale» flags (now (matrix .entry)) (now (samples .entry))) (now (store .entry))) (now (samples .entry)) ⌝ }
+    ensures store { λ r. ⌜ now (store .exit) ≡ cond (longEnough (now (state .entry)) (now (matrix .entry)) (now (answer .entry))) (storeOut (pictureOf (now (state .entry))) (inputBy (now («data» .entry)) at «mb_type» cbpy cbpc «quantiser_scale» flags (now (matrix .entry)) (now (samples .entry))) (now (store .entry))) (now (store .entry)) ⌝ }
+    ensures answer { λ r. ⌜ now (answer .exit) ≡ cond (longEnough (now (state .entry)) (now (matrix .entry)) (now (answer .entry))) (answerAfter (toldOf (answerOut (pictureOf (now (state .entry))) (inputBy (now («data» .entry)) at «mb_type» cbpy cbpc «quantiser_scale» flags (now (matrix .entry)) (now (samples .entry))) (now (store .entry))) at) (now (answer .entry))) (now (answer .entry)) ⌝ }
+{
     if state.len() < 5 {
         return 14;
     }

@@ -1,0 +1,97 @@
+-- `c_interface::alone::vaxembro_decode_intra_macroblock` meets its contract: what the lent numbers say, handed to the decoder. Assumes nothing.
+use mathlib.Core.Path.{_≡_, ap, _∙_}
+use denote.Ref.{now}
+use Rattle.macroblock.specs.Answer.{macroblockAnswer, samplesOut}
+use Rattle.macroblock.specs.declared.decode.MacroblockDecoded.{MacroblockDecoded}
+use Rattle.c_interface.proofs.RoomLaws.{all-long, answer-short, first-short, long-is, matrix-short, short-is}
+use Rattle.c_interface.specs.Answer.{answerAfter, toldAlone}
+use Rattle.c_interface.specs.declared.answer.Told.{Told}
+use borrow.Author.Needs.{needs}
+use Rattle.c_interface.proofs.alone.vaxembro_decode_intra_macroblock.Statement.{statement}
+use Rattle.c_interface.proofs.alone.vaxembro_decode_intra_macroblock.Tie as tie
+
+returns : tie.Need-returns
+returns c = let e = first-short 21 _ _ _ (c .if1 .taken) in (short-is _ e, (short-is _ e, short-is _ e))
+
+returns-2 : tie.Need-returns-2
+returns-2 c = let e = matrix-short 21 _ _ _ (c .before .if1 .left) (c .if2 .taken) in (short-is _ e, (short-is _ e, short-is _ e))
+
+returns-3 : tie.Need-returns-3
+returns-3 c = let e = answer-short 21 _ _ _ (c .before .before .if1 .left) (c .before .if2 .left) (c .if3 .taken) in (short-is _ e, (short-is _ e, short-is _ e))
+
+header-of-requires : tie.Need-header-of-requires
+header-of-requires c κs = search needs
+
+use-intra-dc-vlc-requires : tie.Need-use-intra-dc-vlc-requires
+use-intra-dc-vlc-requires c κs = search needs
+
+reversible-vlc-requires : tie.Need-reversible-vlc-requires
+reversible-vlc-requires c κs = search needs
+
+texture-context-of-requires : tie.Need-texture-context-of-requires
+texture-context-of-requires c κs = search needs
+
+neighbours-of-requires : tie.Need-neighbours-of-requires
+neighbours-of-requires c κs = search needs
+
+matrix-of-requires : tie.Need-matrix-of-requires
+matrix-of-requires c κs = search needs
+
+decode-intra-macroblock-requires : tie.Need-decode-intra-macroblock-requires
+decode-intra-macroblock-requires c κs = search needs
+
+told-alone-requires : tie.Need-told-alone-requires
+told-alone-requires c κs = search needs
+
+tell-requires : tie.Need-tell-requires
+tell-requires c κs = search needs
+
+same-length : tie.Need-same-length
+same-length c = search needs
+
+same-length-2 : tie.Need-same-length-2
+same-length-2 c = search needs
+
+returns-4 : tie.Need-returns-4
+returns-4 c = 
+    let l = c .before .before in
+    let t = l .before .before in
+    let d = t .before .before in
+    let w = d .before .before in
+    let n = w .before in
+    let x = n .before in
+    let v = x .before in
+    let u = v .before in
+    let h = u .before in
+    let g = h .before in
+    let a = g .before .before .before .before .before .before .args in
+    let e = all-long 21 _ _ _ (g .before .before .if1 .left) (g .before .if2 .left) (g .if3 .left) in
+    let r = d .decode-intra-macroblock .ensures in
+    let decoded = r .0 ∙ ? in
+    let told = t .told-alone .ensures ∙ ap (λ (y : MacroblockDecoded). toldAlone y (a .at)) decoded in (
+      long-is _ e (l .tell .ensures .0 ∙ ap (λ (y : Told). y .number) told),
+      (
+        long-is _ e (r .1 .0 ∙ ?),
+        long-is _ e (l .tell .ensures .1 ∙ ap (λ (y : Told). answerAfter y (now (a .answer))) told),
+      ),
+    )
+
+pub vaxembro-decode-intra-macroblock-spec : {M : Type 1} → statement M
+vaxembro-decode-intra-macroblock-spec =
+    tie.close
+    (tie.spec
+    returns
+    returns-2
+    returns-3
+    header-of-requires
+    use-intra-dc-vlc-requires
+    reversible-vlc-requires
+    texture-context-of-requires
+    neighbours-of-requires
+    matrix-of-requires
+    decode-intra-macroblock-requires
+    told-alone-requires
+    tell-requires
+    same-length
+    same-length-2
+    returns-4)
