@@ -4,7 +4,7 @@ ghost use mathlib.Core.Path.{_≡_};
 ghost use Prim.Native.Nat.{_<_, _≤_};
 ghost use lib.ListN.{length};
 ghost use Rattle.neighbours.specs.Record.{quantiserOf, sevenFrom};
-ghost use Rattle.c_interface.specs.Lent.{contextBy, dcCoded, flagAt, headerBy, matrixOf, neighboursOf, pictureOf, reversible, rounding, stateAfter, textureContextBy, there, typeOf};
+ghost use Rattle.c_interface.specs.Lent.{acPred, alternateScan, contextBy, dcCoded, flagAt, headerBy, matrixOf, methodOne, mismatchExempt, neighboursOf, notCoded, pictureOf, reversible, rounding, stateAfter, textureContextBy, there, typeOf};
 use block::MacroblockTextureContext;
 use coefficients::BlockPredictors;
 use idct::HalfIntegerRounding;
@@ -19,6 +19,57 @@ fn flag(flags: u32, k: u32) -> bool
     ensures { λ r. ⌜ r ≡ flagAt flags k ⌝ }
 {
     (flags >> k) % 2 == 1
+}
+
+fn not_coded(flags: u32) -> bool
+    ensures { λ r. ⌜ r ≡ notCoded flags ⌝ }
+{
+    flag(flags, 0)
+}
+
+fn ac_pred_flag(flags: u32) -> bool
+    ensures { λ r. ⌜ r ≡ acPred flags ⌝ }
+{
+    flag(flags, 1)
+}
+
+fn alternate_vertical_scan(flags: u32) -> bool
+    ensures { λ r. ⌜ r ≡ alternateScan flags ⌝ }
+{
+    flag(flags, 2)
+}
+
+fn intra_mismatch_exempt(flags: u32) -> bool
+    ensures { λ r. ⌜ r ≡ mismatchExempt flags ⌝ }
+{
+    flag(flags, 3)
+}
+
+fn rounding_of(flags: u32) -> HalfIntegerRounding
+    ensures { λ r. ⌜ r ≡ rounding flags ⌝ }
+{
+    if flag(flags, 4) {
+        return HalfIntegerRounding::ToEven;
+    }
+    HalfIntegerRounding::AwayFromZero
+}
+
+pub(crate) fn use_intra_dc_vlc(flags: u32) -> bool
+    ensures { λ r. ⌜ r ≡ dcCoded flags ⌝ }
+{
+    flag(flags, 5)
+}
+
+pub(crate) fn reversible_vlc(flags: u32) -> bool
+    ensures { λ r. ⌜ r ≡ reversible flags ⌝ }
+{
+    flag(flags, 6)
+}
+
+fn method_one(flags: u32) -> bool
+    ensures { λ r. ⌜ r ≡ methodOne flags ⌝ }
+{
+    flag(flags, 7)
 }
 
 // 1 to 5; no other number is a type.
@@ -43,36 +94,15 @@ fn type_of(mb_type: u32) -> DerivedMbType
     DerivedMbType::Missing
 }
 
-fn rounding_of(flags: u32) -> HalfIntegerRounding
-    ensures { λ r. ⌜ r ≡ rounding flags ⌝ }
-{
-    if flag(flags, 4) {
-        return HalfIntegerRounding::ToEven;
-    }
-    HalfIntegerRounding::AwayFromZero
-}
-
-pub(crate) fn use_intra_dc_vlc(flags: u32) -> bool
-    ensures { λ r. ⌜ r ≡ dcCoded flags ⌝ }
-{
-    flag(flags, 5)
-}
-
-pub(crate) fn reversible_vlc(flags: u32) -> bool
-    ensures { λ r. ⌜ r ≡ reversible flags ⌝ }
-{
-    flag(flags, 6)
-}
-
 pub(crate) fn header_of(mb_type: u32, cbpy: u8, cbpc: u8, flags: u32) -> MacroblockHeader
     ensures { λ r. ⌜ r ≡ headerBy «mb_type» cbpy cbpc flags ⌝ }
 {
     let kind = type_of(mb_type);
     MacroblockHeader {
-        not_coded: flag(flags, 0),
+        not_coded: not_coded(flags),
         mb_type: kind,
         cbpc,
-        ac_pred_flag: flag(flags, 1),
+        ac_pred_flag: ac_pred_flag(flags),
         cbpy,
     }
 }
@@ -84,9 +114,9 @@ pub(crate) fn context_of(quantiser_scale: u32, flags: u32) -> MacroblockContext
     let idct_rounding = rounding_of(flags);
     MacroblockContext {
         quantiser_scale,
-        ac_pred_flag: flag(flags, 1),
-        alternate_vertical_scan: flag(flags, 2),
-        intra_mismatch_exempt: flag(flags, 3),
+        ac_pred_flag: ac_pred_flag(flags),
+        alternate_vertical_scan: alternate_vertical_scan(flags),
+        intra_mismatch_exempt: intra_mismatch_exempt(flags),
         idct_rounding,
         use_intra_dc_vlc: use_intra_dc_vlc(flags),
         reversible_vlc: reversible_vlc(flags),
@@ -105,10 +135,10 @@ pub(crate) fn texture_context_of(
     MacroblockTextureContext {
         quantiser_scale,
         bits_per_pixel,
-        quant_type: flag(flags, 7),
-        ac_pred_flag: flag(flags, 1),
-        alternate_vertical_scan: flag(flags, 2),
-        intra_mismatch_exempt: flag(flags, 3),
+        quant_type: method_one(flags),
+        ac_pred_flag: ac_pred_flag(flags),
+        alternate_vertical_scan: alternate_vertical_scan(flags),
+        intra_mismatch_exempt: intra_mismatch_exempt(flags),
         idct_rounding,
     }
 }

@@ -1,14 +1,26 @@
 -- `c_interface::alone::vaxembro_decode_intra_macroblock` meets its contract: what the lent numbers say, handed to the decoder. Assumes nothing.
+use mathlib.Core.Bool.{Bool}
+use mathlib.Core.List.{List}
 use mathlib.Core.Path.{_≡_, ap, _∙_}
+use Prim.Native.Nat.{ℕ}
+use borrow.Author.Needs.{needs}
 use denote.Ref.{now}
+use Rattle.coefficients.specs.declared.predictor.BlockPredictors.{BlockPredictors}
+use Rattle.block.specs.declared.context.MacroblockTextureContext.{MacroblockTextureContext}
 use Rattle.macroblock.specs.Answer.{macroblockAnswer, samplesOut}
 use Rattle.macroblock.specs.declared.decode.MacroblockDecoded.{MacroblockDecoded}
-use Rattle.c_interface.proofs.RoomLaws.{all-long, answer-short, first-short, long-is, matrix-short, short-is}
+use Rattle.macroblock.specs.declared.header.MacroblockHeader.{MacroblockHeader}
 use Rattle.c_interface.specs.Answer.{answerAfter, toldAlone}
 use Rattle.c_interface.specs.declared.answer.Told.{Told}
-use borrow.Author.Needs.{needs}
+use Rattle.c_interface.proofs.RoomLaws.{all-long, answer-short, first-short, long-is, matrix-short, short-is}
 use Rattle.c_interface.proofs.alone.vaxembro_decode_intra_macroblock.Statement.{statement}
 use Rattle.c_interface.proofs.alone.vaxembro_decode_intra_macroblock.Tie as tie
+
+-- what each lent number says, put in its place
+all-is : {A : Type 0} (f : MacroblockHeader → Bool → Bool → MacroblockTextureContext → BlockPredictors → List (List ℕ) → A)
+    {h h′ : MacroblockHeader} {u u′ v v′ : Bool} {x x′ : MacroblockTextureContext} {n n′ : BlockPredictors} {w w′ : List (List ℕ)}
+    → h ≡ h′ → u ≡ u′ → v ≡ v′ → x ≡ x′ → n ≡ n′ → w ≡ w′ → f h u v x n w ≡ f h′ u′ v′ x′ n′ w′
+all-is f a b c d e g = λ i. f (a i) (b i) (c i) (d i) (e i) (g i)
 
 returns : tie.Need-returns
 returns c = let e = first-short 21 _ _ _ (c .if1 .taken) in (short-is _ e, (short-is _ e, short-is _ e))
@@ -53,7 +65,7 @@ same-length-2 : tie.Need-same-length-2
 same-length-2 c = search needs
 
 returns-4 : tie.Need-returns-4
-returns-4 c = 
+returns-4 c =
     let l = c .before .before in
     let t = l .before .before in
     let d = t .before .before in
@@ -65,13 +77,15 @@ returns-4 c =
     let h = u .before in
     let g = h .before in
     let a = g .before .before .before .before .before .before .args in
+    let bytes = now (a .«data») in
+    let samples = now (a .samples) in
     let e = all-long 21 _ _ _ (g .before .before .if1 .left) (g .before .if2 .left) (g .if3 .left) in
     let r = d .decode-intra-macroblock .ensures in
-    let decoded = r .0 ∙ ? in
+    let decoded = r .0 ∙ all-is (λ (i : MacroblockHeader) (j k : Bool) (o : MacroblockTextureContext) (q : BlockPredictors) (m : List (List ℕ)). macroblockAnswer bytes (a .at) i j k o q m samples) (h .header-of .ensures) (u .use-intra-dc-vlc .ensures) (v .reversible-vlc .ensures) (x .texture-context-of .ensures) (n .neighbours-of .ensures) (w .matrix-of .ensures) in
     let told = t .told-alone .ensures ∙ ap (λ (y : MacroblockDecoded). toldAlone y (a .at)) decoded in (
       long-is _ e (l .tell .ensures .0 ∙ ap (λ (y : Told). y .number) told),
       (
-        long-is _ e (r .1 .0 ∙ ?),
+        long-is _ e (r .1 .0 ∙ all-is (λ (i : MacroblockHeader) (j k : Bool) (o : MacroblockTextureContext) (q : BlockPredictors) (m : List (List ℕ)). samplesOut bytes (a .at) i j k o q m samples) (h .header-of .ensures) (u .use-intra-dc-vlc .ensures) (v .reversible-vlc .ensures) (x .texture-context-of .ensures) (n .neighbours-of .ensures) (w .matrix-of .ensures)),
         long-is _ e (l .tell .ensures .1 ∙ ap (λ (y : Told). answerAfter y (now (a .answer))) told),
       ),
     )

@@ -2,11 +2,11 @@
 use mathlib.Core.List.{[], _∷_}
 use mathlib.Core.Path.{refl}
 use native.Mathlib.Omega.{arith}
+use borrow.Author.Needs.{needs}
 use denote.Ref.{now}
 use lib.ListN.{length-set}
 use lib.Seq.{sets-eq}
 use Rattle.c_interface.specs.Answer.{answerAfter}
-use borrow.Author.Needs.{needs}
 use Rattle.c_interface.proofs.answer.tell.Statement.{statement}
 use Rattle.c_interface.proofs.answer.tell.Tie as tie
 

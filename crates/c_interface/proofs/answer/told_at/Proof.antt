@@ -1,7 +1,7 @@
 -- `c_interface::answer::told_at` meets its contract. Assumes nothing.
+use borrow.Author.Needs.{needs}
 use borrow.Author.Tests.{le-leb, lt-leb}
 use Rattle.c_interface.specs.Answer.{toldAt}
-use borrow.Author.Needs.{needs}
 use Rattle.c_interface.proofs.answer.told_at.Statement.{statement}
 use Rattle.c_interface.proofs.answer.told_at.Tie as tie
 

@@ -1,7 +1,7 @@
 -- `c_interface::lent::flag` meets its contract. Assumes nothing.
 use mathlib.Core.Path.{refl}
-use Rattle.c_interface.specs.Lent.{flagAt}
 use borrow.Author.Needs.{needs}
+use Rattle.c_interface.specs.Lent.{flagAt}
 use Rattle.c_interface.proofs.lent.flag.Statement.{statement}
 use Rattle.c_interface.proofs.lent.flag.Tie as tie
 

@@ -1,21 +1,22 @@
 -- `c_interface::lent::header_of` meets its contract. Assumes nothing.
-use Rattle.c_interface.specs.Lent.{headerBy}
 use borrow.Author.Needs.{needs}
+use Rattle.c_interface.specs.Lent.{headerBy}
 use Rattle.c_interface.proofs.lent.header_of.Statement.{statement}
 use Rattle.c_interface.proofs.lent.header_of.Tie as tie
 
 type-of-requires : tie.Need-type-of-requires
 type-of-requires c κs = search needs
 
-flag-requires : tie.Need-flag-requires
-flag-requires c κs = search needs
+not-coded-requires : tie.Need-not-coded-requires
+not-coded-requires c κs = search needs
 
-flag-requires-2 : tie.Need-flag-requires-2
-flag-requires-2 c κs = search needs
+ac-pred-flag-requires : tie.Need-ac-pred-flag-requires
+ac-pred-flag-requires c κs = search needs
 
 returns : tie.Need-returns
 unfolding headerBy
-returns c = rw (c .flag2 .ensures, c .before .flag .ensures, c .before .before .type-of .ensures)
+returns c = rw (c .ac-pred-flag .ensures, c .before .not-coded .ensures, c .before .before .type-of .ensures)
 
 pub header-of-spec : {M : Type 1} → statement M
-header-of-spec = tie.close (tie.spec type-of-requires flag-requires flag-requires-2 returns)
+header-of-spec =
+    tie.close (tie.spec type-of-requires not-coded-requires ac-pred-flag-requires returns)

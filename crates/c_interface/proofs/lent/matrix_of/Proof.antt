@@ -5,8 +5,8 @@ use Prim.Native.Nat.{ℕ, _*_, _+_, _-_, _<_, _≤_}
 use native.Mathlib.Omega.{arith}
 use denote.Ref.{now}
 use lib.ListN.{getD}
-use Rattle.numbers.specs.Grid.{build}
 use Rattle.numbers.proofs.Fill.{rows, filled, rows-none, rows-all, row-begins, row-ends, fill-more}
+use Rattle.numbers.specs.Grid.{build}
 use Rattle.c_interface.specs.Lent.{matrixOf}
 use Rattle.c_interface.proofs.lent.matrix_of.Statement.{statement}
 use Rattle.c_interface.proofs.lent.matrix_of.Tie as tie

@@ -1,12 +1,12 @@
 -- `c_interface::lent::neighbours_of` meets its contract. Assumes nothing.
 use mathlib.Core.Path.{_≡_, ap, _∙_}
+use borrow.Author.Needs.{needs}
 use denote.Ref.{now}
 use lib.IntN.{pos}
 use lib.ListN.{getD}
 use Rattle.numbers.proofs.Words.{held}
 use Rattle.neighbours.specs.Record.{quantiserOf}
 use Rattle.c_interface.specs.Lent.{neighboursOf, there}
-use borrow.Author.Needs.{needs}
 use Rattle.c_interface.proofs.lent.neighbours_of.Statement.{statement}
 use Rattle.c_interface.proofs.lent.neighbours_of.Tie as tie
 

@@ -1,7 +1,7 @@
 -- `c_interface::lent::picture_of` meets its contract. Assumes nothing.
 use mathlib.Core.Path.{refl}
-use Rattle.c_interface.specs.Lent.{pictureOf}
 use borrow.Author.Needs.{needs}
+use Rattle.c_interface.specs.Lent.{pictureOf}
 use Rattle.c_interface.proofs.lent.picture_of.Statement.{statement}
 use Rattle.c_interface.proofs.lent.picture_of.Tie as tie
 

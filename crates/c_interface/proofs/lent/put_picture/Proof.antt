@@ -4,11 +4,11 @@ use mathlib.Core.List.{List, [], _∷_}
 use mathlib.Core.Path.{ap, _∙_}
 use Prim.Native.Nat.{ℕ}
 use native.Mathlib.Omega.{arith}
+use borrow.Author.Needs.{needs}
 use denote.Ref.{now}
 use lib.ListN.{length-set, set}
 use lib.Seq.{sets-eq}
 use Rattle.c_interface.specs.Lent.{stateAfter}
-use borrow.Author.Needs.{needs}
 use Rattle.c_interface.proofs.lent.put_picture.Statement.{statement}
 use Rattle.c_interface.proofs.lent.put_picture.Tie as tie
 

@@ -1,7 +1,7 @@
 -- `c_interface::lent::rounding_of` meets its contract. Assumes nothing.
 use mathlib.Core.Path.{sym, _∙_}
-use Rattle.c_interface.specs.Lent.{rounding}
 use borrow.Author.Needs.{needs}
+use Rattle.c_interface.specs.Lent.{rounding}
 use Rattle.c_interface.proofs.lent.rounding_of.Statement.{statement}
 use Rattle.c_interface.proofs.lent.rounding_of.Tie as tie
 

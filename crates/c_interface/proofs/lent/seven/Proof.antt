@@ -7,8 +7,8 @@ use borrow.Author.Needs.{needs}
 use denote.Ref.{now}
 use lib.IntN.{pos, ℤ}
 use lib.ListN.{getD}
-use Rattle.numbers.specs.Grid.{build}
 use Rattle.numbers.proofs.Fill.{part, cells-none, cells-more, cells-all}
+use Rattle.numbers.specs.Grid.{build}
 use Rattle.c_interface.proofs.lent.seven.Statement.{statement}
 use Rattle.c_interface.proofs.lent.seven.Tie as tie
 

@@ -1,9 +1,9 @@
 -- `c_interface::pictures::onward` meets its contract. Assumes nothing.
 use mathlib.Core.Path.{ap, sym, _∙_}
+use borrow.Author.Needs.{needs}
 use denote.Ref.{now}
 use Rattle.picture.specs.declared.call.PictureDecoded.{PictureDecoded}
 use Rattle.c_interface.specs.Calls.{stateOut}
-use borrow.Author.Needs.{needs}
 use Rattle.c_interface.proofs.pictures.onward.Statement.{statement}
 use Rattle.c_interface.proofs.pictures.onward.Tie as tie
 
@@ -23,7 +23,7 @@ same-length : tie.Need-same-length
 same-length c = search needs
 
 returns-2 : tie.Need-returns-2
-returns-2 c = 
+returns-2 c =
     let p = c .before .before in
     let d = p .before .before .before in
     p .put-picture .ensures ∙ ap (λ (x : PictureDecoded). stateOut x (now (d .before .before .before .args .state))) (sym (d .d .given .1))

@@ -1,9 +1,9 @@
 -- `c_interface::pictures::opened` meets its contract. Assumes nothing.
 use mathlib.Core.Path.{ap, sym, _∙_}
+use borrow.Author.Needs.{needs}
 use denote.Ref.{now}
 use Rattle.picture.specs.declared.picture.PictureOpened.{PictureOpened}
 use Rattle.c_interface.specs.Calls.{openedNumber, openedState}
-use borrow.Author.Needs.{needs}
 use Rattle.c_interface.proofs.pictures.opened.Statement.{statement}
 use Rattle.c_interface.proofs.pictures.opened.Tie as tie
 
@@ -26,7 +26,7 @@ same-length : tie.Need-same-length
 same-length c = search needs
 
 returns-2 : tie.Need-returns-2
-returns-2 c = 
+returns-2 c =
     let p = c .before .before in
     let o = p .before .before .before in
     let e = sym (o .o2 .given .1) in

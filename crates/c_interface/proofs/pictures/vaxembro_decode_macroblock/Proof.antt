@@ -2,22 +2,22 @@
 use mathlib.Core.List.{List}
 use mathlib.Core.Path.{_≡_, ap, ap₂, _∙_}
 use Prim.Native.Nat.{ℕ}
+use borrow.Author.Needs.{needs}
 use denote.Ref.{now}
 use lib.IntN.{ℤ}
-use lib.ListN.{length}
 use Rattle.macroblock.specs.declared.header.MacroblockHeader.{MacroblockHeader}
 use Rattle.picture.specs.Call.{Input, answerOut, given, samplesOut, storeOut}
 use Rattle.picture.specs.declared.call.PictureDecoded.{PictureDecoded}
 use Rattle.picture.specs.declared.picture.MacroblockContext.{MacroblockContext}
 use Rattle.picture.specs.declared.picture.Picture.{Picture}
-use Rattle.c_interface.proofs.RoomLaws.{all-long, answer-short, first-short, long-is, matrix-short, short-is}
 use Rattle.c_interface.specs.Answer.{answerAfter, toldOf}
 use Rattle.c_interface.specs.Calls.{stateOut}
 use Rattle.c_interface.specs.declared.answer.Told.{Told}
-use borrow.Author.Needs.{needs}
+use Rattle.c_interface.proofs.RoomLaws.{all-long, answer-short, first-short, long-is, matrix-short, short-is}
 use Rattle.c_interface.proofs.pictures.vaxembro_decode_macroblock.Statement.{statement}
 use Rattle.c_interface.proofs.pictures.vaxembro_decode_macroblock.Tie as tie
 
+-- what each lent number says, put in its place
 given-is : (d : List ℕ) (at : ℕ) (s : List ℤ) {h h′ : MacroblockHeader} {m m′ : MacroblockContext} {w w′ : List (List ℕ)} → h ≡ h′ → m ≡ m′ → w ≡ w′ → given d at h m w s ≡ given d at h′ m′ w′ s
 given-is d at s e f g = λ i. given d at (e i) (f i) (g i) s
 
@@ -67,7 +67,7 @@ same-length-4 : tie.Need-same-length-4
 same-length-4 c = search needs
 
 returns-4 : tie.Need-returns-4
-returns-4 c = 
+returns-4 c =
     let l = c .before .before in
     let t = l .before .before in
     let o = t .before .before .before in

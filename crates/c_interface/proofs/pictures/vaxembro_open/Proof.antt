@@ -1,11 +1,11 @@
 -- `c_interface::pictures::vaxembro_open` meets its contract. Assumes nothing.
 use mathlib.Core.Path.{ap, _∙_}
-use denote.Ref.{now}
-use borrow.Author.Tests.{le-leb, lt-leb}
-use Rattle.picture.specs.declared.picture.PictureOpened.{PictureOpened}
-use Rattle.c_interface.proofs.RoomLaws.{long-is, short-is}
-use Rattle.c_interface.specs.Calls.{openedNumber, openedState, stateLong}
 use borrow.Author.Needs.{needs}
+use borrow.Author.Tests.{le-leb, lt-leb}
+use denote.Ref.{now}
+use Rattle.picture.specs.declared.picture.PictureOpened.{PictureOpened}
+use Rattle.c_interface.specs.Calls.{openedNumber, openedState, stateLong}
+use Rattle.c_interface.proofs.RoomLaws.{long-is, short-is}
 use Rattle.c_interface.proofs.pictures.vaxembro_open.Statement.{statement}
 use Rattle.c_interface.proofs.pictures.vaxembro_open.Tie as tie
 
