@@ -40,7 +40,8 @@ offered() {
 
 # The driver (main.rs, or the file named) over that library, if there is one, and the original, as $work/NAME. The original's modules
 # are as they are, but for the private function, which is made visible; what they lack is common/missing.rs. `more` names modules that
-# stand in $work; `checks`, where it is set, stands for the flags that make the original stop at an overflow or an assertion.
+# stand in $work; `checks`, where it is set, stands for the flags that make the original stop at an overflow or an assertion; `with`
+# holds more flags.
 driven() {
     sed 's/^fn decode_intra_block_tail(/pub &/' "$sources/block.rs" >"$work/block.rs"
     {
@@ -53,5 +54,5 @@ driven() {
         printf '#[path = "%s/%s"]\nmod driver;\nfn main() {\n    driver::main()\n}\n' "$here" "${2:-main.rs}"
     } >"$work/main.rs"
     # shellcheck disable=SC2086
-    quietly rustc -O ${checks--C overflow-checks=on -C debug-assertions=on} --edition 2024 -A warnings -o "$work/$1" "$work/main.rs" ${library:+-C link-arg="$library"}
+    quietly rustc -O ${checks--C overflow-checks=on -C debug-assertions=on} --edition 2024 -A warnings ${with:-} -o "$work/$1" "$work/main.rs" ${library:+-C link-arg="$library"}
 }

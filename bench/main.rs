@@ -1,0 +1,219 @@
+// How long a macroblock takes, alone and in a picture of 45 by 36, beside the original's; both decode the same bits into one buffer.
+use crate::bitreader::BitReader;
+use crate::block::{self, MacroblockTextureContext};
+use crate::common::bits::{Bits, bytes_of, push};
+use crate::common::dice::Dice;
+use crate::common::header::Header;
+use crate::common::sentence::{self, component};
+use crate::idct::HalfIntegerRounding;
+use crate::texture::{TcoefTable, tcoef_table};
+use layer::Layer;
+use std::hint::black_box;
+use std::time::Instant;
+use vaxembro::{Context, Matrix, Method, Neighbours, Picture, STORE, Samples};
+
+#[path = "layer.rs"]
+mod layer;
+
+const DEPTH: u32 = 8;
+const QUANTISER: u32 = 8;
+const WIDTH: u32 = 45;
+const HEIGHT: u32 = 36;
+// How many macroblocks are timed together: few, so that a busy machine leaves some round of them alone.
+const CHUNK: usize = 20;
+
+// Headers of intra macroblocks, and their bits one after the other.
+struct Stream {
+    headers: Vec<Header>,
+    data: Vec<u8>,
+}
+
+impl Stream {
+    fn drawn(dice: &mut Dice, macroblocks: usize, events: usize) -> Stream {
+        let (mut headers, mut bits, mut data) = (Vec::new(), Bits::new(), Vec::new());
+        for _ in 0..macroblocks {
+            let pattern = if events == 0 { 0 } else { 63 };
+            headers.push(Header {
+                mb_type: 4,
+                ..Header::intra(dice, pattern)
+            });
+            for i in 0..6 {
+                sentence::dc_part(dice, &mut bits, component(i >= 4), Some(6));
+                list(dice, &mut bits, events);
+            }
+        }
+        let rest = (8 - bits.len() % 8) % 8;
+        push(&mut bits, 0, rest);
+        bytes_of(&mut data, &bits, 0, 0);
+        Stream { headers, data }
+    }
+}
+
+// So many events after a DC part. A code comes up about as often as its length makes it: with probability 1/2^length.
+fn list(dice: &mut Dice, bits: &mut Bits, events: usize) {
+    let rows = tcoef_table(TcoefTable::Intra);
+    let mut place = 1;
+    for left in (0..events).rev() {
+        let most = if events > 40 { 0 } else { (63 - place - left).min(4) };
+        let row = loop {
+            let row = rows[dice.below(rows.len())];
+            let fits = (row.2 == 1) == (left == 0) && usize::from(row.3) <= most;
+            if fits && dice.below(1 << (row.1.max(3) - 3).min(8)) == 0 {
+                break row;
+            }
+        };
+        push(bits, row.0.into(), row.1.into());
+        push(bits, dice.next(), 1);
+        place += usize::from(row.3) + 1;
+    }
+}
+
+// A way to decode a whole stream: what is done with each macroblock's samples is handed in.
+trait Decoder {
+    fn decode(&mut self, stream: &Stream, each: &mut dyn FnMut(&mut Samples));
+}
+
+struct OursAlone(Method);
+struct OriginalAlone(MacroblockTextureContext);
+struct OursInPicture(Method);
+struct OriginalInPicture(MacroblockTextureContext);
+
+fn ours(h: &Header, in_picture: bool) -> (vaxembro::Header, Context) {
+    let mut context = Context::new(QUANTISER);
+    context.ac_pred_flag = in_picture && h.ac_pred_flag;
+    (vaxembro::Header::intra(h.cbpy, h.cbpc), context)
+}
+
+fn original(method: Method) -> MacroblockTextureContext {
+    MacroblockTextureContext {
+        quantiser_scale: QUANTISER,
+        bits_per_pixel: DEPTH,
+        quant_type: method == Method::One,
+        ac_pred_flag: false,
+        alternate_vertical_scan: false,
+        intra_mismatch_exempt: false,
+        idct_rounding: HalfIntegerRounding::AwayFromZero,
+    }
+}
+
+impl Decoder for OursAlone {
+    fn decode(&mut self, stream: &Stream, each: &mut dyn FnMut(&mut Samples)) {
+        let (neighbours, matrix) = (Neighbours::outside(DEPTH, QUANTISER), Matrix::default());
+        let (mut at, mut samples) = (0, [0; 384]);
+        for h in &stream.headers {
+            let (header, context) = ours(h, false);
+            let decoded =
+                vaxembro::decode_intra_macroblock(&stream.data, at, header, context, DEPTH, self.0, &neighbours, &matrix, &mut samples);
+            at = decoded.expect("a macroblock").position;
+            each(&mut samples);
+        }
+    }
+}
+
+impl Decoder for OriginalAlone {
+    fn decode(&mut self, stream: &Stream, each: &mut dyn FnMut(&mut Samples)) {
+        let predictors = block::BlockPredictors::outside(DEPTH, QUANTISER);
+        let (mut br, mut samples) = (BitReader::new(&stream.data), [0; 384]);
+        for h in &stream.headers {
+            let matrix = &block::DEFAULT_INTRA_QUANT_MATRIX;
+            let one = block::decode_intra_macroblock(&mut br, &h.original(), self.0, predictors, matrix).expect("a macroblock");
+            samples[..256].copy_from_slice(one.luma.as_flattened());
+            samples[256..320].copy_from_slice(one.cb.as_flattened());
+            samples[320..].copy_from_slice(one.cr.as_flattened());
+            each(&mut samples);
+        }
+    }
+}
+
+impl Decoder for OursInPicture {
+    fn decode(&mut self, stream: &Stream, each: &mut dyn FnMut(&mut Samples)) {
+        let mut store = [0; STORE * WIDTH as usize];
+        let mut picture = Picture::open(WIDTH, HEIGHT, DEPTH, self.0, &mut store).expect("a picture");
+        let (matrix, mut at, mut samples) = (Matrix::default(), 0, [0; 384]);
+        for h in &stream.headers {
+            let (header, context) = ours(h, true);
+            let decoded = picture.decode_macroblock(&stream.data, at, header, context, &matrix, &mut samples);
+            at = decoded.expect("a macroblock").position;
+            each(&mut samples);
+        }
+    }
+}
+
+impl Decoder for OriginalInPicture {
+    fn decode(&mut self, stream: &Stream, each: &mut dyn FnMut(&mut Samples)) {
+        let mut layer = Layer::new(WIDTH as usize, DEPTH);
+        let (mut br, mut samples) = (BitReader::new(&stream.data), [0; 384]);
+        for (n, h) in stream.headers.iter().enumerate() {
+            let context = MacroblockTextureContext {
+                ac_pred_flag: h.ac_pred_flag,
+                ..self.0
+            };
+            layer.decode(&mut br, n, h, context, &mut samples);
+            each(&mut samples);
+        }
+    }
+}
+
+fn all_samples(decoder: &mut dyn Decoder, stream: &Stream) -> Vec<Samples> {
+    let mut all = Vec::new();
+    decoder.decode(stream, &mut |samples| all.push(*samples));
+    all
+}
+
+// One round; the best time so far of every CHUNK macroblocks, in nanoseconds.
+fn once(decoder: &mut dyn Decoder, stream: &Stream, best: &mut [f64]) {
+    let (mut n, mut start) = (0, Instant::now());
+    decoder.decode(stream, &mut |samples| {
+        black_box(samples);
+        n += 1;
+        if n % CHUNK == 0 {
+            let now = Instant::now();
+            let chunk = &mut best[n / CHUNK - 1];
+            *chunk = chunk.min((now - start).as_nanos() as f64);
+            start = now;
+        }
+    });
+}
+
+// Many rounds of each side, by turns.
+fn beside(name: &str, sides: [&mut dyn Decoder; 2], stream: &Stream, rounds: usize) {
+    let [ours, original] = sides;
+    assert!(all_samples(ours, stream) == all_samples(original, stream), "{name}: samples differ");
+    let chunks = stream.headers.len() / CHUNK;
+    let mut best = [vec![f64::MAX; chunks], vec![f64::MAX; chunks]];
+    for _ in 0..rounds {
+        once(ours, stream, &mut best[0]);
+        once(original, stream, &mut best[1]);
+    }
+    let [ours, original] = best.map(|chunks| chunks.iter().sum::<f64>() / (chunks.len() * CHUNK) as f64);
+    println!("{name:44} {ours:8.0} {original:8.0} {:8.2}", original / ours);
+}
+
+pub fn main() {
+    let mut dice = Dice(7);
+    let rounds: usize = std::env::args().nth(1).map_or(50, |n| n.parse().expect("a number of rounds"));
+    // so many that no branch predictor learns them
+    let mut drawn = |events| (events, Stream::drawn(&mut dice, (WIDTH * HEIGHT) as usize, events));
+    let streams = [0, 6, 44].map(&mut drawn);
+    println!("{:44} {:>8} {:>8} {:>8}", "nanoseconds a macroblock", "ours", "original", "ratio");
+    for in_picture in [false, true] {
+        for (events, stream) in &streams {
+            for (method, n) in [(Method::Two, 2), (Method::One, 1)] {
+                let place = if in_picture { "in a picture" } else { "alone" };
+                let what = if *events == 0 {
+                    "DC only".to_string()
+                } else {
+                    format!("{events} events a block")
+                };
+                let name = format!("{place}, {what}, method {n}");
+                if in_picture {
+                    let mut sides = (OursInPicture(method), OriginalInPicture(original(method)));
+                    beside(&name, [&mut sides.0, &mut sides.1], stream, rounds);
+                } else {
+                    let mut sides = (OursAlone(method), OriginalAlone(original(method)));
+                    beside(&name, [&mut sides.0, &mut sides.1], stream, rounds);
+                }
+            }
+        }
+    }
+}

@@ -1,0 +1,610 @@
+/* Calls every function; what is due is worked out by hand from document 01. */
+#include <stdarg.h>
+#include <stdio.h>
+#include <string.h>
+
+#include "vaxembro.h"
+
+enum { BYTES = 32, DC = VAXEMBRO_USE_INTRA_DC_VLC, MOST = 1048576 };
+
+static const uint8_t default_matrix[VAXEMBRO_MATRIX] = {
+    8,  17, 18, 19, 21, 23, 25, 27, 17, 18, 19, 21, 23, 25, 27, 28, 20, 21, 22, 23, 24, 26, 28, 30, 21, 22, 23, 24, 26, 28, 30, 32,
+    22, 23, 24, 26, 28, 30, 32, 35, 23, 24, 26, 28, 30, 32, 35, 38, 25, 26, 28, 30, 32, 35, 38, 41, 27, 28, 30, 32, 35, 38, 41, 45,
+};
+
+static uint8_t too_long[MOST + 1];
+static unsigned checks, failures;
+
+static void check(int fine, const char *format, ...)
+{
+    va_list rest;
+    checks++;
+    if (fine) return;
+    failures++;
+    va_start(rest, format);
+    vprintf(format, rest);
+    va_end(rest);
+    printf("\n");
+}
+
+/* What a call brings. Lengths are those that are told; the memory behind is longer. */
+struct call {
+    uint32_t state[VAXEMBRO_STATE + 1];
+    size_t state_len;
+    uint8_t bytes[BYTES];
+    const uint8_t *data;
+    size_t data_len, at;
+    uint32_t mb_type;
+    uint8_t cbpy, cbpc;
+    uint32_t quantiser_scale, bits_per_pixel, flags;
+    int32_t neighbours[VAXEMBRO_NEIGHBOURS];
+    size_t neighbours_len;
+    uint8_t matrix[VAXEMBRO_MATRIX];
+    size_t matrix_len, samples_len, store_len, answer_len;
+    int32_t stored;
+};
+
+/* Lent memory, a number longer than it has to be. */
+struct lent {
+    uint32_t state[VAXEMBRO_STATE + 1];
+    int32_t samples[VAXEMBRO_SAMPLES + 1];
+    int32_t store[2 * VAXEMBRO_STORE + 1];
+    size_t answer[VAXEMBRO_ANSWER + 1];
+};
+
+/* Bits written out; blanks part them. */
+static void put(struct call *c, const char *bits)
+{
+    size_t n = 0;
+    memset(c->bytes, 0, sizeof c->bytes);
+    for (; *bits; bits++) {
+        if (*bits == ' ') continue;
+        if (*bits == '1') c->bytes[n / 8] |= (uint8_t)(128 >> n % 8);
+        n++;
+    }
+    c->data = c->bytes;
+    c->data_len = (n + 7) / 8;
+}
+
+/* The first macroblock of a picture of 1 by 1, depth 8, method 2, with six DC parts of difference 0, and no neighbours. */
+static void worked(struct call *c)
+{
+    static const uint32_t state[VAXEMBRO_STATE + 1] = {1, 1, 8, 0, 0, 77};
+    static const int32_t neighbours[VAXEMBRO_NEIGHBOURS] = {1024, 1024, 1024, 8, 8};
+    memset(c, 0, sizeof *c);
+    memcpy(c->state, state, sizeof state);
+    c->state_len = VAXEMBRO_STATE;
+    put(c, "011 011 011 011 11 11");
+    c->mb_type = VAXEMBRO_INTRA;
+    c->quantiser_scale = 8;
+    c->bits_per_pixel = 8;
+    c->flags = DC;
+    memcpy(c->neighbours, neighbours, sizeof neighbours);
+    c->neighbours_len = VAXEMBRO_NEIGHBOURS;
+    memcpy(c->matrix, default_matrix, sizeof default_matrix);
+    c->matrix_len = VAXEMBRO_MATRIX;
+    c->samples_len = VAXEMBRO_SAMPLES;
+    c->store_len = VAXEMBRO_STORE;
+    c->answer_len = VAXEMBRO_ANSWER;
+    c->stored = -7;
+}
+
+static void lend(const struct call *c, struct lent *l)
+{
+    memset(l, 0, sizeof *l);
+    memcpy(l->state, c->state, sizeof l->state);
+    for (size_t k = 0; k < sizeof l->samples / sizeof *l->samples; k++) l->samples[k] = 1000000 + (int32_t)k;
+    for (size_t k = 0; k < sizeof l->store / sizeof *l->store; k++) l->store[k] = c->stored;
+    for (size_t k = 0; k < sizeof l->answer / sizeof *l->answer; k++) l->answer[k] = 900 + k;
+}
+
+static uint32_t in_picture(const struct call *c, struct lent *l)
+{
+    return vaxembro_decode_macroblock(l->state, c->state_len, c->data, c->data_len, c->at, c->mb_type, c->cbpy, c->cbpc, c->quantiser_scale,
+                                      c->flags, c->matrix, c->matrix_len, l->samples, c->samples_len, l->store, c->store_len, l->answer,
+                                      c->answer_len);
+}
+
+static uint32_t alone(const struct call *c, struct lent *l)
+{
+    return vaxembro_decode_intra_macroblock(c->data, c->data_len, c->at, c->mb_type, c->cbpy, c->cbpc, c->quantiser_scale,
+                                            c->bits_per_pixel, c->flags, c->neighbours, c->neighbours_len, c->matrix, c->matrix_len,
+                                            l->samples, c->samples_len, l->answer, c->answer_len);
+}
+
+typedef uint32_t decode(const struct call *, struct lent *);
+
+/* The answer's four numbers, read out, and that the number after them stays. */
+static void answered(const char *what, const struct lent *l, uint32_t number, uint32_t figure, size_t bits, size_t position)
+{
+    const size_t *a = l->answer;
+    check(vaxembro_number(a, 4) == number, "%s: number %u told", what, (unsigned)vaxembro_number(a, 4));
+    check(vaxembro_figure(a, 4) == figure, "%s: figure %u told", what, (unsigned)vaxembro_figure(a, 4));
+    check(vaxembro_bits(a, 4) == bits, "%s: bits %zu told", what, vaxembro_bits(a, 4));
+    check(vaxembro_position(a, 4) == position, "%s: position %zu told", what, vaxembro_position(a, 4));
+    check(a[4] == 904, "%s: written past the answer", what);
+}
+
+/* Refused: state, samples and store are as they were, and the position is the one before the call. */
+static void refused(const char *what, decode *with, const struct call *c, uint32_t number, uint32_t figure)
+{
+    struct lent before, l;
+    lend(c, &before);
+    lend(c, &l);
+    uint32_t given = with(c, &l);
+    check(given == number, "%s: %u given, %u due", what, (unsigned)given, (unsigned)number);
+    answered(what, &l, number, figure, 0, c->at);
+    memcpy(before.answer, l.answer, sizeof l.answer);
+    check(memcmp(&l, &before, sizeof l) == 0, "%s: lent memory was written", what);
+}
+
+/* Lent memory too short: nothing at all is written. */
+static void too_short(const char *what, decode *with, const struct call *c)
+{
+    struct lent before, l;
+    lend(c, &before);
+    lend(c, &l);
+    uint32_t given = with(c, &l);
+    check(given == VAXEMBRO_TOO_SHORT, "%s: %u given, 14 due", what, (unsigned)given);
+    check(memcmp(&l, &before, sizeof l) == 0, "%s: lent memory was written", what);
+}
+
+/* Accepted with so many bits; the samples are left in l. */
+static void accepted(const char *what, decode *with, const struct call *c, size_t bits, struct lent *l)
+{
+    lend(c, l);
+    uint32_t given = with(c, l);
+    check(given == 0, "%s: refused by %u", what, (unsigned)given);
+    answered(what, l, 0, 0, bits, c->at + bits);
+    check(l->samples[VAXEMBRO_SAMPLES] == 1000000 + VAXEMBRO_SAMPLES, "%s: written past the samples", what);
+    check(l->store[c->store_len] == c->stored, "%s: written past the store", what);
+    check(l->state[VAXEMBRO_STATE] == 77, "%s: written past the state", what);
+    check(memcmp(l->state, c->state, 3 * sizeof *l->state) == 0 && (l->state[3] != 0) == (c->state[3] != 0), "%s: another picture", what);
+    check(l->state[4] == c->state[4] + (with == in_picture), "%s: %u accepted", what, (unsigned)l->state[4]);
+}
+
+/* Where sample (x, y) of block i lies. */
+static size_t place(int i, int x, int y)
+{
+    return (size_t)(i < 4 ? 16 * (8 * (i / 2) + y) + 8 * (i % 2) + x : 256 + 64 * (i - 4) + 8 * y + x);
+}
+
+/* Blocks `first` to `last`: every row is these eight, or every column. */
+static void rows_are(const char *what, const struct lent *l, int first, int last, int down, const int32_t *eight)
+{
+    int fine = 1;
+    for (int i = first; i <= last; i++)
+        for (int y = 0; y < 8; y++)
+            for (int x = 0; x < 8; x++) fine = fine && l->samples[place(i, x, y)] == eight[down ? y : x];
+    check(fine, "%s: samples of blocks %d to %d", what, first, last);
+}
+
+static void flat(const char *what, const struct lent *l, int first, int last, int32_t value)
+{
+    int32_t eight[8];
+    for (int k = 0; k < 8; k++) eight[k] = value;
+    rows_are(what, l, first, last, 0, eight);
+}
+
+/* A missing neighbour's DC is 1024. At quantiser 8 the luma scaler is 16, the chroma scaler 10: 64 * 16 / 8 = 128, and 102 * 10 / 8 =
+ * 127.5, which is 128 away from zero. */
+static void dc_only(void)
+{
+    struct call c;
+    struct lent l;
+    worked(&c);
+    accepted("worked case", in_picture, &c, 16, &l);
+    flat("worked case", &l, 0, 5, 128);
+    accepted("worked case alone", alone, &c, 16, &l);
+    flat("worked case alone", &l, 0, 5, 128);
+    c.flags = DC | 0xFFFFFF00u;
+    c.cbpy = 0xF0;
+    c.cbpc = 0xFC;
+    c.mb_type = VAXEMBRO_INTRA_Q;
+    c.matrix[9] = 0;
+    accepted("bits that do not count", in_picture, &c, 16, &l);
+    flat("bits that do not count", &l, 0, 5, 128);
+    /* in a picture the state's method counts, not the flag */
+    c.flags = DC | VAXEMBRO_QUANT_TYPE;
+    accepted("the flag of method 1", in_picture, &c, 16, &l);
+    flat("the flag of method 1", &l, 0, 5, 128);
+
+    /* difference 1: block 0 is 65 * 16 / 8 = 130; in a picture blocks 1 to 3 are predicted from it */
+    worked(&c);
+    put(&c, "10101 111 011 011 011 11 11");
+    c.at = 5;
+    accepted("difference 1", in_picture, &c, 16, &l);
+    flat("difference 1", &l, 0, 3, 130);
+    flat("difference 1", &l, 4, 5, 128);
+    accepted("difference 1 alone", alone, &c, 16, &l);
+    flat("difference 1 alone", &l, 0, 0, 130);
+    flat("difference 1 alone", &l, 1, 5, 128);
+}
+
+/* Difference -4 in Cb: 98 * 10 / 8 = 122.5. */
+static void halves(void)
+{
+    struct call c;
+    struct lent l;
+    worked(&c);
+    put(&c, "011 011 011 011 001 011 11");
+    accepted("a half away from zero", in_picture, &c, 20, &l);
+    flat("a half away from zero", &l, 4, 4, 123);
+    c.flags = DC | VAXEMBRO_HALVES_TO_EVEN;
+    accepted("a half to even", in_picture, &c, 20, &l);
+    flat("a half to even", &l, 4, 4, 122);
+    flat("a half to even", &l, 5, 5, 128);
+}
+
+/* No DC codes, and at first no block coded: no bits. */
+static void without_dc_codes(void)
+{
+    struct call c;
+    struct lent l;
+    worked(&c);
+    c.flags = 0;
+    c.data_len = 0;
+    accepted("no bits", in_picture, &c, 0, &l);
+    flat("no bits", &l, 0, 5, 128);
+    /* last, run 0, level -1 at place 0: 63 * 16 / 8 = 126 */
+    put(&c, "01111");
+    c.cbpy = 8;
+    accepted("DC among the events", in_picture, &c, 5, &l);
+    flat("DC among the events", &l, 0, 3, 126);
+    accepted("DC among the events, alone", alone, &c, 5, &l);
+    flat("DC among the events, alone", &l, 0, 0, 126);
+    flat("DC among the events, alone", &l, 1, 5, 128);
+}
+
+/* One level of -1 beside the DC: by method 2 at quantiser 8 it is -23, and 23 / 4 / sqrt(2) = 4.066, times the cosines 0.981, 0.831, 0.556
+ * and 0.195 of the first wave. */
+static void one_level(void)
+{
+    static const int32_t wave[8] = {124, 125, 126, 127, 129, 130, 131, 132};
+    static const int32_t heavy[8] = {117, 119, 122, 126, 130, 134, 137, 139};
+    struct call c;
+    struct lent l;
+    worked(&c);
+    put(&c, "011 01111 011 011 011 11 11");
+    c.cbpy = 8;
+    accepted("one level", in_picture, &c, 21, &l);
+    rows_are("one level", &l, 0, 0, 0, wave);
+    flat("one level", &l, 1, 5, 128);
+    c.flags = DC | VAXEMBRO_ALTERNATE_VERTICAL_SCAN;
+    accepted("one level, scanned down", in_picture, &c, 21, &l);
+    rows_are("one level, scanned down", &l, 0, 0, 1, wave);
+    /* the same as a reversible escape, in Cr */
+    put(&c, "011 011 011 011 11 10 1 00001 1 000000 1 00000000001 1 0000 1");
+    c.cbpy = 0;
+    c.cbpc = 1;
+    c.flags = DC | VAXEMBRO_REVERSIBLE_VLC;
+    accepted("a reversible escape", in_picture, &c, 47, &l);
+    flat("a reversible escape", &l, 0, 4, 128);
+    /* difference 1: 103 * 10 / 8 = 128.75 */
+    check(l.samples[320] == 125 && l.samples[327] == 133, "a reversible escape: %d %d", (int)l.samples[320], (int)l.samples[327]);
+
+    /* method 1 at quantiser 8: -1 * 64 * 8 * 2 / 16 = -64 by the entry in row 0, column 1 */
+    worked(&c);
+    put(&c, "011 01111 011 011 011 11 11");
+    c.cbpy = 8;
+    memset(c.matrix, 16, sizeof c.matrix);
+    c.matrix[1] = 64;
+    c.state[3] = 1;
+    c.flags = DC | VAXEMBRO_INTRA_MISMATCH_EXEMPT;
+    accepted("by the matrix", in_picture, &c, 21, &l);
+    rows_are("by the matrix", &l, 0, 0, 0, heavy);
+    flat("by the matrix", &l, 1, 5, 128);
+    c.flags |= VAXEMBRO_QUANT_TYPE;
+    accepted("by the matrix, alone", alone, &c, 21, &l);
+    rows_are("by the matrix, alone", &l, 0, 0, 0, heavy);
+}
+
+/* Value (7,7) becomes 1: 127.5 in chroma goes up where column and row add up to an even number, else down. */
+static void mismatch(void)
+{
+    struct call c;
+    struct lent l;
+    worked(&c);
+    c.state[3] = 9;
+    c.flags = DC | VAXEMBRO_QUANT_TYPE;
+    for (int k = 0; k < 2; k++) {
+        int fine = 1;
+        accepted("mismatch control", k ? alone : in_picture, &c, 16, &l);
+        flat("mismatch control", &l, 0, 3, 128);
+        for (int n = 0; n < 128; n++) fine = fine && l.samples[256 + n] == 128 - (n % 8 + n / 8) % 2;
+        check(fine, "mismatch control: chroma");
+    }
+    c.flags |= VAXEMBRO_INTRA_MISMATCH_EXEMPT;
+    accepted("exempt", in_picture, &c, 16, &l);
+    flat("exempt", &l, 0, 5, 128);
+}
+
+/* A's column at quantiser 16, -1 * 16 / 8 = -2, is -39 at quantiser 8; C's row at 8 is -23 as above. */
+static void neighbours(void)
+{
+    static const int32_t luma[8] = {121, 122, 124, 127, 129, 132, 134, 135}, chroma[8] = {121, 122, 124, 126, 129, 131, 133, 134};
+    static const int32_t from_c[8] = {126, 127, 128, 129, 131, 132, 133, 134};
+    struct call c;
+    struct lent l;
+    worked(&c);
+    c.flags = DC | VAXEMBRO_AC_PRED;
+    c.neighbours[3] = 16;
+    c.neighbours[5] = 1;
+    c.neighbours[7] = -1;
+    c.neighbours[14] = 9;
+    accepted("from A", alone, &c, 16, &l);
+    rows_are("from A", &l, 0, 3, 1, luma);
+    rows_are("from A", &l, 4, 5, 1, chroma);
+    c.neighbours[5] = 0;
+    accepted("A has no column", alone, &c, 16, &l);
+    flat("A has no column", &l, 0, 5, 128);
+    c.neighbours[5] = 1;
+    c.flags = DC;
+    accepted("no AC prediction", alone, &c, 16, &l);
+    flat("no AC prediction", &l, 0, 5, 128);
+    c.flags = DC | VAXEMBRO_AC_PRED;
+    c.neighbours[2] = 1040;
+    c.neighbours[6] = -5;
+    c.neighbours[7] = 9;
+    c.neighbours[14] = -1;
+    accepted("from C", alone, &c, 16, &l);
+    rows_are("from C", &l, 0, 5, 0, from_c);
+}
+
+/* In a picture: block 0's level goes down from A, and block 1 takes its column; block 2's goes across from C, which is block 0. */
+static void ac_prediction(void)
+{
+    static const int32_t wave[8] = {124, 125, 126, 127, 129, 130, 131, 132}, higher[8] = {126, 127, 128, 129, 131, 132, 133, 134};
+    struct call c;
+    struct lent l;
+    worked(&c);
+    put(&c, "011 01111 011 011 011 11 11");
+    c.cbpy = 8;
+    c.flags = DC | VAXEMBRO_AC_PRED;
+    accepted("from block 0", in_picture, &c, 21, &l);
+    rows_are("from block 0", &l, 0, 1, 1, wave);
+    flat("from block 0", &l, 2, 5, 128);
+    put(&c, "111 011 011 01111 011 11 11");
+    c.cbpy = 2;
+    accepted("from C in a picture", in_picture, &c, 21, &l);
+    flat("from C in a picture", &l, 0, 1, 130);
+    rows_are("from C in a picture", &l, 2, 2, 0, higher);
+    flat("from C in a picture", &l, 3, 3, 130);
+    c.flags = DC | VAXEMBRO_ALTERNATE_VERTICAL_SCAN;
+    accepted("scanned down in a picture", in_picture, &c, 21, &l);
+    rows_are("scanned down in a picture", &l, 2, 2, 1, higher);
+}
+
+/* Two macroblocks beside each other: the second takes its DC from the first. Then the picture is complete. */
+static void two(void)
+{
+    static const uint8_t data[] = {0xED, 0xBF, 0x6D, 0xBF, 0x6D, 0xBF};
+    uint32_t state[VAXEMBRO_STATE] = {9, 9, 9, 9, 9};
+    struct call c;
+    struct lent l;
+    uint32_t number = vaxembro_open(2, 1, 8, 0, state, VAXEMBRO_STATE);
+    check(number == 0 && state[0] == 2 && state[1] == 1 && state[2] == 8 && state[3] == 0 && state[4] == 0, "opening 2 by 1");
+    worked(&c);
+    memcpy(c.state, state, sizeof state);
+    c.data = data;
+    c.data_len = sizeof data;
+    c.store_len = 2 * VAXEMBRO_STORE;
+    accepted("the first of two", in_picture, &c, 16, &l);
+    for (size_t k = 0; k < VAXEMBRO_SAMPLES; k++) l.samples[k] = 0;
+    number = vaxembro_decode_macroblock(l.state, 5, data, sizeof data, 16, VAXEMBRO_INTRA, 0, 0, 8, DC, c.matrix, 64, l.samples, 384,
+                                        l.store, 2 * VAXEMBRO_STORE, l.answer, 4);
+    check(number == 0 && l.state[4] == 2, "the second of two: %u", (unsigned)number);
+    answered("the second of two", &l, 0, 0, 16, 32);
+    flat("the second of two", &l, 0, 3, 130);
+    flat("the second of two", &l, 4, 5, 128);
+    memcpy(c.state, l.state, sizeof l.state);
+    c.at = 32;
+    refused("a complete picture", in_picture, &c, VAXEMBRO_COMPLETE, 0);
+}
+
+static void bad_bits(void)
+{
+    static const struct {
+        const char *what, *bits;
+        uint8_t cbpy;
+        uint32_t flags, number, figure;
+        size_t at;
+    } all[] = {
+        {"no bits left", "", 0, 0, VAXEMBRO_TRUNCATED, 0, 0},
+        {"one bit 0 left", "1111111 0", 0, 0, VAXEMBRO_INVALID_DC_SIZE, 0, 7},
+        {"no DC code", "0000000000001", 0, 0, VAXEMBRO_INVALID_DC_SIZE, 1, 0},
+        {"a marker 0", "00000001 100000000 0", 0, 0, VAXEMBRO_MARKER_BIT_MISSING, 0, 0},
+        {"no AC code", "011 0000000000011", 8, 0, VAXEMBRO_INVALID_TCOEF, 3, 0},
+        {"an escape's marker 0", "011 0000011 11 1 000000 0", 8, 0, VAXEMBRO_ESCAPE_MARKER_BIT_MISSING, 0, 0},
+        {"level 0", "011 0000011 11 1 000000 1 000000000000 1", 8, 0, VAXEMBRO_RESERVED_ESCAPE_LEVEL, 0, 0},
+        {"level -2048", "011 0000011 11 1 000000 1 100000000000 1", 8, 0, VAXEMBRO_RESERVED_ESCAPE_LEVEL, 0, 0},
+        {"no delimiter", "011 00001 1 000000 1 00000000001 1 0001 0", 8, VAXEMBRO_REVERSIBLE_VLC, VAXEMBRO_RVLC_ESCAPE_DELIMITER_MISSING, 1,
+         0},
+        {"run 63", "011 0000011 11 1 111111 1 000000000001 1", 8, 0, VAXEMBRO_OVERFLOW, 64, 0},
+        {"run 63, and then no code", "011 0000011 11 0 111111 1 000000000001 1 0000000", 8, 0, VAXEMBRO_INVALID_TCOEF, 0, 0},
+        {"run 63, and then no bits", "1111111 011 0000011 11 0 111111 1 000000000001 1", 8, 0, VAXEMBRO_TRUNCATED, 0, 7},
+    };
+    struct call c;
+    for (size_t k = 0; k < sizeof all / sizeof *all; k++) {
+        worked(&c);
+        put(&c, all[k].bits);
+        c.at = all[k].at;
+        c.cbpy = all[k].cbpy;
+        c.flags |= all[k].flags;
+        refused(all[k].what, in_picture, &c, all[k].number, all[k].figure);
+        refused(all[k].what, alone, &c, all[k].number, all[k].figure);
+    }
+    worked(&c);
+    c.at = 16;
+    refused("at the end", in_picture, &c, VAXEMBRO_TRUNCATED, 0);
+    refused("at the end", alone, &c, VAXEMBRO_TRUNCATED, 0);
+}
+
+/* What both calls refuse before any bit: the header, and lent memory. */
+static void bad_state(decode *with)
+{
+    static const uint32_t types[] = {VAXEMBRO_MISSING, VAXEMBRO_INTER, VAXEMBRO_INTER_Q, VAXEMBRO_INTER4V, 6, 0xFFFFFFFFu};
+    struct call c;
+    worked(&c);
+    c.flags |= VAXEMBRO_NOT_CODED;
+    refused("not coded", with, &c, VAXEMBRO_NOT_CODED_MACROBLOCK, 0);
+    c.mb_type = VAXEMBRO_INTER;
+    refused("not coded and inter", with, &c, VAXEMBRO_NOT_CODED_MACROBLOCK, 0);
+    for (size_t k = 0; k < 6; k++) {
+        worked(&c);
+        c.mb_type = types[k];
+        refused("not intra", with, &c, VAXEMBRO_NOT_INTRA, 0);
+    }
+    worked(&c);
+    c.samples_len = VAXEMBRO_SAMPLES - 1;
+    c.mb_type = VAXEMBRO_INTER;
+    refused("383 samples", with, &c, VAXEMBRO_TOO_SHORT, 0);
+    worked(&c);
+    c.matrix_len = VAXEMBRO_MATRIX - 1;
+    too_short("63 numbers of matrix", with, &c);
+    worked(&c);
+    c.answer_len = VAXEMBRO_ANSWER - 1;
+    too_short("3 numbers of answer", with, &c);
+}
+
+/* Positions, lengths, and the context. */
+static void bad_ranges(decode *with)
+{
+    static const size_t starts[] = {17, (size_t)-1};
+    static const uint32_t quantisers[] = {0, 32, 0xFFFFFFFFu}, depths[] = {3, 13};
+    struct call c;
+    for (size_t k = 0; k < 2; k++) {
+        worked(&c);
+        c.at = starts[k];
+        c.quantiser_scale = 0;
+        refused("past the end", with, &c, VAXEMBRO_OUT_OF_RANGE, 0);
+    }
+    worked(&c);
+    c.data = too_long;
+    c.data_len = MOST + 1;
+    refused("data too long", with, &c, VAXEMBRO_OUT_OF_RANGE, 0);
+    c.data_len = MOST;
+    refused("the longest data", with, &c, VAXEMBRO_INVALID_DC_SIZE, 0);
+    for (size_t k = 0; k < 3; k++) {
+        worked(&c);
+        c.quantiser_scale = quantisers[k];
+        c.samples_len = 0;
+        refused("quantiser", with, &c, VAXEMBRO_CONTEXT, 0);
+    }
+    for (size_t k = 0; k < 2; k++) {
+        worked(&c);
+        c.bits_per_pixel = c.state[2] = depths[k];
+        refused("depth", with, &c, VAXEMBRO_CONTEXT, 0);
+    }
+    worked(&c);
+    c.state[3] = 1;
+    c.flags |= VAXEMBRO_QUANT_TYPE;
+    c.matrix[63] = 0;
+    refused("a zero in the matrix", with, &c, VAXEMBRO_CONTEXT, 0);
+}
+
+static void bad_picture(void)
+{
+    static const uint32_t sizes[][2] = {{0, 1}, {1, 0}, {46, 1}, {1, 37}, {0xFFFFFFFFu, 0xFFFFFFFFu}};
+    struct call c;
+    for (size_t k = 0; k < sizeof sizes / sizeof *sizes; k++) {
+        worked(&c);
+        memcpy(c.state, sizes[k], sizeof sizes[k]);
+        refused("a picture's size", in_picture, &c, VAXEMBRO_OUT_OF_RANGE, 0);
+    }
+    worked(&c);
+    c.store_len = VAXEMBRO_STORE - 1;
+    c.state[4] = 1;
+    refused("191 numbers of store", in_picture, &c, VAXEMBRO_TOO_SHORT, 0);
+    worked(&c);
+    c.state[4] = 0xFFFFFFFFu;
+    c.flags |= VAXEMBRO_NOT_CODED;
+    refused("more accepted than there are", in_picture, &c, VAXEMBRO_COMPLETE, 0);
+    worked(&c);
+    c.state[0] = 2;
+    c.state[4] = 1;
+    c.store_len = 2 * VAXEMBRO_STORE;
+    c.stored = 65537;
+    c.flags |= VAXEMBRO_NOT_CODED;
+    refused("a store from elsewhere", in_picture, &c, VAXEMBRO_PREDICTOR, 0);
+    worked(&c);
+    c.state_len = VAXEMBRO_STATE - 1;
+    too_short("4 numbers of state", in_picture, &c);
+}
+
+static void bad_neighbours(void)
+{
+    static const struct {
+        size_t at;
+        int32_t value;
+    } all[] = {{0, 65537}, {1, -65537}, {2, INT32_MAX}, {3, 0}, {3, 32}, {4, -1}, {4, INT32_MIN}, {7, 2048}, {20, -2049}};
+    struct call c;
+    struct lent l;
+    for (size_t k = 0; k < sizeof all / sizeof *all; k++) {
+        worked(&c);
+        c.neighbours[5] = c.neighbours[6] = 1;
+        c.neighbours[all[k].at] = all[k].value;
+        c.samples_len = 0;
+        refused("a neighbour", alone, &c, VAXEMBRO_PREDICTOR, 0);
+        if (all[k].at < 7) continue;
+        c.neighbours[5] = c.neighbours[6] = 0;
+        c.samples_len = VAXEMBRO_SAMPLES;
+        accepted("a column or row that is not there", alone, &c, 16, &l);
+    }
+    worked(&c);
+    c.neighbours_len = VAXEMBRO_NEIGHBOURS - 1;
+    too_short("20 numbers of neighbours", alone, &c);
+}
+
+static void openings(void)
+{
+    static const struct {
+        uint32_t width, height, depth, state_len, number;
+    } all[] = {{1, 1, 4, 5, 0},   {45, 36, 12, 5, 0}, {0, 1, 8, 5, 11},  {46, 1, 8, 5, 11}, {1, 0, 8, 5, 11}, {1, 37, 8, 5, 11},
+               {46, 1, 3, 5, 11}, {45, 36, 3, 5, 12}, {1, 1, 13, 5, 12}, {1, 1, 8, 4, 14},  {1, 1, 8, 0, 14}};
+    for (size_t k = 0; k < sizeof all / sizeof *all; k++) {
+        const uint32_t before[6] = {90, 91, 92, 93, 94, 95};
+        uint32_t state[6];
+        memcpy(state, before, sizeof state);
+        uint32_t number = vaxembro_open(all[k].width, all[k].height, all[k].depth, 1, state, all[k].state_len);
+        check(number == all[k].number, "opening %zu: %u given", k, (unsigned)number);
+        if (all[k].number == 0) {
+            const uint32_t due[6] = {all[k].width, all[k].height, all[k].depth, 1, 0, 95};
+            check(memcmp(state, due, sizeof due) == 0, "opening %zu: state", k);
+        } else {
+            check(memcmp(state, before, sizeof before) == 0, "opening %zu: state was written", k);
+        }
+    }
+}
+
+static void short_answers(void)
+{
+    static const size_t answer[4] = {1, 2, 3, 4};
+    check(vaxembro_number(answer, 4) == 1 && vaxembro_figure(answer, 4) == 2, "an answer's number and figure");
+    check(vaxembro_bits(answer, 4) == 3 && vaxembro_position(answer, 4) == 4, "an answer's bits and position");
+    check(vaxembro_number(answer, 0) == 0 && vaxembro_figure(answer, 1) == 0, "a short answer's number and figure");
+    check(vaxembro_bits(answer, 2) == 0 && vaxembro_position(answer, 3) == 0, "a short answer's bits and position");
+}
+
+int main(void)
+{
+    dc_only();
+    halves();
+    without_dc_codes();
+    one_level();
+    mismatch();
+    neighbours();
+    ac_prediction();
+    two();
+    bad_bits();
+    bad_state(in_picture);
+    bad_state(alone);
+    bad_ranges(in_picture);
+    bad_ranges(alone);
+    bad_picture();
+    bad_neighbours();
+    openings();
+    short_answers();
+    printf("C: %u checks, %u failed\n", checks, failures);
+    return failures != 0;
+}

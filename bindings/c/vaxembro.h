@@ -1,0 +1,94 @@
+/* The decoder for C and C++: numbers and lent memory only.
+ *
+ * Lent memory is a pointer and then a length in numbers. It is read and written only within that length; nothing is kept after a call and
+ * nothing is allocated. Parts that a call may write must not overlap the others. Link with libc_interface.a.
+ *
+ * Every function ends for every input. Where `state`, `matrix`, `neighbours` or `answer` is shorter than it has to be, the function
+ * gives VAXEMBRO_TOO_SHORT and writes nothing.
+ */
+#ifndef VAXEMBRO_H
+#define VAXEMBRO_H
+
+#include <stddef.h>
+#include <stdint.h>
+
+#ifdef __cplusplus
+extern "C" {
+#endif
+
+/* How long lent memory has to be. */
+enum {
+    VAXEMBRO_STATE = 5,       /* width, height, depth, quant_type, macroblocks accepted */
+    VAXEMBRO_MATRIX = 64,     /* row by row */
+    VAXEMBRO_NEIGHBOURS = 21, /* see vaxembro_decode_intra_macroblock */
+    VAXEMBRO_SAMPLES = 384,   /* luma 256 row by row, Cb 64, Cr 64 */
+    VAXEMBRO_STORE = 192,     /* for each macroblock of the picture's width */
+    VAXEMBRO_ANSWER = 4       /* number, figure, bits, position */
+};
+
+/* What mb_type says. Any other number: missing. */
+enum { VAXEMBRO_MISSING = 0, VAXEMBRO_INTER = 1, VAXEMBRO_INTER_Q = 2, VAXEMBRO_INTER4V = 3, VAXEMBRO_INTRA = 4, VAXEMBRO_INTRA_Q = 5 };
+
+/* The flags of a call. Higher bits are not looked at. */
+enum {
+    VAXEMBRO_NOT_CODED = 1,
+    VAXEMBRO_AC_PRED = 2,
+    VAXEMBRO_ALTERNATE_VERTICAL_SCAN = 4,
+    VAXEMBRO_INTRA_MISMATCH_EXEMPT = 8,
+    VAXEMBRO_HALVES_TO_EVEN = 16, /* otherwise away from zero */
+    VAXEMBRO_USE_INTRA_DC_VLC = 32,
+    VAXEMBRO_REVERSIBLE_VLC = 64,
+    VAXEMBRO_QUANT_TYPE = 128 /* method 1; in a picture the state's counts */
+};
+
+/* What a call gives: accepted, or the number of its refusal. */
+enum {
+    VAXEMBRO_ACCEPTED = 0,
+    VAXEMBRO_TRUNCATED = 1,
+    VAXEMBRO_INVALID_DC_SIZE = 2, /* figure: the window */
+    VAXEMBRO_MARKER_BIT_MISSING = 3,
+    VAXEMBRO_INVALID_TCOEF = 4, /* figure: the window */
+    VAXEMBRO_ESCAPE_MARKER_BIT_MISSING = 5,
+    VAXEMBRO_RESERVED_ESCAPE_LEVEL = 6,
+    VAXEMBRO_RVLC_ESCAPE_DELIMITER_MISSING = 7, /* figure: the window */
+    VAXEMBRO_OVERFLOW = 8,                      /* figure: the landing */
+    VAXEMBRO_NOT_CODED_MACROBLOCK = 9,
+    VAXEMBRO_NOT_INTRA = 10,
+    VAXEMBRO_OUT_OF_RANGE = 11, /* width, height, data too long, start past its end */
+    VAXEMBRO_CONTEXT = 12,      /* quantiser, depth, a zero in the matrix under method 1 */
+    VAXEMBRO_PREDICTOR = 13,    /* a neighbour's DC, AC value or quantiser */
+    VAXEMBRO_TOO_SHORT = 14,    /* lent memory */
+    VAXEMBRO_COMPLETE = 15      /* width times height macroblocks were accepted */
+};
+
+/* Opens a picture in `state`: 1 to 45 by 1 to 36 macroblocks, 4 to 12 bits a sample, quant_type 0 for method 2 and any other for method 1.
+ * Gives 0, 11, 12 or 14; on a refusal the state is as it was. The store need not be cleared. */
+uint32_t vaxembro_open(uint32_t width, uint32_t height, uint32_t bits_per_pixel, uint32_t quant_type, uint32_t *state, size_t state_len);
+
+/* Decodes the macroblock that is due in the picture of `state`, from bit `at` of `data` on. Gives 0 or the number of the refusal. `answer`
+ * is written in each case, on a refusal with the number, its figure, 0 bits and the position before the call; state, samples and store
+ * only when it gives 0. Of cbpy the low four bits count, of cbpc the low two. */
+uint32_t vaxembro_decode_macroblock(uint32_t *state, size_t state_len, const uint8_t *data, size_t data_len, size_t at, uint32_t mb_type,
+                                    uint8_t cbpy, uint8_t cbpc, uint32_t quantiser_scale, uint32_t flags, const uint8_t *matrix,
+                                    size_t matrix_len, int32_t *samples, size_t samples_len, int32_t *store, size_t store_len,
+                                    size_t *answer, size_t answer_len);
+
+/* Decodes one macroblock alone, its six blocks with the same neighbours: the DCs of A (left), B (above left) and C (above); the quantisers
+ * of A and C; whether A's column and C's row are there (0 or not); A's first column and C's first row, 7 numbers each. A missing neighbour
+ * has DC 2^(depth+2) and the present quantiser. */
+uint32_t vaxembro_decode_intra_macroblock(const uint8_t *data, size_t data_len, size_t at, uint32_t mb_type, uint8_t cbpy, uint8_t cbpc,
+                                          uint32_t quantiser_scale, uint32_t bits_per_pixel, uint32_t flags, const int32_t *neighbours,
+                                          size_t neighbours_len, const uint8_t *matrix, size_t matrix_len, int32_t *samples,
+                                          size_t samples_len, size_t *answer, size_t answer_len);
+
+/* What an answer holds; 0 where it is too short. */
+uint32_t vaxembro_number(const size_t *answer, size_t answer_len);
+uint32_t vaxembro_figure(const size_t *answer, size_t answer_len);
+size_t vaxembro_bits(const size_t *answer, size_t answer_len);
+size_t vaxembro_position(const size_t *answer, size_t answer_len);
+
+#ifdef __cplusplus
+}
+#endif
+
+#endif

@@ -1,0 +1,436 @@
+// Calls every function of the wrapper; what is due is worked out by hand from document 01.
+use std::error::Error;
+use vaxembro::{
+    Context, Decoded, Header, Matrix, MbType, Method, Neighbours, Picture, Refusal, STORE, Samples, decode_intra_macroblock, ffi,
+};
+
+// What a call brings.
+#[derive(Clone)]
+struct Call {
+    data: Vec<u8>,
+    at: usize,
+    header: Header,
+    context: Context,
+    bits_per_pixel: u32,
+    method: Method,
+    neighbours: Neighbours,
+    matrix: Matrix,
+}
+
+// Bytes of bits written out; blanks part them.
+fn bytes(text: &str) -> Vec<u8> {
+    let bits: Vec<u8> = text.bytes().filter(|b| *b != b' ').map(|b| b - b'0').collect();
+    bits.chunks(8)
+        .map(|some| (0..8).fold(0, |byte, k| 2 * byte + some.get(k).unwrap_or(&0)))
+        .collect()
+}
+
+// Six DC parts of difference 0, without neighbours.
+fn worked() -> Call {
+    Call {
+        data: bytes("011 011 011 011 11 11"),
+        at: 0,
+        header: Header::intra(0, 0),
+        context: Context::new(8),
+        bits_per_pixel: 8,
+        method: Method::Two,
+        neighbours: Neighbours::outside(8, 8),
+        matrix: Matrix::default(),
+    }
+}
+
+fn reading(text: &str, cbpy: u8, cbpc: u8) -> Call {
+    Call {
+        data: bytes(text),
+        header: Header::intra(cbpy, cbpc),
+        ..worked()
+    }
+}
+
+const BEFORE: Samples = [-1; 384];
+
+impl Call {
+    fn with(mut self, change: impl FnOnce(&mut Call)) -> Call {
+        change(&mut self);
+        self
+    }
+
+    fn in_this(&self, picture: &mut Picture, samples: &mut Samples) -> Result<Decoded, Refusal> {
+        picture.decode_macroblock(&self.data, self.at, self.header, self.context, &self.matrix, samples)
+    }
+
+    // As the first macroblock of a picture of 1 by 1.
+    fn in_picture(&self) -> (Result<Decoded, Refusal>, Samples) {
+        let (mut store, mut samples) = ([-7; STORE], BEFORE);
+        let mut picture = match Picture::open(1, 1, self.bits_per_pixel, self.method, &mut store) {
+            Ok(picture) => picture,
+            Err(refusal) => return (Err(refusal), samples),
+        };
+        let result = self.in_this(&mut picture, &mut samples);
+        assert_eq!(picture.accepted(), u32::from(result.is_ok()));
+        assert_eq!(picture.due(), if result.is_ok() { None } else { Some((0, 0)) });
+        assert!(result.is_ok() || store == [-7; STORE], "the store was written");
+        (result, samples)
+    }
+
+    fn alone(&self) -> (Result<Decoded, Refusal>, Samples) {
+        let (c, mut samples) = (self, BEFORE);
+        let (header, neighbours) = (c.header, &c.neighbours);
+        let result = decode_intra_macroblock(
+            &c.data,
+            c.at,
+            header,
+            c.context,
+            c.bits_per_pixel,
+            c.method,
+            neighbours,
+            &c.matrix,
+            &mut samples,
+        );
+        (result, samples)
+    }
+}
+
+fn refused((result, samples): (Result<Decoded, Refusal>, Samples), number: u32, figure: u32, name: &str) {
+    let refusal = result.expect_err(name);
+    assert_eq!((refusal, refusal.name()), (Refusal { number, figure }, name));
+    assert!(samples == BEFORE, "{name}: samples were written");
+}
+
+fn both_refuse(call: &Call, number: u32, figure: u32, name: &str) {
+    refused(call.in_picture(), number, figure, name);
+    refused(call.alone(), number, figure, name);
+}
+
+fn accepted((result, samples): (Result<Decoded, Refusal>, Samples), position: usize, bits: usize) -> Samples {
+    assert_eq!(result, Ok(Decoded { bits, position }));
+    samples
+}
+
+// Sample (x, y) of block i.
+fn sample(samples: &Samples, i: usize, x: usize, y: usize) -> i32 {
+    samples[if i < 4 {
+        16 * (8 * (i / 2) + y) + 8 * (i % 2) + x
+    } else {
+        256 + 64 * (i - 4) + 8 * y + x
+    }]
+}
+
+// Every row of these blocks, or every column.
+fn rows_are(samples: &Samples, blocks: std::ops::Range<usize>, eight: [i32; 8]) {
+    blocks.for_each(|i| (0..64).for_each(|k| assert_eq!(sample(samples, i, k % 8, k / 8), eight[k % 8], "block {i} place {k}")));
+}
+
+fn columns_are(samples: &Samples, blocks: std::ops::Range<usize>, eight: [i32; 8]) {
+    blocks.for_each(|i| (0..64).for_each(|k| assert_eq!(sample(samples, i, k % 8, k / 8), eight[k / 8], "block {i} place {k}")));
+}
+
+fn flat(samples: &Samples, blocks: std::ops::Range<usize>, value: i32) {
+    rows_are(samples, blocks, [value; 8]);
+}
+
+// The luma scaler at quantiser 8 is 16, the chroma scaler 10: 64 * 16 / 8 = 128, and 102 * 10 / 8 = 127.5, which is 128.
+#[test]
+fn worked_case() {
+    flat(&accepted(worked().in_picture(), 16, 16), 0..6, 128);
+    flat(&accepted(worked().alone(), 16, 16), 0..6, 128);
+    let other = worked().with(|c| {
+        c.header = Header {
+            mb_type: MbType::IntraQ,
+            cbpy: 0xF0,
+            cbpc: 0xFC,
+            not_coded: false,
+        }
+    });
+    flat(&accepted(other.in_picture(), 16, 16), 0..6, 128);
+}
+
+// Block 0 is 65 * 16 / 8 = 130; in a picture blocks 1 to 3 are predicted from it.
+#[test]
+fn difference_1() {
+    let c = reading("10101 111 011 011 011 11 11", 0, 0).with(|c| c.at = 5);
+    let samples = accepted(c.in_picture(), 21, 16);
+    flat(&samples, 0..4, 130);
+    flat(&samples, 4..6, 128);
+    let samples = accepted(c.alone(), 21, 16);
+    flat(&samples, 0..1, 130);
+    flat(&samples, 1..6, 128);
+}
+
+// Difference -4 in Cb: 98 * 10 / 8 = 122.5.
+#[test]
+fn halves() {
+    let mut c = reading("011 011 011 011 001 011 11", 0, 0);
+    flat(&accepted(c.in_picture(), 20, 20), 4..5, 123);
+    c.context.halves_to_even = true;
+    flat(&accepted(c.in_picture(), 20, 20), 4..5, 122);
+    flat(&accepted(c.alone(), 20, 20), 4..5, 122);
+}
+
+#[test]
+fn without_dc_codes() {
+    let mut c = reading("", 0, 0);
+    c.context.use_intra_dc_vlc = false;
+    flat(&accepted(c.in_picture(), 0, 0), 0..6, 128);
+    // last, run 0, level -1 at place 0: 63 * 16 / 8 = 126
+    (c.data, c.header) = (bytes("01111"), Header::intra(8, 0));
+    flat(&accepted(c.in_picture(), 5, 5), 0..4, 126);
+    let samples = accepted(c.alone(), 5, 5);
+    flat(&samples, 0..1, 126);
+    flat(&samples, 1..6, 128);
+}
+
+// A level of -1 is -23 by method 2; 23 / 4 / sqrt(2) = 4.066, times the cosines 0.981, 0.831, 0.556 and 0.195.
+#[test]
+fn one_level() {
+    let wave = [124, 125, 126, 127, 129, 130, 131, 132];
+    let mut c = reading("011 01111 011 011 011 11 11", 8, 0);
+    let samples = accepted(c.in_picture(), 21, 21);
+    rows_are(&samples, 0..1, wave);
+    flat(&samples, 1..6, 128);
+    c.context.alternate_vertical_scan = true;
+    columns_are(&accepted(c.in_picture(), 21, 21), 0..1, wave);
+    // as a reversible escape
+    let mut c = reading("011 00001 1 000000 1 00000000001 1 0000 1 011 011 011 11 11", 8, 0);
+    c.context.reversible_vlc = true;
+    rows_are(&accepted(c.in_picture(), 46, 46), 0..1, wave);
+}
+
+// Method 1: -1 * 64 * 8 * 2 / 16 = -64 by the entry in row 0, column 1.
+#[test]
+fn by_the_matrix() {
+    let mut c = reading("011 01111 011 011 011 11 11", 8, 0);
+    c.method = Method::One;
+    c.context.intra_mismatch_exempt = true;
+    c.matrix = Matrix([[16; 8]; 8]);
+    c.matrix.0[0][1] = 64;
+    for answer in [c.in_picture(), c.alone()] {
+        let samples = accepted(answer, 21, 21);
+        rows_are(&samples, 0..1, [117, 119, 122, 126, 130, 134, 137, 139]);
+        flat(&samples, 1..6, 128);
+    }
+}
+
+// Value (7,7) becomes 1: 127.5 in chroma goes up where column and row add up to an even number, else down.
+#[test]
+fn mismatch_control() {
+    let mut c = worked().with(|c| c.method = Method::One);
+    for answer in [c.in_picture(), c.alone()] {
+        let samples = accepted(answer, 16, 16);
+        flat(&samples, 0..4, 128);
+        (0..128).for_each(|n| assert_eq!(sample(&samples, 4 + n / 64, n % 8, n / 8 % 8), 128 - ((n % 8 + n / 8) % 2) as i32));
+    }
+    c.context.intra_mismatch_exempt = true;
+    flat(&accepted(c.in_picture(), 16, 16), 0..6, 128);
+}
+
+// A's column at quantiser 16, -1 * 16 / 8 = -2, is -39 at quantiser 8; C's row at 8 is -23.
+#[test]
+fn neighbours() {
+    let mut c = worked();
+    c.context.ac_pred_flag = true;
+    c.neighbours.qp_a = 16;
+    c.neighbours.a_first_column = Some([-1, 0, 0, 0, 0, 0, 0]);
+    let samples = accepted(c.alone(), 16, 16);
+    columns_are(&samples, 0..4, [121, 122, 124, 127, 129, 132, 134, 135]);
+    columns_are(&samples, 4..6, [121, 122, 124, 126, 129, 131, 133, 134]);
+    c.neighbours.fc_dc = 1040;
+    c.neighbours.c_first_row = Some([-1, 0, 0, 0, 0, 0, 0]);
+    rows_are(&accepted(c.alone(), 16, 16), 0..6, [126, 127, 128, 129, 131, 132, 133, 134]);
+    c.neighbours.c_first_row = None;
+    flat(&accepted(c.alone(), 16, 16), 0..6, 130);
+}
+
+// Block 0's level goes down from A, and block 1 takes its column; block 2's goes across from C, which is block 0.
+#[test]
+fn ac_prediction() {
+    let mut c = reading("011 01111 011 011 011 11 11", 8, 0);
+    c.context.ac_pred_flag = true;
+    let samples = accepted(c.in_picture(), 21, 21);
+    columns_are(&samples, 0..2, [124, 125, 126, 127, 129, 130, 131, 132]);
+    flat(&samples, 2..6, 128);
+    let higher = [126, 127, 128, 129, 131, 132, 133, 134];
+    let mut c = reading("111 011 011 01111 011 11 11", 2, 0);
+    c.context.ac_pred_flag = true;
+    let samples = accepted(c.in_picture(), 21, 21);
+    flat(&samples, 0..2, 130);
+    rows_are(&samples, 2..3, higher);
+    flat(&samples, 3..4, 130);
+    (c.context.ac_pred_flag, c.context.alternate_vertical_scan) = (false, true);
+    columns_are(&accepted(c.in_picture(), 21, 21), 2..3, higher);
+}
+
+// The second macroblock takes its DC from the first; then the picture is complete.
+#[test]
+fn two_beside_each_other() {
+    let c = reading("111 011 011 011 11 11  011 011 011 011 11 11  011", 0, 0);
+    let (mut store, mut samples) = ([-7; 2 * STORE], BEFORE);
+    let mut picture = Picture::open(2, 1, 8, Method::Two, &mut store).unwrap();
+    assert_eq!(
+        (picture.width(), picture.height(), picture.bits_per_pixel(), picture.method()),
+        (2, 1, 8, Method::Two)
+    );
+    assert_eq!(picture.due(), Some((0, 0)));
+    assert_eq!(c.in_this(&mut picture, &mut samples), Ok(Decoded { bits: 16, position: 16 }));
+    assert_eq!((picture.accepted(), picture.due()), (1, Some((1, 0))));
+    samples = BEFORE;
+    assert_eq!(
+        c.clone().with(|c| c.at = 16).in_this(&mut picture, &mut samples),
+        Ok(Decoded { bits: 16, position: 32 })
+    );
+    flat(&samples, 0..4, 130);
+    flat(&samples, 4..6, 128);
+    samples = BEFORE;
+    let more = c.with(|c| c.at = 32).in_this(&mut picture, &mut samples);
+    refused((more, samples), 15, 0, "Complete");
+    assert_eq!((picture.accepted(), picture.due()), (2, None));
+}
+
+#[test]
+fn bits_that_are_no_sentence() {
+    both_refuse(&reading("", 0, 0), 1, 0, "Truncated");
+    both_refuse(&reading("0000000000001", 0, 0), 2, 1, "InvalidDcSize");
+    both_refuse(&reading("1111111 0", 0, 0).with(|c| c.at = 7), 2, 0, "InvalidDcSize");
+    both_refuse(&reading("00000001 100000000 0", 0, 0), 3, 0, "MarkerBitMissing");
+    both_refuse(&reading("011 0000000000011", 8, 0), 4, 3, "InvalidTcoef");
+    both_refuse(&reading("011 0000011 11 1 000000 0", 8, 0), 5, 0, "EscapeMarkerBitMissing");
+    both_refuse(
+        &reading("011 0000011 11 1 000000 1 000000000000 1", 8, 0),
+        6,
+        0,
+        "ReservedEscapeLevel",
+    );
+    both_refuse(
+        &reading("011 0000011 11 1 000000 1 100000000000 1", 8, 0),
+        6,
+        0,
+        "ReservedEscapeLevel",
+    );
+    let mut c = reading("011 00001 1 000000 1 00000000001 1 0001 0", 8, 0);
+    c.context.reversible_vlc = true;
+    both_refuse(&c, 7, 1, "RvlcEscapeDelimiterMissing");
+    both_refuse(&reading("011 0000011 11 1 111111 1 000000000001 1", 8, 0), 8, 64, "Overflow");
+    let run_63 = "1111111 011 0000011 11 0 111111 1 000000000001 1";
+    both_refuse(&reading(run_63, 8, 0).with(|c| c.at = 7), 1, 0, "Truncated");
+}
+
+#[test]
+fn headers() {
+    for mb_type in [
+        MbType::Missing,
+        MbType::Inter,
+        MbType::InterQ,
+        MbType::Inter4V,
+        MbType::Intra,
+        MbType::IntraQ,
+    ] {
+        let c = worked().with(|c| c.header = Header { mb_type, ..c.header });
+        if !matches!(mb_type, MbType::Intra | MbType::IntraQ) {
+            both_refuse(&c, 10, 0, "NotIntra");
+        }
+        both_refuse(&c.with(|c| c.header.not_coded = true), 9, 0, "NotCoded");
+    }
+}
+
+#[test]
+fn ranges() {
+    both_refuse(&worked().with(|c| c.at = 17), 11, 0, "OutOfRange");
+    both_refuse(&worked().with(|c| c.at = usize::MAX), 11, 0, "OutOfRange");
+    both_refuse(&worked().with(|c| c.data = vec![0; 1_048_577]), 11, 0, "OutOfRange");
+    both_refuse(&worked().with(|c| c.data = vec![0; 1_048_576]), 2, 0, "InvalidDcSize");
+    for quantiser in [0, 32, u32::MAX] {
+        both_refuse(&worked().with(|c| c.context.quantiser_scale = quantiser), 12, 0, "Context");
+    }
+    for depth in [0, 3, 13, u32::MAX] {
+        both_refuse(&worked().with(|c| c.bits_per_pixel = depth), 12, 0, "Context");
+    }
+    let mut c = worked().with(|c| c.matrix.0[7][7] = 0);
+    flat(&accepted(c.in_picture(), 16, 16), 0..6, 128);
+    c.method = Method::One;
+    both_refuse(&c, 12, 0, "Context");
+}
+
+#[test]
+fn neighbours_out_of_range() {
+    let changes: [fn(&mut Neighbours); 9] = [
+        |n| n.fa_dc = 65537,
+        |n| n.fb_dc = -65537,
+        |n| n.fc_dc = i32::MIN,
+        |n| n.qp_a = 0,
+        |n| n.qp_a = u32::MAX,
+        |n| n.qp_c = 32,
+        |n| n.qp_c = 1 << 31,
+        |n| n.a_first_column = Some([0, 0, 0, 0, 0, 0, 2048]),
+        |n| n.c_first_row = Some([-2049, 0, 0, 0, 0, 0, 0]),
+    ];
+    for change in changes {
+        refused(worked().with(|c| change(&mut c.neighbours)).alone(), 13, 0, "Predictor");
+    }
+    assert_eq!(Neighbours::outside(12, 5).fb_dc, 16384);
+}
+
+// A picture and a store that no call of the wrapper leaves.
+#[test]
+fn store_out_of_range() {
+    let (mut state, mut store, mut samples, mut answer) = ([2, 1, 8, 0, 1], [65537; 2 * STORE], BEFORE, [9; 4]);
+    let c = worked();
+    let number = unsafe {
+        ffi::vaxembro_decode_macroblock(
+            state.as_mut_ptr(),
+            state.len(),
+            c.data.as_ptr(),
+            c.data.len(),
+            0,
+            c.header.mb_type as u32,
+            0,
+            0,
+            8,
+            32,
+            c.matrix.0.as_ptr().cast(),
+            64,
+            samples.as_mut_ptr(),
+            samples.len(),
+            store.as_mut_ptr(),
+            store.len(),
+            answer.as_mut_ptr(),
+            answer.len(),
+        )
+    };
+    refused((Err(Refusal { number, figure: 0 }), samples), 13, 0, "Predictor");
+    assert_eq!((state, store, answer), ([2, 1, 8, 0, 1], [65537; 2 * STORE], [13, 0, 0, 0]));
+    assert_eq!(unsafe { ffi::vaxembro_number(answer.as_ptr(), 4) }, 13);
+    assert_eq!(unsafe { ffi::vaxembro_number(answer.as_ptr(), 3) }, 0);
+}
+
+#[test]
+fn store_too_short() {
+    let (mut store, mut samples) = ([-7; 2 * STORE - 1], BEFORE);
+    let mut picture = Picture::open(2, 1, 8, Method::Two, &mut store).unwrap();
+    let result = worked().in_this(&mut picture, &mut samples);
+    refused((result, samples), 14, 0, "TooShort");
+    assert_eq!((picture.accepted(), store), (0, [-7; 2 * STORE - 1]));
+}
+
+#[test]
+fn openings() {
+    let opened = |width, height, depth| Picture::open(width, height, depth, Method::One, &mut []).map(|p| (p.due(), p.method()));
+    assert_eq!(opened(1, 1, 4), Ok((Some((0, 0)), Method::One)));
+    assert_eq!(opened(45, 36, 12), Ok((Some((0, 0)), Method::One)));
+    for (width, height) in [(0, 1), (46, 1), (1, 0), (1, 37), (u32::MAX, u32::MAX)] {
+        assert_eq!(opened(width, height, 3), Err(Refusal { number: 11, figure: 0 }));
+    }
+    assert_eq!(opened(45, 36, 3), Err(Refusal { number: 12, figure: 0 }));
+    assert_eq!(opened(1, 1, 13), Err(Refusal { number: 12, figure: 0 }));
+}
+
+#[test]
+fn refusals_told() {
+    let told = |number, figure| -> String {
+        let error: Box<dyn Error> = Refusal { number, figure }.into();
+        error.to_string()
+    };
+    assert_eq!(told(1, 0), "refused by 1 Truncated");
+    assert_eq!(told(2, 5), "refused by 2 InvalidDcSize, window 5");
+    assert_eq!(told(8, 64), "refused by 8 Overflow, landing 64");
+    assert_eq!(told(15, 0), "refused by 15 Complete");
+}
