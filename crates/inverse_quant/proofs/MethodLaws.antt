@@ -1,29 +1,66 @@
--- Method 1's sign is 1 or -1, and method 2 goes by the level's sign. Assumes nothing.
+-- A sign is -1, 0 or 1, and with it each method is one formula that gives 0 at 0. Assumes nothing.
 use mathlib.Core.Bool.{Bool, true, false, cond}
-use mathlib.Core.Path.{_≡_, refl}
-use Prim.Native.Nat.{ℕ, _≤_}
+use mathlib.Core.Path.{_≡_, refl, ap, _∙_}
+use Prim.Native.Nat.{ℕ, zero, suc, _+_, _-_, _*_, _%_, _≤_}
 use native.Mathlib.Omega.{arith}
-use lib.IntN.{ℤ, pos, negsuc, negℤ, natAbs}
-use lib.Signed.{ltZ, _<ℤ_, _≤ℤ_}
-use borrow.Author.Tests.{ne-eqb}
-use Rattle.numbers.proofs.Integers.{lt-out}
-use Rattle.inverse_quant.specs.Dequantised.{signOf, magnitude2, method2}
+use lib.Dec.{eqb}
+use lib.IntN.{ℤ, pos, negsuc, negℤ, natAbs, _+ℤ_, _-ℤ_, _*ℤ_}
+use lib.Signed.{quotZ, _<ℤ_, _≤ℤ_}
+use borrow.Author.Tests.{eqb-true, eqb-false, ne-eqb}
+use Rattle.numbers.proofs.Integers.{le-in, le-ltZ, lt-out, nat, neg, ring, var, _⊕_, _⊗_, _⊝_}
+use Rattle.inverse_quant.specs.Dequantised.{signum, magnitude2, method1, method1Intra, method2}
 
-pub sign-abs : (z : ℤ) → natAbs (signOf z) ≤ 1
-sign-abs z = go (ltZ z (pos 0))
-  where
-    go : (b : Bool) → natAbs (cond b (negsuc 0) (pos 1)) ≤ 1
-    go true = omega arith
-    go false = omega arith
+-- ---- the sign
 
-pub method2-zero : (z : ℤ) (q : ℕ) → natAbs z ≡ 0 → method2 z q ≡ pos 0
-method2-zero (pos n) q e = rw e
-method2-zero (negsuc n) q e = absurd (omega arith)
+pub sign-abs : (z : ℤ) → natAbs (signum z) ≤ 1
+sign-abs (pos zero) = omega arith
+sign-abs (pos (suc n)) = omega arith
+sign-abs (negsuc n) = omega arith
 
-pub method2-above : (z : ℤ) (q : ℕ) → pos 0 ≤ℤ z → (natAbs z ≡ 0 → ⊥) → method2 z q ≡ pos (magnitude2 (natAbs z) q)
-method2-above (pos n) q h e = rw (ne-eqb n 0 e)
-method2-above (negsuc n) q h e = absurd (h .le)
+pub sign-below : (z : ℤ) → z <ℤ pos 0 → negsuc 0 ≡ signum z
+sign-below (pos n) h = let m = lt-out h in absurd (omega arith)
+sign-below (negsuc n) h = refl
 
-pub method2-below : (z : ℤ) (q : ℕ) → z <ℤ pos 0 → method2 z q ≡ negℤ (pos (magnitude2 (natAbs z) q))
-method2-below (pos n) q h = let m = lt-out h in absurd (omega arith)
-method2-below (negsuc n) q h = refl
+pub sign-above : (z : ℤ) → pos 0 ≤ℤ z → (z ≡ pos 0 → ⊥) → pos 1 ≡ signum z
+sign-above (pos zero) h n = absurd (n refl)
+sign-above (pos (suc n)) h e = refl
+sign-above (negsuc n) h e = absurd (h .le)
+
+-- ---- method 1
+
+not-zero : (n : ℕ) → eqb (suc n) 0 ≡ false
+not-zero n = ne-eqb (suc n) 0 (λ e. omega arith)
+
+pub method1-intra : (z : ℤ) (w q : ℕ) → method1Intra z w q ≡ method1 true z w q
+method1-intra (pos zero) w q = ap (λ (x : ℤ). quotZ x (pos 16)) (ring (nat 0 ⊗ nat w ⊗ nat q ⊗ nat 2) (nat 0) (omega arith))
+method1-intra (pos (suc n)) w q = rw (not-zero n)
+method1-intra (negsuc n) w q = rw (not-zero n)
+
+pub method1-inter : (z : ℤ) (w q : ℕ) → quotZ ((pos 2 *ℤ z +ℤ signum z) *ℤ pos w *ℤ pos q) (pos 16) ≡ method1 false z w q
+method1-inter (pos zero) w q = ap (λ (x : ℤ). quotZ x (pos 16)) (ring ((nat 2 ⊗ nat 0 ⊕ nat 0) ⊗ nat w ⊗ nat q) (nat 0) (omega arith))
+method1-inter (pos (suc n)) w q = rw (not-zero n, le-ltZ (pos (suc n)) (pos 0) (le-in (omega arith)))
+method1-inter (negsuc n) w q = rw (not-zero n)
+
+-- ---- method 2
+
+-- of a magnitude that is not 0
+module _ (n q : ℕ) (h : 1 ≤ q) where
+  above : (t : Bool) → eqb (q % 2) 1 ≡ t
+      → ((pos 2 *ℤ pos (suc n) +ℤ pos 1) *ℤ pos q -ℤ pos 1 *ℤ (pos 1 -ℤ pos (q % 2))) ≡ pos (cond t ((2 * suc n + 1) * q) ((2 * suc n + 1) * q - 1))
+  above true e =
+      let p : q % 2 ≡ 1 = eqb-true (q % 2) 1 e in
+      ring ((nat 2 ⊗ nat (suc n) ⊕ nat 1) ⊗ nat q ⊝ nat 1 ⊗ (nat 1 ⊝ nat (q % 2))) (nat ((2 * suc n + 1) * q)) (omega arith)
+  above false e =
+      let p : q % 2 ≡ 0 = let f = eqb-false (q % 2) 1 e in omega arith in
+      ring ((nat 2 ⊗ nat (suc n) ⊕ nat 1) ⊗ nat q ⊝ nat 1 ⊗ (nat 1 ⊝ nat (q % 2))) (nat ((2 * suc n + 1) * q - 1)) (omega arith)
+
+  below : ((pos 2 *ℤ negsuc n +ℤ negsuc 0) *ℤ pos q -ℤ negsuc 0 *ℤ (pos 1 -ℤ pos (q % 2))) ≡ negℤ ((pos 2 *ℤ pos (suc n) +ℤ pos 1) *ℤ pos q -ℤ pos 1 *ℤ (pos 1 -ℤ pos (q % 2)))
+  below =
+      ring ((nat 2 ⊗ var (negsuc n) ⊕ var (negsuc 0)) ⊗ nat q ⊝ var (negsuc 0) ⊗ (nat 1 ⊝ nat (q % 2)))
+      (neg ((nat 2 ⊗ nat (suc n) ⊕ nat 1) ⊗ nat q ⊝ nat 1 ⊗ (nat 1 ⊝ nat (q % 2)))) (omega arith)
+
+pub method2-is : (z : ℤ) (q : ℕ) → 1 ≤ q → ((pos 2 *ℤ z +ℤ signum z) *ℤ pos q -ℤ signum z *ℤ (pos 1 -ℤ pos (q % 2))) ≡ method2 z q
+method2-is (pos zero) q h =
+    ring ((nat 2 ⊗ nat 0 ⊕ nat 0) ⊗ nat q ⊝ nat 0 ⊗ (nat 1 ⊝ nat (q % 2))) (nat 0) (omega arith)
+method2-is (pos (suc n)) q h = rw (not-zero n) (above n q h (eqb (q % 2) 1) refl)
+method2-is (negsuc n) q h = below n q h ∙ rw (above n q h (eqb (q % 2) 1) refl)

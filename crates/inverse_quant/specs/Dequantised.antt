@@ -1,7 +1,7 @@
 -- Inverse quantisation (7.4.4): both methods, the limits, and mismatch control. Definitions only.
 use mathlib.Core.Bool.{Bool, cond, not, _&&_}
 use mathlib.Core.List.{List, [], _∷_}
-use Prim.Native.Nat.{ℕ, suc, _+_, _-_, _*_, _%_, _^_}
+use Prim.Native.Nat.{ℕ, zero, suc, _+_, _-_, _*_, _%_, _^_}
 use lib.Dec.{eqb}
 use lib.IntN.{ℤ, pos, negsuc, negℤ, natAbs, _+ℤ_, _-ℤ_, _*ℤ_}
 use lib.Signed.{ltZ, quotZ}
@@ -28,6 +28,12 @@ method1Intra qf w q = quotZ (qf *ℤ pos w *ℤ pos q *ℤ pos 2) (pos 16)
 -- and not intra: with QF's sign, and 0 at 0
 abbrev pub signOf : ℤ → ℤ
 signOf z = cond (ltZ z (pos 0)) (negsuc 0) (pos 1)
+
+-- its sign, and 0 at 0
+abbrev pub signum : ℤ → ℤ
+signum (pos zero) = pos 0
+signum (pos (suc n)) = pos 1
+signum (negsuc n) = negsuc 0
 
 abbrev pub method1Inter : ℤ → ℕ → ℕ → ℤ
 method1Inter qf w q = quotZ ((pos 2 *ℤ qf +ℤ signOf qf) *ℤ pos w *ℤ pos q) (pos 16)

@@ -2,7 +2,7 @@
 ghost use mathlib.Core.Path.{_≡_};
 ghost use Prim.Native.Nat.{_≤_};
 ghost use lib.IntN.{natAbs};
-ghost use Rattle.inverse_quant.specs.Dequantised.{intraDc, method1, magnitude2, method2, limitedF};
+ghost use Rattle.inverse_quant.specs.Dequantised.{intraDc, signum, method1, method2, limitedF};
 ghost use Rattle.inverse_quant.specs.Stages.{intraDcAnswer, method1Answer, method2Answer, ContextGood};
 use crate::context::InverseQuantContext;
 use codes::DcComponent;
@@ -43,18 +43,28 @@ pub fn inverse_quant_intra_dc(
     Value::Is(intra_dc(qf00, component, quantiser_scale, short_video_header))
 }
 
-// 7.4.4.1.2, of a level and a quantiser up to 511: cut toward zero.
+// -1, 0 or 1.
+fn sign_of(z: i32) -> i32
+    ensures { λ r. ⌜ (r ≡ signum z) × (natAbs r ≤ 1) ⌝ }
+{
+    if z < 0 {
+        return -1;
+    }
+    if z == 0 {
+        return 0;
+    }
+    1
+}
+
+// 7.4.4.1.2, of a level and a quantiser up to 511: cut toward zero. Either rule gives 0 at 0.
 fn method1_coef(qf: i32, w: u8, quantiser_scale: u32, macroblock_intra: bool) -> i32
     requires { ⌜ (natAbs qf ≤ 2048) × («quantiser_scale» ≤ 511) ⌝ }
     ensures { λ r. ⌜ r ≡ method1 «macroblock_intra» qf w «quantiser_scale» ⌝ }
 {
-    if qf == 0 {
-        return 0;
-    }
     if macroblock_intra {
         return (qf * (w as i32) * (quantiser_scale as i32) * 2) / 16;
     }
-    let sign = if qf < 0 { -1 } else { 1 };
+    let sign = sign_of(qf);
     ((2 * qf + sign) * (w as i32) * (quantiser_scale as i32)) / 16
 }
 
@@ -79,27 +89,14 @@ pub fn inverse_quant_method1_coef(
     Value::Is(method1_coef(qf, w, quantiser_scale, macroblock_intra))
 }
 
-// 7.4.4.2.1, of the magnitude.
-fn magnitude(a: u32, quantiser_scale: u32) -> u32
-    requires { ⌜ (a ≤ 2048) × (1 ≤ «quantiser_scale») × («quantiser_scale» ≤ 511) ⌝ }
-    ensures { λ r. ⌜ (r ≡ magnitude2 a «quantiser_scale») × (r ≤ 2093567) ⌝ }
-{
-    if quantiser_scale % 2 == 1 {
-        return (2 * a + 1) * quantiser_scale;
-    }
-    (2 * a + 1) * quantiser_scale - 1
-}
-
-// 7.4.4.2.1, of a level and a quantiser up to 511.
+// 7.4.4.2.1, of a level and a quantiser up to 511: (2 QF + sign) q, less the sign for an even q.
 fn method2_coef(qf: i32, quantiser_scale: u32) -> i32
     requires { ⌜ (natAbs qf ≤ 2048) × (1 ≤ «quantiser_scale») × («quantiser_scale» ≤ 511) ⌝ }
     ensures { λ r. ⌜ r ≡ method2 qf «quantiser_scale» ⌝ }
 {
-    if qf == 0 {
-        return 0;
-    }
-    let m = magnitude(numbers::abs(qf), quantiser_scale) as i32;
-    if qf < 0 { -m } else { m }
+    let sign = sign_of(qf);
+    let even = 1 - ((quantiser_scale % 2) as i32);
+    (2 * qf + sign) * (quantiser_scale as i32) - sign * even
 }
 
 // 7.4.4.2.1: one value by method 2, before limiting; or 12 or 13.

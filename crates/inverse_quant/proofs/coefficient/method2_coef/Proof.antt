@@ -1,69 +1,85 @@
--- `inverse_quant::coefficient::method2_coef` meets its contract: the magnitude's value with the level's sign, and 0 at 0. Assumes nothing.
-use mathlib.Core.Path.{_≡_, ap, sym, _∙_}
-use Prim.Native.Nat.{ℕ}
+-- `inverse_quant::coefficient::method2_coef` meets its contract: the product is at most 4097 * 511, and the formula is the definition's. Assumes nothing.
+use mathlib.Core.Path.{_≡_, ap, _∙_}
+use Prim.Native.Nat.{_%_}
 use native.Mathlib.Omega.{arith}
-use lib.IntN.{natAbs, negℤ, pos, +ℤ-idl}
+use lib.IntN.{ℤ, pos, _+ℤ_, _-ℤ_, _*ℤ_}
 use mir.Syntax.{w32}
 use borrow.Author.Needs.{needs}
-use Rattle.numbers.proofs.Expressions.{Sx, loc, lit, _⊟_, back, fits, test-eq, test-lt, test-ne}
-use Rattle.numbers.proofs.Integers.{lt-false, lt-true}
-use Rattle.numbers.proofs.Magnitudes.{zero-of-abs}
-use Rattle.inverse_quant.specs.Dequantised.{magnitude2}
-use Rattle.inverse_quant.proofs.MethodLaws.{method2-above, method2-below, method2-zero}
+use Rattle.numbers.proofs.Expressions.{Sx, loc, lit, _⊞_, _⊟_, _⊠_, back, fits}
+use Rattle.inverse_quant.specs.Dequantised.{signum}
+use Rattle.inverse_quant.proofs.MethodLaws.{method2-is}
 use Rattle.inverse_quant.proofs.coefficient.method2_coef.Statement.{statement}
 use Rattle.inverse_quant.proofs.coefficient.method2_coef.Tie as tie
 
-abbrev qf : tie.Start → Sx w32
-qf s = loc (s .args .qf) 2048 (s .pre .0)
+module _ (c : tie.After-sign-of) where
+  abbrev s : tie.Start
+  s = c .before
+
+  abbrev qf : Sx w32
+  qf = loc (s .args .qf) 2048 (s .pre .0)
+
+  abbrev scale : Sx w32
+  scale = loc (pos (s .args .quantiser-scale)) 511 (s .pre .2)
+
+  abbrev sign : Sx w32
+  sign = loc (c .sign-of .result) 1 (c .sign-of .ensures .1)
+
+  sign-is : c .sign-of .result ≡ signum (s .args .qf)
+  sign-is = c .sign-of .ensures .0 ∙ ap signum (back qf tt)
+
+  abbrev even : Sx w32
+  even = lit (pos 1) ⊟ loc (pos (s .args .quantiser-scale % 2)) 1 (omega arith)
+
+  abbrev x₁ : Sx w32
+  x₁ = lit (pos 2) ⊠ qf
+
+  abbrev x₂ : Sx w32
+  x₂ = x₁ ⊞ sign
+
+  abbrev x₃ : Sx w32
+  x₃ = x₂ ⊠ scale
+
+  abbrev less : Sx w32
+  less = sign ⊠ even
+
+  abbrev x₄ : Sx w32
+  x₄ = x₃ ⊟ less
+
+sign-of-requires : tie.Need-sign-of-requires
+sign-of-requires c κs = search needs
+
+cast-even : tie.Need-cast-even
+cast-even c = search needs
+
+sub-even : tie.Need-sub-even
+sub-even c = fits (even c) tt
+
+mul-result : tie.Need-mul-result
+mul-result c = fits (x₁ c) tt
+
+add-result : tie.Need-add-result
+add-result c = fits (x₂ c) tt
+
+cast-result : tie.Need-cast-result
+cast-result c = search needs
+
+mul-result-2 : tie.Need-mul-result-2
+mul-result-2 c = fits (x₃ c) tt
+
+mul-result-3 : tie.Need-mul-result-3
+mul-result-3 c = fits (less c) tt
+
+sub-result : tie.Need-sub-result
+sub-result c = fits (x₄ c) tt
 
 returns : tie.Need-returns
 returns c =
-    let s = c .before in
-    sym (method2-zero (s .args .qf) (s .args .quantiser-scale) (ap natAbs (test-eq (qf s) (lit (pos 0)) tt tt (c .if1 .taken))))
-
-abs-requires : tie.Need-abs-requires
-abs-requires c κs = search needs
-
--- what `abs` gave
-size : (c : tie.After-abs) → c .abs .result ≡ natAbs (c .before .before .args .qf)
-size c = c .abs .ensures ∙ ap natAbs (back (qf (c .before .before)) tt)
-
-magnitude-requires : tie.Need-magnitude-requires
-magnitude-requires c κs = omega (arith, size c)
-
--- what `magnitude` gave
-abbrev m : tie.After-magnitude → Sx w32
-m c = loc (pos (c .magnitude .result)) 2093567 (c .magnitude .ensures .1)
-
-module _ (c : tie.After-magnitude) where
-  abbrev s : tie.Start
-  s = c .before .before .before
-
-  is : c .magnitude .result ≡ magnitude2 (natAbs (s .args .qf)) (s .args .quantiser-scale)
-  is = c .magnitude .ensures .0 ∙ ap (λ (a : ℕ). magnitude2 a (s .args .quantiser-scale)) (size (c .before))
-
-  nonzero : natAbs (s .args .qf) ≡ 0 → ⊥
-  nonzero e = test-ne (qf s) (lit (pos 0)) tt tt (c .before .before .if1 .left) (zero-of-abs (s .args .qf) e)
-
-cast-m : tie.Need-cast-m
-cast-m c = search needs
-
-sub-result : tie.Need-sub-result
-sub-result c = fits (lit (pos 0) ⊟ m (c .before)) tt
-
-returns-2 : tie.Need-returns-2
-returns-2 c =
-    let a = c .before in
-    let z = s a .args .qf in
-    let h = lt-true z (pos 0) (test-lt (qf (s a)) (lit (pos 0)) tt tt (c .if2 .taken)) in
-    back (lit (pos 0) ⊟ m a) tt ∙ +ℤ-idl (negℤ (pos (a .magnitude .result))) ∙ ap (λ (n : ℕ). negℤ (pos n)) (is a) ∙ sym (method2-below z (s a .args .quantiser-scale) h)
-
-returns-3 : tie.Need-returns-3
-returns-3 c =
-    let a = c .before in
-    let z = s a .args .qf in
-    let h = lt-false z (pos 0) (test-lt (qf (s a)) (lit (pos 0)) tt tt (c .if2 .left)) in
-    back (m a) tt ∙ ap pos (is a) ∙ sym (method2-above z (s a .args .quantiser-scale) h (nonzero a))
+    let z = s c .args .qf in
+    let q = s c .args .quantiser-scale in
+    back (x₄ c) tt
+    ∙ ap (λ (t : ℤ). (pos 2 *ℤ z +ℤ t) *ℤ pos q -ℤ t *ℤ (pos 1 -ℤ pos (q % 2))) (sign-is c)
+    ∙ method2-is z q (s c .pre .1)
 
 pub method2-coef-spec : {M : Type 1} → statement M
-method2-coef-spec = tie.close (tie.spec returns abs-requires magnitude-requires cast-m sub-result returns-2 returns-3)
+method2-coef-spec =
+    tie.close (tie.spec sign-of-requires cast-even sub-even mul-result add-result cast-result mul-result-2 mul-result-3 sub-result returns)
