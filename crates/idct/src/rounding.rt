@@ -3,7 +3,8 @@ ghost use mathlib.Core.Path.{_≡_};
 ghost use Prim.Native.Nat.{_≤_};
 ghost use lib.IntN.{natAbs};
 ghost use Rattle.f64_error.specs.Wholes.{floorZ, magF};
-ghost use Rattle.idct.specs.Rounding.{Roundable, tied, wholeOf};
+ghost use Rattle.idct.specs.Rounding.{Roundable, nearZ, tied, wholeOf};
+ghost use Rattle.idct.specs.declared.rounding.HalfIntegerRounding.{HalfIntegerRounding};
 
 // How a value half-way between two whole numbers is rounded.
 pub enum HalfIntegerRounding {
@@ -22,6 +23,15 @@ const HALF_INTEGER_TOLERANCE: f64 = 1e-8;
 // half away: from 2^52 on an f64 is a whole number.
 const SHIFT: f64 = 6_755_399_441_055_744.0;
 
+// x to a whole number at most a half away.
+pub(crate) fn nearest_of(x: f64) -> i32
+    requires { ⌜ Roundable x ⌝ }
+    ensures { λ r. ⌜ r ≡ nearZ x ⌝ }
+{
+    let near = x + SHIFT - SHIFT;
+    near as i32
+}
+
 // The whole number at or below x.
 fn floor_of(x: f64) -> i32
     requires { ⌜ Roundable x ⌝ }
@@ -37,6 +47,21 @@ fn magnitude(x: f64) -> f64
     ensures { λ r. ⌜ r ≡ magF x ⌝ }
 {
     if x < 0.0 { -x } else { x }
+}
+
+// 1/2 - 2^-14.
+const WELL_WITHIN: f64 = 0.499_938_964_843_75;
+
+// 0 where `nearest_of` is so near to x that no rule gives another whole number; elsewhere 1.
+pub(crate) fn unsettled(x: f64) -> u32
+    requires { ⌜ Roundable x ⌝ }
+    ensures { λ r. ⌜ (r ≤ 1) × (r ≡ 0 → (m : HalfIntegerRounding) → wholeOf m x ≡ nearZ x) ⌝ }
+{
+    let near = x + SHIFT - SHIFT;
+    if magnitude(x - near) < WELL_WITHIN {
+        return 0;
+    }
+    1
 }
 
 // The neighbour of `below` and a half that the rule picks.

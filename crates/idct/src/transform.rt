@@ -17,7 +17,9 @@ use crate::dc::dc_alone;
 use crate::dc::dc_samples;
 use crate::limits::saturate_idct_sample;
 use crate::rounding::HalfIntegerRounding;
+use crate::rounding::nearest_of;
 use crate::rounding::round_to_integer;
+use crate::rounding::unsettled;
 
 // Half of each sum.
 fn halves(sums: [f64; 8]) -> [f64; 8]
@@ -146,7 +148,40 @@ fn column_sums(coefficients: [[i32; 8]; 8], cos: &[[f64; 8]; 8]) -> [[f64; 8]; 8
     sums
 }
 
-// Each sum halved, rounded and saturated.
+// Each sum of a row halved, rounded by the rule and saturated.
+fn ruled_row(sums: [f64; 8], bits_per_pixel: u32, rounding: HalfIntegerRounding) -> [i32; 8]
+    requires { ⌜ ((x : ℕ) → x < 8 → Roundable (mul binary64 half (getD sums x nan))) ⌝ }
+    ensures { λ r. ⌜ r ≡ build 8 (λ (x : ℕ). saturated «bits_per_pixel» (wholeOf rounding (mul binary64 half (getD sums x nan)))) ⌝ }
+{
+    let mut out = [0i32; 8];
+    for x in 0..8 {
+        let value = 0.5 * sums[x];
+        let n = round_to_integer(value, rounding);
+        out[x] = saturate_idct_sample(n, bits_per_pixel);
+    }
+    out
+}
+
+// The same. Where every value is well within a half of a whole number, no rule is asked.
+fn sample_row(sums: [f64; 8], bits_per_pixel: u32, rounding: HalfIntegerRounding) -> [i32; 8]
+    requires { ⌜ ((x : ℕ) → x < 8 → Roundable (mul binary64 half (getD sums x nan))) ⌝ }
+    ensures { λ r. ⌜ r ≡ build 8 (λ (x : ℕ). saturated «bits_per_pixel» (wholeOf rounding (mul binary64 half (getD sums x nan)))) ⌝ }
+{
+    let mut out = [0i32; 8];
+    let mut doubts: u32 = 0;
+    for x in 0..8 {
+        let value = 0.5 * sums[x];
+        let n = nearest_of(value);
+        out[x] = saturate_idct_sample(n, bits_per_pixel);
+        doubts += unsettled(value);
+    }
+    if doubts == 0 {
+        return out;
+    }
+    ruled_row(sums, bits_per_pixel, rounding)
+}
+
+// The same of each row.
 fn to_samples(
     sums: [[f64; 8]; 8],
     bits_per_pixel: u32,
@@ -157,11 +192,8 @@ fn to_samples(
 {
     let mut out = [[0i32; 8]; 8];
     for y in 0..8 {
-        for x in 0..8 {
-            let value = 0.5 * sums[y][x];
-            let n = round_to_integer(value, rounding);
-            out[y][x] = saturate_idct_sample(n, bits_per_pixel);
-        }
+        let row = sums[y];
+        out[y] = sample_row(row, bits_per_pixel, rounding);
     }
     out
 }

@@ -1,0 +1,83 @@
+-- A whole number that is well within a half of x is the whole number of x, under either rule. Assumes nothing.
+use mathlib.Core.Bool.{Bool, true, false, cond}
+use mathlib.Core.Path.{_≡_, refl, sym, subst}
+use Prim.Native.Nat.{ℕ, _+_, _-_, _*_, _^_, _≤_, _<_}
+use native.Mathlib.Nat.{le-of-eq, le-trans, lt-of-mul-lt-mul-right, mul-le-mul-right}
+use native.Mathlib.Omega.{arith}
+use lib.Ieee.{Float, binary64, fin, lt, neg, ofBits, sub}
+use lib.IntN.{ℤ, pos, natAbs, negℤ, _+ℤ_, _*ℤ_}
+use Rattle.numbers.proofs.Integers.{abs-is, add-is, dn, eq-in, neg-dn, neg-up, up}
+use Rattle.f64_error.proofs.Binary64.{below, grain-pos, is-unique, lt-is, neg-is, nlt-is, off, one-is, one-pos, sub-off, zero-is}
+use Rattle.f64_error.proofs.FromIntegers.{times-dn, times-up}
+use Rattle.f64_error.proofs.Operations.{Close}
+use Rattle.f64_error.specs.Units.{Is, grain, one}
+use Rattle.f64_error.specs.Wholes.{RoundOf, floorZ, magF}
+use Rattle.idct.specs.Rounding.{Roundable, nearF, nearZ, wholeOf}
+use Rattle.idct.specs.declared.rounding.HalfIntegerRounding.{HalfIntegerRounding}
+use Rattle.idct.proofs.Floors.{near-exactly, near-size}
+use Rattle.idct.proofs.Rounds.{rounded-near}
+
+-- 1/2 - 2 ^ -14
+abbrev pub wellWithin : Float
+wellWithin = ofBits binary64 4602677719661019136
+
+well-is : Is wellWithin (pos (576390383559245824 * grain))
+unfolding Is ofBits grain
+well-is = (576390383559245824 * 2 ^ 1014, refl, refl)
+
+-- n within 1/2 + 2 ^ -26 of v, and t within 1/2 - 2 ^ -15 of it, are one
+one-whole : (n t v : ℤ) → up n * one + dn v ≤ dn n * one + up v + (2 ^ 59 + 12066085959) * grain → dn n * one + up v ≤ up n * one + dn v + (2 ^ 59 + 12066085959) * grain
+    → up t * one + dn v ≤ dn t * one + up v + 576425567931334656 * grain → dn t * one + up v ≤ up t * one + dn v + 576425567931334656 * grain → n ≡ t
+one-whole n t v a b c d =
+    let l : (up n + dn t) * one < (dn n + up t + 1) * one = omega (arith, one-is, grain-pos) in
+    let r : (dn n + up t) * one < (up n + dn t + 1) * one = omega (arith, one-is, grain-pos) in
+    let x = lt-of-mul-lt-mul-right one l in
+    let y = lt-of-mul-lt-mul-right one r in
+    eq-in (omega arith)
+
+module _ (x : Float) (h : Roundable x) where
+  abbrev v : ℤ
+  v = h .v
+
+  abbrev t : ℤ
+  t = nearZ x
+
+  abbrev d : Float
+  d = sub binary64 x (nearF x)
+
+  room : natAbs v + natAbs (t *ℤ pos one) < below 22
+  room =
+      let l : (up t + dn t) * one ≤ 1048576 * one = mul-le-mul-right one (le-trans (le-of-eq (sym (abs-is t))) (near-size x h)) in
+      omega (arith, h .size, abs-is (t *ℤ pos one), times-up t one, times-dn t one, one-is, grain-pos)
+
+  taken : (w : ℤ) × Is d w × Close w (v +ℤ negℤ (t *ℤ pos one)) (off 22)
+  taken = sub-off 22 x (nearF x) v (t *ℤ pos one) (omega arith) (h .is) (near-exactly x h) room
+
+  small : lt (magF d) wellWithin ≡ true → (up (taken .0) ≤ dn (taken .0) + 576390383559245824 * grain) × (dn (taken .0) ≤ up (taken .0) + 576390383559245824 * grain)
+  small q = go (lt d (fin false 0 (pos 0))) refl q
+    where
+      go : (b : Bool) → lt d (fin false 0 (pos 0)) ≡ b → lt (cond b (neg d) d) wellWithin ≡ true
+          → (up (taken .0) ≤ dn (taken .0) + 576390383559245824 * grain) × (dn (taken .0) ≤ up (taken .0) + 576390383559245824 * grain)
+      go true e g =
+          let l = lt-is d (fin false 0 (pos 0)) (taken .0) (pos 0) (taken .1) zero-is e in
+          let m = lt-is (neg d) wellWithin (negℤ (taken .0)) (pos (576390383559245824 * grain)) (neg-is d (taken .0) (taken .1)) well-is g in
+          omega (arith, neg-up (taken .0), neg-dn (taken .0))
+      go false e g =
+          let l = nlt-is d (fin false 0 (pos 0)) (taken .0) (pos 0) (taken .1) zero-is e in
+          let m = lt-is d wellWithin (taken .0) (pos (576390383559245824 * grain)) (taken .1) well-is g in
+          omega arith
+
+  pub settled : lt (magF d) wellWithin ≡ true → (m : HalfIntegerRounding) → wholeOf m x ≡ nearZ x
+  settled q m =
+      let o = rounded-near x h (floorZ x) refl m in
+      let e = is-unique x (o .v) v (o .is) (h .is) in
+      let s = small q in
+      let s1 = s .0 in
+      let s2 = s .1 in
+      let c = taken .2 in
+      let k = add-is v (negℤ (t *ℤ pos one)) in
+      let n = wholeOf m x in
+      one-whole n t v (subst (λ (z : ℤ). up n * one + dn z ≤ dn n * one + up z + (2 ^ 59 + 12066085959) * grain) e (o .over))
+      (subst (λ (z : ℤ). dn n * one + up z ≤ up n * one + dn z + (2 ^ 59 + 12066085959) * grain) e (o .under))
+      (omega (arith, c .over, c .under, neg-up (t *ℤ pos one), neg-dn (t *ℤ pos one), times-up t one, times-dn t one))
+      (omega (arith, c .over, c .under, neg-up (t *ℤ pos one), neg-dn (t *ℤ pos one), times-up t one, times-dn t one))

@@ -1,0 +1,97 @@
+-- `idct::transform::ruled_row` meets its contract, one value a turn. Assumes nothing.
+use mathlib.Core.List.{List}
+use mathlib.Core.Path.{_≡_, refl, ap, subst, sym, _∙_}
+use Prim.Native.Nat.{ℕ, _-_, _≤_}
+use native.Mathlib.Omega.{arith}
+use lib.Ieee.{Float, nan, binary64, mul}
+use lib.IntN.{ℤ, pos}
+use lib.ListN.{getD}
+use mir.Facts.{toZ-ofZ}
+use mir.Syntax.{w32}
+use Rattle.numbers.proofs.Fill.{part, cells-none, cells-more, cells-all}
+use Rattle.numbers.specs.Grid.{build}
+use Rattle.f64_error.specs.Series.{half}
+use Rattle.idct.specs.Limits.{saturated}
+use Rattle.idct.specs.Rounding.{Roundable, wholeOf}
+use Rattle.idct.specs.declared.rounding.HalfIntegerRounding.{HalfIntegerRounding}
+use Rattle.idct.proofs.Loops.{half-bits}
+use Rattle.idct.proofs.transform.ruled_row.Statement.{statement}
+use Rattle.idct.proofs.transform.ruled_row.Tie as tie
+
+abbrev f : ℕ → HalfIntegerRounding → List Float → ℕ → ℤ
+f bits rounding sums x = saturated bits (wholeOf rounding (mul binary64 half (getD sums x nan)))
+
+abbrev z : ℕ → ℤ
+z x = pos 0
+
+abbrev Inv-loop : tie.InvT-loop
+Inv-loop bits-per-pixel rounding sums out₀ x₀ out x = (x ≤ 8) × (out ≡ part 8 (f bits-per-pixel rounding sums) z x)
+
+abbrev μ-loop : tie.MeasureT-loop
+μ-loop bits-per-pixel rounding sums out₀ x₀ out x = 8 - x
+
+loop-holds : tie.Need-loop-holds Inv-loop μ-loop
+unfolding build
+loop-holds c = (omega arith, cells-none 8 (f (c .args .bits-per-pixel) (c .args .rounding) (c .args .t1)) z _ refl)
+
+mul-value : tie.Need-mul-value Inv-loop μ-loop
+mul-value c = omega arith
+
+array-read-value : tie.Need-array-read-value Inv-loop μ-loop
+array-read-value c = omega arith
+
+round-to-integer-requires : tie.Need-round-to-integer-requires Inv-loop μ-loop
+round-to-integer-requires c κs =
+    let i = c .before in
+    let s = i .before in
+    subst (λ (h : Float). Roundable (mul binary64 h (getD (s .args .t1) (i .loop .x) nan))) (sym half-bits) (s .pre _ (c .loop-test .taken))
+
+saturate-idct-sample-requires : tie.Need-saturate-idct-sample-requires Inv-loop μ-loop
+saturate-idct-sample-requires c κs = tt
+
+mul-out : tie.Need-mul-out Inv-loop μ-loop
+mul-out c = omega arith
+
+array-set-from-out : tie.Need-array-set-from-out Inv-loop μ-loop
+array-set-from-out c = omega arith
+
+add-x : tie.Need-add-x Inv-loop μ-loop
+add-x c = omega arith
+
+loop-less : tie.Need-loop-less Inv-loop μ-loop
+loop-less c = omega arith
+
+loop-again : tie.Need-loop-again Inv-loop μ-loop
+loop-again c =
+    let i = c .before .before .before in
+    let a = i .before .args in
+    let n = c .before .round-to-integer .result in
+    let r = c .saturate-idct-sample .result in (
+      omega arith,
+      cells-more 8 _ _ (pos 0) _ _ _ (c .before .before .loop-test .taken) (i .loop .inv .1)
+          (toZ-ofZ {w = w32} {z = r} (record { sfits = c .saturate-idct-sample .ok }) ∙ c .saturate-idct-sample .ensures
+          ∙ ap (saturated (a .bits-per-pixel))
+          (toZ-ofZ {w = w32} {z = n} (record { sfits = c .before .round-to-integer .ok }) ∙ c .before .round-to-integer .ensures
+          ∙ ap (λ (h : Float). wholeOf (a .rounding) (mul binary64 h (getD (a .t1) (i .loop .x) nan))) half-bits)),
+    )
+
+returns : tie.Need-returns Inv-loop μ-loop
+returns c = cells-all 8 _ _ _ _ (c .loop-test .left) (c .before .loop .inv .0) (c .before .loop .inv .1)
+
+pub ruled-row-spec : {M : Type 1} → statement M
+ruled-row-spec =
+    tie.close
+    (tie.spec
+    Inv-loop
+    μ-loop
+    loop-holds
+    mul-value
+    array-read-value
+    round-to-integer-requires
+    saturate-idct-sample-requires
+    mul-out
+    array-set-from-out
+    add-x
+    loop-less
+    loop-again
+    returns)
