@@ -1,5 +1,5 @@
 -- What a call over lent memory answers and leaves there, refusals and memory that is too short included. Definitions only.
-use mathlib.Core.Bool.{Bool, cond, not, _&&_}
+use mathlib.Core.Bool.{Bool, not, _&&_}
 use mathlib.Core.List.{List}
 use Prim.Native.Nat.{ℕ}
 use lib.Dec.{eqb, leb}

@@ -1,9 +1,35 @@
 // A macroblock read alone, with neighbours that are lent.
 ghost use mathlib.Core.Bool.{cond};
 ghost use mathlib.Core.Path.{_≡_};
+ghost use Rattle.macroblock.specs.Answer.{macroblockAnswer, samplesOut};
 ghost use Rattle.c_interface.specs.Answer.{answerAfter, toldAlone};
 ghost use Rattle.c_interface.specs.Calls.{decodedAlone, longEnoughAlone, samplesAfter};
+ghost use Rattle.c_interface.specs.Lent.{dcCoded, reversible};
 use bits::Cursor;
+use block::MacroblockTextureContext;
+use coefficients::BlockPredictors;
+use macroblock::MacroblockDecoded;
+use macroblock::MacroblockHeader;
+
+// By the flags that are no field of header or context.
+fn decoded(
+    data: &[u8],
+    at: usize,
+    header: MacroblockHeader,
+    flags: u32,
+    ctx: MacroblockTextureContext,
+    near: BlockPredictors,
+    w: [[u8; 8]; 8],
+    samples: &mut [i32],
+) -> MacroblockDecoded
+    ensures { λ r. ⌜ r ≡ macroblockAnswer (now («data» .entry)) at header (dcCoded flags) (reversible flags) ctx near w (now (samples .entry)) ⌝ }
+    ensures samples { λ r. ⌜ now (samples .exit) ≡ samplesOut (now («data» .entry)) at header (dcCoded flags) (reversible flags) ctx near w (now (samples .entry)) ⌝ }
+{
+    let c = Cursor { bit_pos: at };
+    let dc_coded = crate::lent::use_intra_dc_vlc(flags);
+    let rev = crate::lent::reversible_vlc(flags);
+    macroblock::decode_intra_macroblock(data, c, header, dc_coded, rev, ctx, near, w, samples)
+}
 
 // 14 where neighbours, matrix or answer is too short: then nothing is written.
 #[no_mangle]
@@ -35,23 +61,10 @@ pub extern "C" fn vaxembro_decode_intra_macroblock(
         return 14;
     }
     let header = crate::lent::header_of(mb_type, cbpy, cbpc, flags);
-    let dc_coded = crate::lent::use_intra_dc_vlc(flags);
-    let reversible = crate::lent::reversible_vlc(flags);
     let ctx = crate::lent::texture_context_of(quantiser_scale, bits_per_pixel, flags);
     let near = crate::lent::neighbours_of(neighbours);
     let w = crate::lent::matrix_of(matrix);
-    let c = Cursor { bit_pos: at };
-    let d = macroblock::decode_intra_macroblock(
-        data,
-        c,
-        header,
-        dc_coded,
-        reversible,
-        ctx,
-        near,
-        w,
-        samples,
-    );
+    let d = decoded(data, at, header, flags, ctx, near, w, samples);
     let t = crate::answer::told_alone(d, at);
     crate::answer::tell(answer, t)
 }

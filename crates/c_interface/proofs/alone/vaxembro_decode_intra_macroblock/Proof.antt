@@ -1,5 +1,4 @@
 -- `c_interface::alone::vaxembro_decode_intra_macroblock` meets its contract: what the lent numbers say, handed to the decoder. Assumes nothing.
-use mathlib.Core.Bool.{Bool}
 use mathlib.Core.List.{List}
 use mathlib.Core.Path.{_≡_, ap, _∙_}
 use Prim.Native.Nat.{ℕ}
@@ -11,16 +10,17 @@ use Rattle.macroblock.specs.Answer.{macroblockAnswer, samplesOut}
 use Rattle.macroblock.specs.declared.decode.MacroblockDecoded.{MacroblockDecoded}
 use Rattle.macroblock.specs.declared.header.MacroblockHeader.{MacroblockHeader}
 use Rattle.c_interface.specs.Answer.{answerAfter, toldAlone}
+use Rattle.c_interface.specs.Lent.{dcCoded, reversible}
 use Rattle.c_interface.specs.declared.answer.Told.{Told}
 use Rattle.c_interface.proofs.RoomLaws.{all-long, answer-short, first-short, long-is, matrix-short, short-is}
 use Rattle.c_interface.proofs.alone.vaxembro_decode_intra_macroblock.Statement.{statement}
 use Rattle.c_interface.proofs.alone.vaxembro_decode_intra_macroblock.Tie as tie
 
 -- what each lent number says, put in its place
-all-is : {A : Type 0} (f : MacroblockHeader → Bool → Bool → MacroblockTextureContext → BlockPredictors → List (List ℕ) → A)
-    {h h′ : MacroblockHeader} {u u′ v v′ : Bool} {x x′ : MacroblockTextureContext} {n n′ : BlockPredictors} {w w′ : List (List ℕ)}
-    → h ≡ h′ → u ≡ u′ → v ≡ v′ → x ≡ x′ → n ≡ n′ → w ≡ w′ → f h u v x n w ≡ f h′ u′ v′ x′ n′ w′
-all-is f a b c d e g = λ i. f (a i) (b i) (c i) (d i) (e i) (g i)
+all-is : {A : Type 0} (f : MacroblockHeader → MacroblockTextureContext → BlockPredictors → List (List ℕ) → A)
+    {h h′ : MacroblockHeader} {x x′ : MacroblockTextureContext} {n n′ : BlockPredictors} {w w′ : List (List ℕ)}
+    → h ≡ h′ → x ≡ x′ → n ≡ n′ → w ≡ w′ → f h x n w ≡ f h′ x′ n′ w′
+all-is f a b c d = λ i. f (a i) (b i) (c i) (d i)
 
 returns : tie.Need-returns
 returns c = let e = first-short 21 _ _ _ (c .if1 .taken) in (short-is _ e, (short-is _ e, short-is _ e))
@@ -34,12 +34,6 @@ returns-3 c = let e = answer-short 21 _ _ _ (c .before .before .if1 .left) (c .b
 header-of-requires : tie.Need-header-of-requires
 header-of-requires c κs = search needs
 
-use-intra-dc-vlc-requires : tie.Need-use-intra-dc-vlc-requires
-use-intra-dc-vlc-requires c κs = search needs
-
-reversible-vlc-requires : tie.Need-reversible-vlc-requires
-reversible-vlc-requires c κs = search needs
-
 texture-context-of-requires : tie.Need-texture-context-of-requires
 texture-context-of-requires c κs = search needs
 
@@ -49,8 +43,8 @@ neighbours-of-requires c κs = search needs
 matrix-of-requires : tie.Need-matrix-of-requires
 matrix-of-requires c κs = search needs
 
-decode-intra-macroblock-requires : tie.Need-decode-intra-macroblock-requires
-decode-intra-macroblock-requires c κs = search needs
+decoded-requires : tie.Need-decoded-requires
+decoded-requires c κs = search needs
 
 told-alone-requires : tie.Need-told-alone-requires
 told-alone-requires c κs = search needs
@@ -72,20 +66,20 @@ returns-4 c =
     let w = d .before .before in
     let n = w .before in
     let x = n .before in
-    let v = x .before in
-    let u = v .before in
-    let h = u .before in
+    let h = x .before in
     let g = h .before in
     let a = g .before .before .before .before .before .before .args in
     let bytes = now (a .«data») in
+    let u = dcCoded (a .flags) in
+    let v = reversible (a .flags) in
     let samples = now (a .samples) in
     let e = all-long 21 _ _ _ (g .before .before .if1 .left) (g .before .if2 .left) (g .if3 .left) in
-    let r = d .decode-intra-macroblock .ensures in
-    let decoded = r .0 ∙ all-is (λ (i : MacroblockHeader) (j k : Bool) (o : MacroblockTextureContext) (q : BlockPredictors) (m : List (List ℕ)). macroblockAnswer bytes (a .at) i j k o q m samples) (h .header-of .ensures) (u .use-intra-dc-vlc .ensures) (v .reversible-vlc .ensures) (x .texture-context-of .ensures) (n .neighbours-of .ensures) (w .matrix-of .ensures) in
-    let told = t .told-alone .ensures ∙ ap (λ (y : MacroblockDecoded). toldAlone y (a .at)) decoded in (
+    let r = d .decoded .ensures in
+    let is = r .0 ∙ all-is (λ (i : MacroblockHeader) (o : MacroblockTextureContext) (q : BlockPredictors) (m : List (List ℕ)). macroblockAnswer bytes (a .at) i u v o q m samples) (h .header-of .ensures) (x .texture-context-of .ensures) (n .neighbours-of .ensures) (w .matrix-of .ensures) in
+    let told = t .told-alone .ensures ∙ ap (λ (y : MacroblockDecoded). toldAlone y (a .at)) is in (
       long-is _ e (l .tell .ensures .0 ∙ ap (λ (y : Told). y .number) told),
       (
-        long-is _ e (r .1 .0 ∙ all-is (λ (i : MacroblockHeader) (j k : Bool) (o : MacroblockTextureContext) (q : BlockPredictors) (m : List (List ℕ)). samplesOut bytes (a .at) i j k o q m samples) (h .header-of .ensures) (u .use-intra-dc-vlc .ensures) (v .reversible-vlc .ensures) (x .texture-context-of .ensures) (n .neighbours-of .ensures) (w .matrix-of .ensures)),
+        long-is _ e (r .1 ∙ all-is (λ (i : MacroblockHeader) (o : MacroblockTextureContext) (q : BlockPredictors) (m : List (List ℕ)). samplesOut bytes (a .at) i u v o q m samples) (h .header-of .ensures) (x .texture-context-of .ensures) (n .neighbours-of .ensures) (w .matrix-of .ensures)),
         long-is _ e (l .tell .ensures .1 ∙ ap (λ (y : Told). answerAfter y (now (a .answer))) told),
       ),
     )
@@ -98,12 +92,10 @@ vaxembro-decode-intra-macroblock-spec =
     returns-2
     returns-3
     header-of-requires
-    use-intra-dc-vlc-requires
-    reversible-vlc-requires
     texture-context-of-requires
     neighbours-of-requires
     matrix-of-requires
-    decode-intra-macroblock-requires
+    decoded-requires
     told-alone-requires
     tell-requires
     same-length

@@ -1,7 +1,6 @@
 -- `c_interface::lent::rounding_of` meets its contract. Assumes nothing.
 use mathlib.Core.Path.{sym, _∙_}
 use borrow.Author.Needs.{needs}
-use Rattle.c_interface.specs.Lent.{rounding}
 use Rattle.c_interface.proofs.lent.rounding_of.Statement.{statement}
 use Rattle.c_interface.proofs.lent.rounding_of.Tie as tie
 
