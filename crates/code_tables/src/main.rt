@@ -14,6 +14,10 @@ fn number(n: u32) {
     io::print_decimal(STDOUT_FILENO, n as u64);
 }
 
+fn small(n: u8) {
+    number(n as u32);
+}
+
 fn space() {
     text(b" ");
 }
@@ -61,11 +65,11 @@ fn tcoef(name: &[u8], table: TcoefTable) {
         if row < 102 {
             text(name);
             code_bits(code, len);
-            number(events[row]);
-            number(events[102 + row]);
-            number(events[204 + row]);
-            number(events[306 + row]);
-            number(events[408 + row]);
+            small(events[row]);
+            small(events[102 + row]);
+            small(events[204 + row]);
+            small(events[306 + row]);
+            small(events[408 + row]);
             newline();
         }
     }
@@ -82,9 +86,9 @@ fn rvlc(name: &[u8], table: TcoefTable) {
         if row < 169 {
             text(name);
             code_bits(code, len);
-            number(events[row]);
-            number(events[169 + row]);
-            number(events[338 + row]);
+            small(events[row]);
+            small(events[169 + row]);
+            small(events[338 + row]);
             newline();
         }
     }

@@ -352,7 +352,7 @@ const RVLC_LEN: [u32; 170] = [
 ];
 
 // Last, run and level of the 169 rows, for intra blocks.
-const RVLC_INTRA: [u32; 507] = [
+const RVLC_INTRA: [u8; 507] = [
     0,
     0,
     0,
@@ -863,7 +863,7 @@ const RVLC_INTRA: [u32; 507] = [
 ];
 
 // The same for inter blocks.
-const RVLC_INTER: [u32; 507] = [
+const RVLC_INTER: [u8; 507] = [
     0,
     0,
     0,
@@ -1388,7 +1388,7 @@ pub fn rvlc_lens() -> [u32; 170]
 }
 
 // What the rows say: 169 of last, run and level each.
-pub fn rvlc_events(table: TcoefTable) -> [u32; 507]
+pub fn rvlc_events(table: TcoefTable) -> [u8; 507]
     ensures { λ r. ⌜ r ≡ rvlcColumns (rvlcOf table) ⌝ }
 {
     match table {

@@ -224,7 +224,7 @@ const TCOEF_LEN: [u32; 103] = [
 ];
 
 // Last, run, level, LMAX and RMAX of the 102 rows of Table B.16.
-const TCOEF_INTRA: [u32; 510] = [
+const TCOEF_INTRA: [u8; 510] = [
     0,
     1,
     0,
@@ -738,7 +738,7 @@ const TCOEF_INTRA: [u32; 510] = [
 ];
 
 // The same of Table B.17.
-const TCOEF_INTER: [u32; 510] = [
+const TCOEF_INTER: [u8; 510] = [
     0,
     1,
     0,
@@ -1266,7 +1266,7 @@ pub fn tcoef_lens() -> [u32; 103]
 }
 
 // What the rows say: 102 of last, run, level, LMAX and RMAX each.
-pub fn tcoef_events(table: TcoefTable) -> [u32; 510]
+pub fn tcoef_events(table: TcoefTable) -> [u8; 510]
     ensures { λ r. ⌜ r ≡ eventColumns (tcoefOf table) ⌝ }
 {
     match table {

@@ -1,7 +1,7 @@
 // The record that is kept of a macroblock, and a block of it as a neighbour.
 ghost use mathlib.Core.Path.{_≡_};
-ghost use Prim.Native.Nat.{_<_, _≤_};
-ghost use lib.ListN.{getD};
+ghost use Prim.Native.Nat.{_+_, _<_, _≤_};
+ghost use lib.ListN.{getD, length};
 ghost use lib.IntN.{pos};
 ghost use Rattle.neighbours.specs.Record.{blank, fifteen, keptOf, knownOf, missingOf, quantiserOf, recordAt, sevenFrom, withBlock};
 use coefficients::BlockPredictors;
@@ -34,11 +34,26 @@ fn number(s: &[i32], at: usize) -> i32
     0
 }
 
-// The seven numbers from `at` on.
+// The seven numbers from `at` on, where they are there.
+fn seven_in(s: &[i32], at: usize) -> [i32; 7]
+    requires { ⌜ (at ≤ 8589934592) × (at + 7 ≤ length (now s)) ⌝ }
+    ensures { λ r. ⌜ r ≡ sevenFrom (now (s .entry)) at ⌝ }
+{
+    let mut out = [0i32; 7];
+    for k in 0..7 {
+        out[k] = s[at + k];
+    }
+    out
+}
+
+// The seven numbers from `at` on, 0 past the store's end.
 fn seven(s: &[i32], at: usize) -> [i32; 7]
     requires { ⌜ at ≤ 8589934592 ⌝ }
     ensures { λ r. ⌜ r ≡ sevenFrom (now (s .entry)) at ⌝ }
 {
+    if at + 7 <= s.len() {
+        return seven_in(s, at);
+    }
     let mut out = [0i32; 7];
     for k in 0..7 {
         out[k] = number(s, at + k);

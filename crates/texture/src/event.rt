@@ -41,7 +41,7 @@ fn read_signed(
     table: TcoefTable,
     codes: &[u32],
     lens: &[u32],
-    events: &[u32],
+    events: &[u8],
     spelling: Spelling,
 ) -> EventRead
     requires { ⌜ Readable (now «data») c × (now codes ≡ vlcCodes) × (now lens ≡ vlcLens) × (now events ≡ eventColumns (tcoefOf table)) × RowSpelling spelling ⌝ }
@@ -135,7 +135,7 @@ fn read_longer(
     table: TcoefTable,
     codes: &[u32],
     lens: &[u32],
-    events: &[u32],
+    events: &[u8],
 ) -> EventRead
     requires { ⌜ Readable (now «data») c × (now codes ≡ vlcCodes) × (now lens ≡ vlcLens) × (now events ≡ eventColumns (tcoefOf table)) ⌝ }
     ensures { λ r. ⌜ SaysEvent (now («data» .entry)) r (mapped (valueOf table) (longer (bitsFrom (now («data» .entry)) (c .«bit_pos»)))) ⌝ }
@@ -159,7 +159,7 @@ fn read_escape(
     table: TcoefTable,
     codes: &[u32],
     lens: &[u32],
-    events: &[u32],
+    events: &[u8],
 ) -> EventRead
     requires { ⌜ Readable (now «data») c × (now codes ≡ vlcCodes) × (now lens ≡ vlcLens) × (now events ≡ eventColumns (tcoefOf table)) ⌝ }
     ensures { λ r. ⌜ SaysEvent (now («data» .entry)) r (mapped (valueOf table) (escaped (bitsFrom (now («data» .entry)) (c .«bit_pos»)))) ⌝ }
@@ -183,7 +183,7 @@ pub(crate) fn read_plain(
     table: TcoefTable,
     codes: &[u32],
     lens: &[u32],
-    events: &[u32],
+    events: &[u8],
 ) -> EventRead
     requires { ⌜ Readable (now «data») c × (now codes ≡ vlcCodes) × (now lens ≡ vlcLens) × (now events ≡ eventColumns (tcoefOf table)) ⌝ }
     ensures { λ r. ⌜ SaysEvent (now («data» .entry)) r (mapped (valueOf table) (plainEvent (bitsFrom (now («data» .entry)) (c .«bit_pos»)))) ⌝ }

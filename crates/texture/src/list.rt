@@ -51,7 +51,7 @@ fn read_event(
     table: TcoefTable,
     codes: &[u32],
     lens: &[u32],
-    events: &[u32],
+    events: &[u8],
 ) -> EventRead
     requires { ⌜ Readable (now «data») c × TablesOf reversible table (now codes) (now lens) (now events) ⌝ }
     ensures { λ r. ⌜ SaysEvent (now («data» .entry)) r (mapped (valueOf table) (event reversible (bitsFrom (now («data» .entry)) (c .«bit_pos»)))) ⌝ }
@@ -117,7 +117,7 @@ fn read_list(
     table: TcoefTable,
     codes: &[u32],
     lens: &[u32],
-    events: &[u32],
+    events: &[u8],
     first: usize,
 ) -> ListRead
     requires { ⌜ Readable (now «data») c × TablesOf reversible table (now codes) (now lens) (now events) × (first ≤ 1) ⌝ }

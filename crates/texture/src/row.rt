@@ -40,11 +40,11 @@ pub(crate) fn sign_extend12(raw: u32) -> i32
 }
 
 // A number of a lent table; 0 past its end.
-fn number(events: &[u32], at: usize) -> u32
+fn number(events: &[u8], at: usize) -> u32
     ensures { λ r. ⌜ r ≡ getD (now (events .entry)) at 0 ⌝ }
 {
     if at < events.len() {
-        return events[at];
+        return events[at] as u32;
     }
     0
 }
@@ -52,7 +52,7 @@ fn number(events: &[u32], at: usize) -> u32
 // The event of a row and a sign: columns of `rows` numbers hold last, run and level, and the magnitude
 // and the run are raised.
 fn row_event(
-    events: &[u32],
+    events: &[u8],
     rows: usize,
     row: usize,
     sign: u32,
@@ -69,7 +69,7 @@ fn row_event(
 }
 
 // The event of a row and a sign: type 1 raises the magnitude by LMAX, type 2 the run by RMAX + 1.
-fn event_of(table: TcoefTable, events: &[u32], row: usize, sign: u32, spelling: Spelling) -> AcEvent
+fn event_of(table: TcoefTable, events: &[u8], row: usize, sign: u32, spelling: Spelling) -> AcEvent
     requires { ⌜ (now events ≡ columns spelling table) × RowIn spelling row ⌝ }
     ensures { λ r. ⌜ r ≡ valueOf table (spelled spelling row sign) ⌝ }
 {
@@ -86,7 +86,7 @@ pub(crate) fn read_sign(
     data: &[u8],
     c: Cursor,
     table: TcoefTable,
-    events: &[u32],
+    events: &[u8],
     row: usize,
     spelling: Spelling,
 ) -> EventRead

@@ -135,7 +135,7 @@ pub(crate) fn read_rvlc(
     table: TcoefTable,
     codes: &[u32],
     lens: &[u32],
-    events: &[u32],
+    events: &[u8],
 ) -> EventRead
     requires { ⌜ Readable (now «data») c × (now codes ≡ rvlcCodes) × (now lens ≡ rvlcLens) × (now events ≡ rvlcColumns (rvlcOf table)) ⌝ }
     ensures { λ r. ⌜ SaysEvent (now («data» .entry)) r (mapped (valueOf table) (rvlcEvent (bitsFrom (now («data» .entry)) (c .«bit_pos»)))) ⌝ }

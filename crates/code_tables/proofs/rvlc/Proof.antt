@@ -55,38 +55,38 @@ text-requires c κs = tt
 code-bits-requires : tie.Need-code-bits-requires Inv-loop μ-loop
 code-bits-requires c κs = tt
 
-mul-number : tie.Need-mul-number Inv-loop μ-loop
-mul-number c = omega arith
+mul-small : tie.Need-mul-small Inv-loop μ-loop
+mul-small c = omega arith
 
-array-read-number : tie.Need-array-read-number Inv-loop μ-loop
-array-read-number c = omega arith
+array-read-small : tie.Need-array-read-small Inv-loop μ-loop
+array-read-small c = omega arith
 
-number-requires : tie.Need-number-requires Inv-loop μ-loop
-number-requires c κs = tt
+small-requires : tie.Need-small-requires Inv-loop μ-loop
+small-requires c κs = tt
 
-add-number : tie.Need-add-number Inv-loop μ-loop
-add-number c = omega arith
+add-small : tie.Need-add-small Inv-loop μ-loop
+add-small c = omega arith
 
-mul-number-2 : tie.Need-mul-number-2 Inv-loop μ-loop
-mul-number-2 c = omega arith
+mul-small-2 : tie.Need-mul-small-2 Inv-loop μ-loop
+mul-small-2 c = omega arith
 
-array-read-number-2 : tie.Need-array-read-number-2 Inv-loop μ-loop
-array-read-number-2 c = omega arith
+array-read-small-2 : tie.Need-array-read-small-2 Inv-loop μ-loop
+array-read-small-2 c = omega arith
 
-number-requires-2 : tie.Need-number-requires-2 Inv-loop μ-loop
-number-requires-2 c κs = tt
+small-requires-2 : tie.Need-small-requires-2 Inv-loop μ-loop
+small-requires-2 c κs = tt
 
-add-number-2 : tie.Need-add-number-2 Inv-loop μ-loop
-add-number-2 c = omega arith
+add-small-2 : tie.Need-add-small-2 Inv-loop μ-loop
+add-small-2 c = omega arith
 
-mul-number-3 : tie.Need-mul-number-3 Inv-loop μ-loop
-mul-number-3 c = omega arith
+mul-small-3 : tie.Need-mul-small-3 Inv-loop μ-loop
+mul-small-3 c = omega arith
 
-array-read-number-3 : tie.Need-array-read-number-3 Inv-loop μ-loop
-array-read-number-3 c = omega arith
+array-read-small-3 : tie.Need-array-read-small-3 Inv-loop μ-loop
+array-read-small-3 c = omega arith
 
-number-requires-3 : tie.Need-number-requires-3 Inv-loop μ-loop
-number-requires-3 c κs = tt
+small-requires-3 : tie.Need-small-requires-3 Inv-loop μ-loop
+small-requires-3 c κs = tt
 
 newline-requires : tie.Need-newline-requires Inv-loop μ-loop
 newline-requires c κs = tt
@@ -123,17 +123,17 @@ rvlc-spec =
     find-row-requires
     text-requires
     code-bits-requires
-    mul-number
-    array-read-number
-    number-requires
-    add-number
-    mul-number-2
-    array-read-number-2
-    number-requires-2
-    add-number-2
-    mul-number-3
-    array-read-number-3
-    number-requires-3
+    mul-small
+    array-read-small
+    small-requires
+    add-small
+    mul-small-2
+    array-read-small-2
+    small-requires-2
+    add-small-2
+    mul-small-3
+    array-read-small-3
+    small-requires-3
     newline-requires
     add-i
     loop-less

@@ -1,4 +1,4 @@
--- `neighbours::record::seven` meets its contract: the numbers before k are written. Assumes nothing.
+-- `neighbours::record::seven` meets its contract: all at once where they are there, else one by one. Assumes nothing.
 use denote.Ref.{now}
 use mathlib.Core.List.{List}
 use mathlib.Core.Path.{_≡_, refl, _∙_}
@@ -24,9 +24,18 @@ Inv-loop s at out₀ k₀ out k = (k ≤ 7) × (out ≡ part 7 (f s at) z k)
 abbrev μ-loop : tie.MeasureT-loop
 μ-loop s at out₀ k₀ out k = 7 - k
 
+add-if1 : tie.Need-add-if1 Inv-loop μ-loop
+add-if1 c = omega arith
+
+seven-in-requires : tie.Need-seven-in-requires Inv-loop μ-loop
+seven-in-requires c κs = (c .before .pre, c .if1 .taken)
+
+returns : tie.Need-returns Inv-loop μ-loop
+returns c = c .seven-in .ensures
+
 loop-holds : tie.Need-loop-holds Inv-loop μ-loop
 unfolding build
-loop-holds c = (omega arith, cells-none 7 (f (now (c .args .s)) (c .args .at)) z _ refl)
+loop-holds c = (omega arith, cells-none 7 (f (now (c .before .args .s)) (c .before .args .at)) z _ refl)
 
 add-number : tie.Need-add-number Inv-loop μ-loop
 add-number c = omega arith
@@ -50,8 +59,8 @@ loop-again : tie.Need-loop-again Inv-loop μ-loop
 loop-again c =
     (omega arith, cells-more 7 _ _ (pos 0) _ _ _ (c .before .loop-test .taken) (c .before .before .loop .inv .1) (held (c .number .result) (c .number .ok) ∙ c .number .ensures))
 
-returns : tie.Need-returns Inv-loop μ-loop
-returns c = let l = c .before .loop in cells-all 7 _ _ _ _ (c .loop-test .left) (l .inv .0) (l .inv .1)
+returns-2 : tie.Need-returns-2 Inv-loop μ-loop
+returns-2 c = let l = c .before .loop in cells-all 7 _ _ _ _ (c .loop-test .left) (l .inv .0) (l .inv .1)
 
 pub seven-spec : {M : Type 1} → statement M
 seven-spec =
@@ -59,6 +68,9 @@ seven-spec =
     (tie.spec
     Inv-loop
     μ-loop
+    add-if1
+    seven-in-requires
+    returns
     loop-holds
     add-number
     number-requires
@@ -67,4 +79,4 @@ seven-spec =
     add-k
     loop-less
     loop-again
-    returns)
+    returns-2)
