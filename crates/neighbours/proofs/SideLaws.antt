@@ -19,7 +19,7 @@ use Rattle.numbers.proofs.Fill.{getD-build}
 use Rattle.numbers.proofs.Tests.{both-true}
 use Rattle.coefficients.specs.Prediction.{outsideOf}
 use Rattle.neighbours.specs.Record.{quantiserOf, recordAt, sevenFrom, knownOf}
-use Rattle.neighbours.specs.Neighbours.{Around, aSource, aBlock, bSource, bBlock, cSource, cBlock, sideOf, joined, predictors, taken, sixBlocks}
+use Rattle.neighbours.specs.Neighbours.{Around, aSource, aBlock, bSource, bBlock, cSource, cBlock, sideOf, joinedBy, predictors, taken, sixBlocks}
 use Rattle.neighbours.specs.declared.record.Side.{Side}
 use Rattle.neighbours.specs.declared.place.Source.{Source}
 use Rattle.neighbours.proofs.RecordLaws.{record-at, record-seven}
@@ -90,14 +90,14 @@ module _ (depth q : ℕ) (ar : Around) (own : List ℤ) where
   pub taken-is : (i : ℕ) → i < 6 → taken depth q ar own i ≡ predictors depth q ar own i
   taken-is i h = rw (lt-ltb i 6 h)
 
-  pub taken-of : (i : ℕ) {a b c : Side}
+  pub taken-of : (i : ℕ) {a c : Side} {b : ℤ}
       → i < 6
       → a ≡ sideOf depth q ar own (aSource i) (aBlock i)
-      → b ≡ sideOf depth q ar own (bSource i) (bBlock i)
+      → b ≡ sideOf depth q ar own (bSource i) (bBlock i) .dc
       → c ≡ sideOf depth q ar own (cSource i) (cBlock i)
-      → joined a b c ≡ taken depth q ar own i
+      → joinedBy a b c ≡ taken depth q ar own i
   unfolding predictors
-  taken-of i h e f g = (λ j. joined (e j) (f j) (g j)) ∙ sym (taken-is i h)
+  taken-of i h e f g = (λ j. joinedBy (e j) (f j) (g j)) ∙ sym (taken-is i h)
 
   pub none-taken : (i : ℕ) → 6 ≤ i → taken depth q ar own i ≡ outsideOf depth q
   none-taken i h = rw (le-ltb i 6 h)

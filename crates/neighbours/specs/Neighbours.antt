@@ -60,11 +60,11 @@ abbrev pub sideOf : ℕ → ℕ → Around → List ℤ → Source → ℕ → S
 sideOf depth q ar own source b = sided depth q (from ar own source) b
 
 -- of A the DC, the quantiser and the column; of B the DC; of C the DC, the quantiser and the row
-abbrev pub joined : Side → Side → Side → BlockPredictors
-joined a b c =
+abbrev pub joinedBy : Side → ℤ → Side → BlockPredictors
+joinedBy a b c =
     record {
       «fa_dc» = a .dc;
-      «fb_dc» = b .dc;
+      «fb_dc» = b;
       «fc_dc» = c .dc;
       «qp_a» = a .qp;
       «qp_c» = c .qp;
@@ -73,6 +73,9 @@ joined a b c =
       «c_has_row» = c .has;
       «c_first_row» = c .row;
     }
+
+abbrev pub joined : Side → Side → Side → BlockPredictors
+joined a b c = joinedBy a (b .dc) c
 
 -- what block i takes
 unfoldable pub predictors : ℕ → ℕ → Around → List ℤ → ℕ → BlockPredictors

@@ -1,8 +1,8 @@
 // What each block takes of its neighbours, and refusal 13.
 ghost use mathlib.Core.Path.{_≡_};
 ghost use Prim.Native.Nat.{_<_};
-ghost use Rattle.neighbours.specs.Record.{recordAt};
-ghost use Rattle.neighbours.specs.Neighbours.{aroundBy, joined, neighboursFine, sideOf, taken};
+ghost use Rattle.neighbours.specs.Record.{missingOf, recordAt};
+ghost use Rattle.neighbours.specs.Neighbours.{aroundBy, joinedBy, neighboursFine, sideOf, taken};
 use crate::place::Place;
 use crate::place::Source;
 use crate::record::Side;
@@ -41,14 +41,53 @@ fn neighbour(store: &[i32], own: &[i32], p: Place, source: Source, b: usize) -> 
     }
 }
 
-fn join(a: Side, b: Side, c: Side) -> BlockPredictors
-    ensures { λ r. ⌜ r ≡ joined a b c ⌝ }
+// The DC of a missing neighbour.
+fn no_dc(p: Place) -> i32
+    ensures { λ r. ⌜ r ≡ missingOf (p .«bits_per_pixel») (p .«quantiser_scale») .dc ⌝ }
+{
+    let none = crate::record::missing(p.bits_per_pixel, p.quantiser_scale);
+    none.dc
+}
+
+// The DC of block `b` of a source.
+fn neighbour_dc(store: &[i32], own: &[i32], p: Place, source: Source, b: usize) -> i32
+    requires { ⌜ b < 6 ⌝ }
+    ensures { λ r. ⌜ r ≡ sideOf (p .«bits_per_pixel») (p .«quantiser_scale») (aroundBy p (now (store .entry))) (recordAt (now (own .entry)) 0) source b .dc ⌝ }
+{
+    match source {
+        Source::Own => crate::record::known_dc(own, 0, b),
+        Source::Left => {
+            if p.has_left {
+                crate::record::known_dc(store, p.left as usize, b)
+            } else {
+                no_dc(p)
+            }
+        }
+        Source::AboveLeft => {
+            if p.has_above_left {
+                crate::record::known_dc(store, p.above_left as usize, b)
+            } else {
+                no_dc(p)
+            }
+        }
+        Source::Above => {
+            if p.has_above {
+                crate::record::known_dc(store, p.above as usize, b)
+            } else {
+                no_dc(p)
+            }
+        }
+    }
+}
+
+fn join(a: Side, fb_dc: i32, c: Side) -> BlockPredictors
+    ensures { λ r. ⌜ r ≡ joinedBy a «fb_dc» c ⌝ }
 {
     let column = a.column;
     let row = c.row;
     BlockPredictors {
         fa_dc: a.dc,
-        fb_dc: b.dc,
+        fb_dc,
         fc_dc: c.dc,
         qp_a: a.qp,
         qp_c: c.qp,
@@ -71,7 +110,7 @@ pub fn block_predictors(store: &[i32], own: &[i32], p: Place, i: usize) -> Block
             crate::place::a_source(i),
             crate::place::a_block(i),
         );
-        let b = neighbour(
+        let b = neighbour_dc(
             store,
             own,
             p,

@@ -61,6 +61,14 @@ fn seven(s: &[i32], at: usize) -> [i32; 7]
     out
 }
 
+// The DC of block `b` of the record at `at`.
+pub(crate) fn known_dc(s: &[i32], at: usize, b: usize) -> i32
+    requires { ⌜ (at ≤ 4294967296) × (b < 6) ⌝ }
+    ensures { λ r. ⌜ r ≡ knownOf (recordAt (now (s .entry)) at) b .dc ⌝ }
+{
+    number(s, at + 15 * b)
+}
+
 // Block `b` of the record at `at`.
 pub(crate) fn known(s: &[i32], at: usize, b: usize) -> Side
     requires { ⌜ (at ≤ 4294967296) × (b < 6) ⌝ }

@@ -1,9 +1,11 @@
 -- `neighbours::predictors::block_predictors` meets its contract: the three sides of the block, or none. Assumes nothing.
 use denote.Ref.{now}
-use mathlib.Core.Path.{sym, _∙_}
+use mathlib.Core.Path.{ap, sym, _∙_}
 use borrow.Author.Needs.{needs}
+use Rattle.numbers.proofs.Words.{held}
 use Rattle.neighbours.specs.Record.{recordAt}
 use Rattle.neighbours.specs.Neighbours.{aroundBy}
+use Rattle.neighbours.specs.declared.record.Side.{Side}
 use Rattle.neighbours.proofs.SideLaws.{side-is, taken-of, none-taken}
 use Rattle.neighbours.proofs.predictors.block_predictors.Statement.{statement}
 use Rattle.neighbours.proofs.predictors.block_predictors.Tie as tie
@@ -23,8 +25,8 @@ b-source-requires c κs = search needs
 b-block-requires : tie.Need-b-block-requires
 b-block-requires c κs = search needs
 
-neighbour-requires-2 : tie.Need-neighbour-requires-2
-neighbour-requires-2 c κs = search needs
+neighbour-dc-requires : tie.Need-neighbour-dc-requires
+neighbour-dc-requires c κs = search needs
 
 c-source-requires : tie.Need-c-source-requires
 c-source-requires c κs = search needs
@@ -32,8 +34,8 @@ c-source-requires c κs = search needs
 c-block-requires : tie.Need-c-block-requires
 c-block-requires c κs = search needs
 
-neighbour-requires-3 : tie.Need-neighbour-requires-3
-neighbour-requires-3 c κs = search needs
+neighbour-requires-2 : tie.Need-neighbour-requires-2
+neighbour-requires-2 c κs = search needs
 
 join-requires : tie.Need-join-requires
 join-requires c κs = search needs
@@ -47,8 +49,8 @@ returns c =
     c .join .ensures
     ∙ taken-of _ _ _ _ (t .before .args .i) (t .if1 .taken)
     (n₁ .neighbour .ensures ∙ side-is _ _ _ _ (n₁ .before .before .a-source .ensures) (n₁ .before .a-block .ensures .0))
-    (n₂ .neighbour2 .ensures ∙ side-is _ _ _ _ (n₂ .before .before .b-source .ensures) (n₂ .before .b-block .ensures .0))
-    (n₃ .neighbour3 .ensures ∙ side-is _ _ _ _ (n₃ .before .before .c-source .ensures) (n₃ .before .c-block .ensures .0))
+    (held (n₂ .neighbour-dc .result) (n₂ .neighbour-dc .ok) ∙ n₂ .neighbour-dc .ensures ∙ ap (λ (s : Side). s .dc) (side-is _ _ _ _ (n₂ .before .before .b-source .ensures) (n₂ .before .b-block .ensures .0)))
+    (n₃ .neighbour2 .ensures ∙ side-is _ _ _ _ (n₃ .before .before .c-source .ensures) (n₃ .before .c-block .ensures .0))
 
 outside-requires : tie.Need-outside-requires
 outside-requires c κs = search needs
@@ -68,10 +70,10 @@ block-predictors-spec =
     neighbour-requires
     b-source-requires
     b-block-requires
-    neighbour-requires-2
+    neighbour-dc-requires
     c-source-requires
     c-block-requires
-    neighbour-requires-3
+    neighbour-requires-2
     join-requires
     returns
     outside-requires
