@@ -55,9 +55,6 @@ text-requires c κs = tt
 code-bits-requires : tie.Need-code-bits-requires Inv-loop μ-loop
 code-bits-requires c κs = tt
 
-mul-small : tie.Need-mul-small Inv-loop μ-loop
-mul-small c = omega arith
-
 array-read-small : tie.Need-array-read-small Inv-loop μ-loop
 array-read-small c = omega arith
 
@@ -67,9 +64,6 @@ small-requires c κs = tt
 add-small : tie.Need-add-small Inv-loop μ-loop
 add-small c = omega arith
 
-mul-small-2 : tie.Need-mul-small-2 Inv-loop μ-loop
-mul-small-2 c = omega arith
-
 array-read-small-2 : tie.Need-array-read-small-2 Inv-loop μ-loop
 array-read-small-2 c = omega arith
 
@@ -78,9 +72,6 @@ small-requires-2 c κs = tt
 
 add-small-2 : tie.Need-add-small-2 Inv-loop μ-loop
 add-small-2 c = omega arith
-
-mul-small-3 : tie.Need-mul-small-3 Inv-loop μ-loop
-mul-small-3 c = omega arith
 
 array-read-small-3 : tie.Need-array-read-small-3 Inv-loop μ-loop
 array-read-small-3 c = omega arith
@@ -123,15 +114,12 @@ rvlc-spec =
     find-row-requires
     text-requires
     code-bits-requires
-    mul-small
     array-read-small
     small-requires
     add-small
-    mul-small-2
     array-read-small-2
     small-requires-2
     add-small-2
-    mul-small-3
     array-read-small-3
     small-requires-3
     newline-requires

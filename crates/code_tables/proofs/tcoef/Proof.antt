@@ -55,9 +55,6 @@ text-requires c κs = tt
 code-bits-requires : tie.Need-code-bits-requires Inv-loop μ-loop
 code-bits-requires c κs = tt
 
-mul-small : tie.Need-mul-small Inv-loop μ-loop
-mul-small c = omega arith
-
 array-read-small : tie.Need-array-read-small Inv-loop μ-loop
 array-read-small c = omega arith
 
@@ -66,9 +63,6 @@ small-requires c κs = tt
 
 add-small : tie.Need-add-small Inv-loop μ-loop
 add-small c = omega arith
-
-mul-small-2 : tie.Need-mul-small-2 Inv-loop μ-loop
-mul-small-2 c = omega arith
 
 array-read-small-2 : tie.Need-array-read-small-2 Inv-loop μ-loop
 array-read-small-2 c = omega arith
@@ -79,9 +73,6 @@ small-requires-2 c κs = tt
 add-small-2 : tie.Need-add-small-2 Inv-loop μ-loop
 add-small-2 c = omega arith
 
-mul-small-3 : tie.Need-mul-small-3 Inv-loop μ-loop
-mul-small-3 c = omega arith
-
 array-read-small-3 : tie.Need-array-read-small-3 Inv-loop μ-loop
 array-read-small-3 c = omega arith
 
@@ -91,9 +82,6 @@ small-requires-3 c κs = tt
 add-small-3 : tie.Need-add-small-3 Inv-loop μ-loop
 add-small-3 c = omega arith
 
-mul-small-4 : tie.Need-mul-small-4 Inv-loop μ-loop
-mul-small-4 c = omega arith
-
 array-read-small-4 : tie.Need-array-read-small-4 Inv-loop μ-loop
 array-read-small-4 c = omega arith
 
@@ -102,9 +90,6 @@ small-requires-4 c κs = tt
 
 add-small-4 : tie.Need-add-small-4 Inv-loop μ-loop
 add-small-4 c = omega arith
-
-mul-small-5 : tie.Need-mul-small-5 Inv-loop μ-loop
-mul-small-5 c = omega arith
 
 array-read-small-5 : tie.Need-array-read-small-5 Inv-loop μ-loop
 array-read-small-5 c = omega arith
@@ -147,23 +132,18 @@ tcoef-spec =
     find-row-requires
     text-requires
     code-bits-requires
-    mul-small
     array-read-small
     small-requires
     add-small
-    mul-small-2
     array-read-small-2
     small-requires-2
     add-small-2
-    mul-small-3
     array-read-small-3
     small-requires-3
     add-small-3
-    mul-small-4
     array-read-small-4
     small-requires-4
     add-small-4
-    mul-small-5
     array-read-small-5
     small-requires-5
     newline-requires
