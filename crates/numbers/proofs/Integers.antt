@@ -11,16 +11,9 @@ use lib.IntN.{negℤ, pos, negsuc, natAbs, subℕ, _-ℤ_, _+ℤ_, _*ℤ_, ℤ}
 use lib.Signed.{leZ, ltZ, mag, _<ℤ_, _≤ℤ_}
 use borrow.Author.Tests.{lt-leb, ltb-false, ltb-true, leb-false, le-ltb}
 use Rattle.numbers.proofs.Tests.{T-true, true-T}
+pub use Rattle.numbers.specs.Halves.{dn, up}
 
 -- ---- the halves
-
-abbrev pub up : ℤ → ℕ
-up (pos n) = n
-up (negsuc n) = 0
-
-abbrev pub dn : ℤ → ℕ
-dn (pos n) = 0
-dn (negsuc n) = suc n
 
 -- one of them is 0
 pub one-half : (z : ℤ) → min (up z) (dn z) ≡ 0

@@ -9,3 +9,4 @@ pub mod Rounding
 pub mod Lists
 pub mod Fill
 pub mod Every
+pub mod OutcomeLaws

@@ -1,7 +1,8 @@
 // The ranges of document 01, each named once: depth, quantiser scale, level, difference and DC of a
 // neighbour. Bounds are constants of their type.
 ghost use mathlib.Core.Path.{_≡_};
-ghost use Rattle.ranges.specs.Range.{within, depthFine, quantiserFine, levelFine, differenceFine, dcFine};
+ghost use Prim.Native.Nat.{_<_};
+ghost use Rattle.ranges.specs.Range.{dcFine, depthFine, differenceFine, highest, levelFine, limitsOutcome, lowest, quantiserFine, saturationLimits, valueLimits, within};
 
 // Whether lo <= z <= hi.
 pub fn inside(z: i32, lo: i32, hi: i32) -> bool
@@ -11,6 +12,21 @@ pub fn inside(z: i32, lo: i32, hi: i32) -> bool
         return false;
     }
     z <= hi
+}
+
+// The least and the greatest number of a depth, or 12: no depth.
+pub enum DepthLimits {
+    Are(i32, i32),
+    OutOfRange,
+}
+
+// -2^bits ..= 2^bits - 1
+fn limits_of(bits: u32) -> DepthLimits
+    requires { ⌜ bits < 31 ⌝ }
+    ensures { λ r. ⌜ r ≡ DepthLimits.Are (lowest bits) (highest bits) ⌝ }
+{
+    let top = (1u32 << bits) as i32;
+    DepthLimits::Are(-top, top - 1)
 }
 
 // Bits per pixel (6.3.3).
@@ -31,6 +47,26 @@ impl Depth {
             return false;
         }
         bits_per_pixel <= Depth::GREATEST
+    }
+
+    // The limits of dequantised values (7.4.4.4), or 12.
+    pub fn value_limits(bits_per_pixel: u32) -> DepthLimits
+        ensures { λ r. ⌜ limitsOutcome r ≡ valueLimits «bits_per_pixel» ⌝ }
+    {
+        if !Depth::fine(bits_per_pixel) {
+            return DepthLimits::OutOfRange;
+        }
+        limits_of(bits_per_pixel + 3)
+    }
+
+    // The limits of what the transform gives (7.4.5), or 12.
+    pub fn saturation_limits(bits_per_pixel: u32) -> DepthLimits
+        ensures { λ r. ⌜ limitsOutcome r ≡ saturationLimits «bits_per_pixel» ⌝ }
+    {
+        if !Depth::fine(bits_per_pixel) {
+            return DepthLimits::OutOfRange;
+        }
+        limits_of(bits_per_pixel)
     }
 }
 
@@ -73,7 +109,7 @@ impl Level {
     }
 }
 
-// A difference of DC levels (Table B.15).
+// A difference of DC levels, within what 12 bits can say (Table B.15).
 pub struct Difference {
     pub value: i32,
 }
@@ -83,7 +119,7 @@ impl Difference {
 
     pub const GREATEST: i32 = 4095;
 
-    // Whether a DC code can give a difference.
+    // Whether a difference may be handed in.
     pub fn fine(value: i32) -> bool
         ensures { λ r. ⌜ r ≡ differenceFine value ⌝ }
     {

@@ -1,0 +1,32 @@
+-- Tests of the state by numbers. Assumes nothing.
+use mathlib.Core.Bool.{Bool, true, false, cond}
+use mathlib.Core.List.{List, [], _∷_}
+use mathlib.Core.Path.{_≡_, ap, refl, _∙_}
+use Prim.Native.Nat.{ℕ}
+use Rattle.numbers.specs.Outcome.{Outcome, checked, refused}
+
+-- the first of tests with refusals of any kind that fails, handed to k; else what follows
+abbrev pub firstOf : {E R : Type 0} → (E → R) → R → List (Bool × E) → R
+firstOf k r [] = r
+firstOf k r (t ∷ ts) = cond (t .0) (firstOf k r ts) (k (t .1))
+
+-- tests with refusals, by the numbers of these
+abbrev pub numbered : {E : Type 0} → (E → ℕ) → List (Bool × E) → List (Bool × ℕ)
+numbered n [] = []
+numbered n (t ∷ ts) = (t .0, n (t .1)) ∷ numbered n ts
+
+-- each has no figure
+abbrev pub Figureless : {E : Type 0} → (E → ℕ) → List (Bool × E) → Type 0
+Figureless f [] = Unit {0}
+Figureless f (t ∷ ts) = (f (t .1) ≡ 0) × Figureless f ts
+
+-- a map of answers that gives a refusal its number and figure turns the first refusal into the first number
+pub by-numbers : {A E R : Type 0} (told : R → Outcome A) (k : E → R) (r : R) (n f : E → ℕ) → ((e : E) → told (k e) ≡ refused (n e) (f e))
+    → (ts : List (Bool × E)) → Figureless f ts → told (firstOf k r ts) ≡ checked (numbered n ts) (told r)
+by-numbers told k r n f h [] z = refl
+by-numbers told k r n f h (t ∷ ts) z = go (t .0) (by-numbers told k r n f h ts (z .1))
+  where
+    go : (b : Bool) → told (firstOf k r ts) ≡ checked (numbered n ts) (told r)
+        → told (cond b (firstOf k r ts) (k (t .1))) ≡ cond b (checked (numbered n ts) (told r)) (refused (n (t .1)) 0)
+    go true rest = rest
+    go false rest = h (t .1) ∙ ap (refused (n (t .1))) (z .0)

@@ -1,0 +1,3 @@
+-- The limits of a depth.
+pub mod Powers
+pub mod DepthLaws
