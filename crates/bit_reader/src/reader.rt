@@ -1,7 +1,8 @@
 // The reader: bytes that are lent to it and the position of the next bit, taken apart by each method
 // for a function over a plain slice.
 ghost use mathlib.Core.Path.{_≡_};
-ghost use Rattle.bits.specs.Cursor.{remaining, skipped, readBits, nextBits};
+ghost use Rattle.bits.specs.Cursor.{nextBits, readBits, remaining, skipped};
+ghost use Rattle.bits.specs.Outcomes.{countOutcome, movedOutcome, peekDue, peekedOutcome, remainingDue, skipDue};
 ghost use Rattle.bit_reader.specs.BitReader.{positionAfter, movedTo};
 use crate::place::next_at;
 use crate::place::read_at;
@@ -34,14 +35,14 @@ impl<'a> BitReader<'a> {
 
     // How many bits are left.
     pub fn remaining_bits(self) -> BitCount
-        ensures { λ r. ⌜ r ≡ remaining (now (self .entry .«data»)) (self .entry .«bit_pos») ⌝ }
+        ensures { λ r. ⌜ (r ≡ remaining (now (self .entry .«data»)) (self .entry .«bit_pos»)) × (countOutcome r ≡ remainingDue (now (self .entry .«data»)) (self .entry .«bit_pos»)) ⌝ }
     {
         remaining_at(self.data, self.bit_pos)
     }
 
     // The next n bits as a number, first bit highest; the position moves past them.
     pub fn read_bits(&mut self, n: usize) -> BitsPeeked
-        ensures { λ r. ⌜ r ≡ nextBits (now (now (self .entry) .«data»)) (now (self .entry) .«bit_pos») n ⌝ }
+        ensures { λ r. ⌜ (r ≡ nextBits (now (now (self .entry) .«data»)) (now (self .entry) .«bit_pos») n) × (peekedOutcome r ≡ peekDue (now (now (self .entry) .«data»)) (now (self .entry) .«bit_pos») n) ⌝ }
         ensures bytes { λ r. ⌜ now (self .exit) .«data» ≡ now (self .entry) .«data» ⌝ }
         ensures position { λ r. ⌜ now (self .exit) .«bit_pos» ≡ positionAfter (readBits (now (now (self .entry) .«data»)) (now (self .entry) .«bit_pos») n) (now (self .entry) .«bit_pos») ⌝ }
     {
@@ -52,14 +53,14 @@ impl<'a> BitReader<'a> {
 
     // The next n bits as a number, first bit highest; the position stays.
     pub fn next_bits(self, n: usize) -> BitsPeeked
-        ensures { λ r. ⌜ r ≡ nextBits (now (self .entry .«data»)) (self .entry .«bit_pos») n ⌝ }
+        ensures { λ r. ⌜ (r ≡ nextBits (now (self .entry .«data»)) (self .entry .«bit_pos») n) × (peekedOutcome r ≡ peekDue (now (self .entry .«data»)) (self .entry .«bit_pos») n) ⌝ }
     {
         next_at(self.data, self.bit_pos, n)
     }
 
     // Past n bits.
     pub fn skip_bits(&mut self, n: usize) -> Moved
-        ensures { λ r. ⌜ r ≡ skipped (now (now (self .entry) .«data»)) (now (self .entry) .«bit_pos») n ⌝ }
+        ensures { λ r. ⌜ (r ≡ skipped (now (now (self .entry) .«data»)) (now (self .entry) .«bit_pos») n) × (movedOutcome r ≡ skipDue (now (now (self .entry) .«data»)) (now (self .entry) .«bit_pos») n) ⌝ }
         ensures bytes { λ r. ⌜ now (self .exit) .«data» ≡ now (self .entry) .«data» ⌝ }
         ensures position { λ r. ⌜ now (self .exit) .«bit_pos» ≡ movedTo (skipped (now (now (self .entry) .«data»)) (now (self .entry) .«bit_pos») n) (now (self .entry) .«bit_pos») ⌝ }
     {

@@ -3,3 +3,4 @@ pub mod BitLaws
 pub mod ByteLaws
 pub mod CursorLaws
 pub mod CutLaws
+pub mod OutcomeLaws

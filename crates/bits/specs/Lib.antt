@@ -1,3 +1,4 @@
--- The bits of bytes, and what a cursor reads of them.
+-- The bits of bytes, what a cursor reads of them, and its answers by number.
 pub mod Bits
 pub mod Cursor
+pub mod Outcomes

@@ -5,6 +5,7 @@ ghost use Prim.Native.Nat.{_+_, _*_, _/_, _%_, _<_, _≤_, min};
 ghost use lib.Dec.{eqb};
 ghost use lib.ListN.{length, take};
 ghost use Rattle.bits.specs.Bits.{val, bitsFrom};
+ghost use Rattle.bits.specs.Outcomes.{alignDue, bitsOutcome, boolDue, boolOutcome, countOutcome, movedOutcome, peekDue, peekedOutcome, readDue, remainingDue, skipDue, windowDue, windowOutcome};
 ghost use Rattle.bits.specs.Cursor.{inData, remaining, skipped, aligned, readBits, readBool, nextBits, nextWindow};
 use crate::error::BitReaderError;
 
@@ -98,15 +99,6 @@ fn in_data(len: usize, at: usize) -> bool
     at <= 8 * len
 }
 
-fn least(a: usize, b: usize) -> usize
-    ensures { λ r. ⌜ r ≡ min a b ⌝ }
-{
-    if a < b {
-        return a;
-    }
-    b
-}
-
 impl Cursor {
     pub const MOST_BYTES: usize = 1048576;
 
@@ -136,6 +128,7 @@ impl Cursor {
     // How many bits are left.
     pub fn remaining_bits(self, data: &[u8]) -> BitCount
         ensures { λ r. ⌜ r ≡ remaining (now («data» .entry)) (self .«bit_pos») ⌝ }
+        ensures outcome { λ r. ⌜ countOutcome r ≡ remainingDue (now («data» .entry)) (self .«bit_pos») ⌝ }
     {
         let at = self.bit_pos;
         if !in_data(data.len(), at) {
@@ -147,6 +140,7 @@ impl Cursor {
     // Past n bits.
     pub fn skip_bits(self, data: &[u8], n: usize) -> Moved
         ensures { λ r. ⌜ r ≡ skipped (now («data» .entry)) (self .«bit_pos») n ⌝ }
+        ensures outcome { λ r. ⌜ movedOutcome r ≡ skipDue (now («data» .entry)) (self .«bit_pos») n ⌝ }
     {
         let at = self.bit_pos;
         if !in_data(data.len(), at) {
@@ -161,6 +155,7 @@ impl Cursor {
     // To the next first bit of a byte, or where it is if it stands at one.
     pub fn align_to_byte(self, data: &[u8]) -> Moved
         ensures { λ r. ⌜ r ≡ aligned (now («data» .entry)) (self .«bit_pos») ⌝ }
+        ensures outcome { λ r. ⌜ movedOutcome r ≡ alignDue (now («data» .entry)) (self .«bit_pos») ⌝ }
     {
         let at = self.bit_pos;
         if !in_data(data.len(), at) {
@@ -174,6 +169,7 @@ impl Cursor {
     // The next n bits as a number, first bit highest, and the cursor after them.
     pub fn read_bits(self, data: &[u8], n: usize) -> BitsRead
         ensures { λ r. ⌜ r ≡ readBits (now («data» .entry)) (self .«bit_pos») n ⌝ }
+        ensures outcome { λ r. ⌜ bitsOutcome r ≡ readDue (now («data» .entry)) (self .«bit_pos») n ⌝ }
     {
         let at = self.bit_pos;
         if !in_data(data.len(), at) {
@@ -191,6 +187,7 @@ impl Cursor {
     // The next bit, and the cursor after it.
     pub fn read_bool(self, data: &[u8]) -> BoolRead
         ensures { λ r. ⌜ r ≡ readBool (now («data» .entry)) (self .«bit_pos») ⌝ }
+        ensures outcome { λ r. ⌜ boolOutcome r ≡ boolDue (now («data» .entry)) (self .«bit_pos») ⌝ }
     {
         match self.read_bits(data, 1) {
             BitsRead::Refused(e) => BoolRead::Refused(e),
@@ -201,6 +198,7 @@ impl Cursor {
     // The next n bits as a number, first bit highest; the cursor stays.
     pub fn next_bits(self, data: &[u8], n: usize) -> BitsPeeked
         ensures { λ r. ⌜ r ≡ nextBits (now («data» .entry)) (self .«bit_pos») n ⌝ }
+        ensures outcome { λ r. ⌜ peekedOutcome r ≡ peekDue (now («data» .entry)) (self .«bit_pos») n ⌝ }
     {
         match self.read_bits(data, n) {
             BitsRead::Refused(e) => BitsPeeked::Refused(e),
@@ -211,6 +209,7 @@ impl Cursor {
     // The next `most` bits, or fewer if fewer remain, as a number, and how many they are.
     pub fn next_window(self, data: &[u8], most: usize) -> WindowPeeked
         ensures { λ r. ⌜ r ≡ nextWindow (now («data» .entry)) (self .«bit_pos») most ⌝ }
+        ensures outcome { λ r. ⌜ windowOutcome r ≡ windowDue (now («data» .entry)) (self .«bit_pos») most ⌝ }
     {
         let at = self.bit_pos;
         if !in_data(data.len(), at) {
@@ -223,7 +222,7 @@ impl Cursor {
         if left == 0 {
             return WindowPeeked::Refused(BitReaderError::EndOfStream);
         }
-        let n = least(most, left);
+        let n = numbers::least(most, left);
         WindowPeeked::Window(peek(data, at, n), n as u32)
     }
 }

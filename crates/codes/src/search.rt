@@ -18,15 +18,6 @@ fn hits(window: u32, n: u32, code: u32, len: u32) -> bool
     0 == code
 }
 
-fn least(a: usize, b: usize) -> usize
-    ensures { λ r. ⌜ r ≡ min a b ⌝ }
-{
-    if a < b {
-        return a;
-    }
-    b
-}
-
 // The first row of `from..to` whose code begins a window of n bits; `to` where none does.
 fn search(codes: &[u32], lens: &[u32], from: usize, to: usize, window: u32, n: u32) -> usize
     requires { ⌜ (from ≤ to) × (to ≤ length (now codes)) × (to ≤ length (now lens)) ⌝ }
@@ -336,8 +327,8 @@ fn hint(rows: usize, window: u32, n: u32) -> usize {
 pub fn find_row(codes: &[u32], lens: &[u32], rows: usize, window: u32, n: u32) -> usize
     ensures { λ r. ⌜ Found (now (codes .entry)) (now (lens .entry)) (min rows (min (length (now (codes .entry))) (length (now (lens .entry))))) window n r ⌝ }
 {
-    let most = least(rows, least(codes.len(), lens.len()));
-    let from = least(hint(rows, window, n), most);
+    let most = numbers::least(rows, numbers::least(codes.len(), lens.len()));
+    let from = numbers::least(hint(rows, window, n), most);
     let row = search(codes, lens, from, most, window, n);
     if row < most {
         return row;

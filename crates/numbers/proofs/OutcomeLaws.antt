@@ -30,3 +30,7 @@ by-numbers told k r n f h (t ∷ ts) z = go (t .0) (by-numbers told k r n f h ts
         → told (cond b (firstOf k r ts) (k (t .1))) ≡ cond b (checked (numbered n ts) (told r)) (refused (n (t .1)) 0)
     go true rest = rest
     go false rest = h (t .1) ∙ ap (refused (n (t .1))) (z .0)
+
+-- an answer that is a definition's, and so has its outcome
+pub both : {R O : Type 0} (told : R → O) {r a : R} {o : O} → r ≡ a → told a ≡ o → (r ≡ a) × (told r ≡ o)
+both told e h = (e, ap told e ∙ h)

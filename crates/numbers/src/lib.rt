@@ -3,7 +3,7 @@
 //
 // No function has a `requires`: each answers every input.
 ghost use mathlib.Core.Path.{_≡_};
-ghost use Prim.Native.Nat.{_<_};
+ghost use Prim.Native.Nat.{_<_, min};
 ghost use lib.IntN.{natAbs, negℤ, pos};
 ghost use Rattle.numbers.specs.Limit.{clampZ};
 ghost use Rattle.numbers.specs.Rounding.{divAway, Nearest};
@@ -19,6 +19,16 @@ pub fn clamp(v: i32, lo: i32, hi: i32) -> i32
     } else {
         v
     }
+}
+
+// The lesser of two.
+pub fn least(a: usize, b: usize) -> usize
+    ensures { λ r. ⌜ r ≡ min a b ⌝ }
+{
+    if a < b {
+        return a;
+    }
+    b
 }
 
 // |x|, the Rust's `unsigned_abs`.

@@ -22,10 +22,10 @@ enum-known-v : tie.Need-enum-known-v
 enum-known-v c = search needs
 
 returns : tie.Need-returns
-returns c = told _ _ (c .before .before .before .before .before .args .at) (sym (c .before .e .given .1) ∙ c .before .before .before .read-bits .ensures)
+returns c = told _ _ (c .before .before .before .before .before .args .at) (sym (c .before .e .given .1) ∙ c .before .before .before .read-bits .ensures .0)
 
 returns-2 : tie.Need-returns-2
-returns-2 c = told _ _ (c .before .before .before .before .before .args .at) (sym (c .before .v .given .1) ∙ c .before .before .before .read-bits .ensures)
+returns-2 c = told _ _ (c .before .before .before .before .before .args .at) (sym (c .before .v .given .1) ∙ c .before .before .before .read-bits .ensures .0)
 
 pub read-at-spec : {M : Type 1} → statement M
 read-at-spec = tie.close (tie.spec read-bits-requires enum-known-e enum-known-v returns returns-2)

@@ -14,7 +14,7 @@ moved-to-requires c κs = search needs
 
 returns : tie.Need-returns
 returns c =
-    (c .before .skip-bits .ensures, c .moved-to .ensures ∙ ap (λ (m : Moved). movedTo m (c .before .before .before .args .at)) (c .before .skip-bits .ensures))
+    (c .before .skip-bits .ensures .0, c .moved-to .ensures ∙ ap (λ (m : Moved). movedTo m (c .before .before .before .args .at)) (c .before .skip-bits .ensures .0))
 
 pub skip-at-spec : {M : Type 1} → statement M
 skip-at-spec = tie.close (tie.spec skip-bits-requires moved-to-requires returns)

@@ -44,7 +44,10 @@ use denote.Triple.Spec.{Meets, tripleOf}
 use denote.Triple.Table.{entered, cited}
 use denote.Triple.Walked.{Stays, stay-ref, stay-none, walkOf, goes-none, goes-ref, Walks, ends-at, walked, walk-meets}
 use denote.Exit.{yes}
+use Rattle.numbers.proofs.OutcomeLaws.{both}
+use Rattle.bits.proofs.OutcomeLaws.{skip-due}
 use Rattle.bits.specs.Cursor.{skipped}
+use Rattle.bits.specs.Outcomes.{movedOutcome}
 use Rattle.bits.proofs.cursor.Moved as P
 use Rattle.bits.proofs.cursor.Moved.Laws as P′
 use Rattle.bit_reader.specs.BitReader.{movedTo}
@@ -133,7 +136,7 @@ module _ {M : Type 1} (𝓤 : URA M) (H : Heap 𝓤) (A : Atoms 𝓤) (W : Given
   exits : (r : SkippedAt) → Told r → ent 𝓤 (⋆ 𝓤 H A (‵ (fobs γ (B κ′ .coded .code (moved h (r .«bit_pos»)))) ∷ ‵ (fbor κ (Body (mem (B κ′)) b o γ)) ∷ ‵ (flft κ q) ∷ ‵ (P.the-row .own (r .answer) (answer r ∷ [])) ∷ (‵ (flft κ′ q′) ⊛ ‵ ftrue) ∷ [])) (Post (answer r))
   exits r e =
       qed W (‵ (fobs γ (B κ′ .coded .code (moved h (r .«bit_pos»)))) ∷ ‵ (fbor κ (Body (mem (B κ′)) b o γ)) ∷ ‵ (flft κ q) ∷ ‵ (P.the-row .own (r .answer) (answer r ∷ [])) ∷ (‵ (flft κ′ q′) ⊛ ‵ ftrue) ∷ []) ∵
-      suffices ! _ (ends-at 𝓤 H A skip.ended stayed (skip.clauses 𝓤 H A at-mem run) W (((κ, (κ′, tt)), (q, (q′, tt)), bounds, x, at), tt) (answer r) (r .answer) (moved h (r .«bit_pos»), (tt, tt)) (tt, (tt, tt))) $ suffices ! _ (says-three 𝓤 _ _ _ _ (e .0) refl (e .1)) $
+      suffices ! _ (ends-at 𝓤 H A skip.ended stayed (skip.clauses 𝓤 H A at-mem run) W (((κ, (κ′, tt)), (q, (q′, tt)), bounds, x, at), tt) (answer r) (r .answer) (moved h (r .«bit_pos»), (tt, tt)) (tt, (tt, tt))) $ suffices ! _ (says-three 𝓤 _ _ _ _ (both movedOutcome (e .0) (skip-due (now (h .«data»)) (h .«bit_pos») n)) refl (e .1)) $
       move ! (2 ∷ 4 ∷ []) $ join ! $
       frame ! $ feqI ! (List Val) (vptr b o ∷ []) (vptr b o ∷ []) refl $ fjoin3 ! $ nothing ! $ owned ! usize (Is usize) (uint-makes 𝓤 H A W w64) n _ (refl, n-fits) $ fjoin ! $ move ! (1 ∷ 0 ∷ []) $ fjoin ! $ done !
 

@@ -10,13 +10,18 @@ use borrow.Author.Tests.{not-false, not-true}
 use Rattle.bits.proofs.CursorLaws.{in-data-yes}
 use Rattle.bits.proofs.cursor.Cursor.align_to_byte.Statement.{statement}
 use Rattle.bits.specs.Cursor.{inData}
+use Rattle.numbers.proofs.OutcomeLaws.{both}
+use Rattle.bits.specs.Outcomes.{movedOutcome}
+use Rattle.bits.proofs.OutcomeLaws.{align-due}
 use Rattle.bits.proofs.cursor.Cursor.align_to_byte.Tie as tie
 
 in-data-requires : tie.Need-in-data-requires
 in-data-requires c κs = search needs
 
 returns : tie.Need-returns
-returns c = simp (sym (c .before .in-data .ensures) ∙ not-true _ (c .if1 .taken))
+returns c =
+    let args = c .before .before .before .args in
+    both movedOutcome (simp (sym (c .before .in-data .ensures) ∙ not-true _ (c .if1 .taken))) (align-due (now (args .«data»)) (args .self .«bit_pos»))
 
 -- the data may be read from the position on
 readable : (c : tie.Else1) → inData (length (now (c .before .before .before .args .«data»))) (c .before .before .before .args .self .«bit_pos») ≡ true
@@ -32,7 +37,9 @@ mul-t9 : tie.Need-mul-t9
 mul-t9 c = omega (arith, limits c)
 
 returns-2 : tie.Need-returns-2
-returns-2 c = simp (readable c)
+returns-2 c =
+    let args = c .before .before .before .args in
+    both movedOutcome (simp (readable c)) (align-due (now (args .«data»)) (args .self .«bit_pos»))
 
 pub align-to-byte-spec : {M : Type 1} → statement M
 align-to-byte-spec = tie.close (tie.spec in-data-requires returns add-t5 mul-t9 returns-2)

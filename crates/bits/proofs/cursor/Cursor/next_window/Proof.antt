@@ -14,6 +14,9 @@ use Rattle.bits.proofs.CursorLaws.{in-data-yes, take-least}
 use Rattle.bits.proofs.cursor.Cursor.next_window.Statement.{statement}
 use Rattle.bits.specs.Bits.{bitsFrom, val}
 use Rattle.bits.specs.Cursor.{inData, nextWindow}
+use Rattle.numbers.proofs.OutcomeLaws.{both}
+use Rattle.bits.specs.Outcomes.{windowOutcome}
+use Rattle.bits.proofs.OutcomeLaws.{window-due}
 use Rattle.bits.proofs.cursor.Cursor.next_window.Tie as tie
 
 in-data-requires : tie.Need-in-data-requires
@@ -21,7 +24,9 @@ in-data-requires c κs = search needs
 
 returns : tie.Need-returns
 unfolding nextWindow
-returns c = simp (sym (c .before .in-data .ensures) ∙ not-true _ (c .if1 .taken))
+returns c =
+    let args = c .before .before .before .args in
+    both windowOutcome (simp (sym (c .before .in-data .ensures) ∙ not-true _ (c .if1 .taken))) (window-due (now (args .«data»)) (args .self .«bit_pos») (args .most))
 
 -- the data may be read from the position on
 readable : (c : tie.Else1) → inData (length (now (c .before .before .before .args .«data»))) (c .before .before .before .args .self .«bit_pos») ≡ true
@@ -32,7 +37,9 @@ limits c = in-data-yes (length (now (c .before .before .before .args .«data»))
 
 returns-2 : tie.Need-returns-2
 unfolding nextWindow
-returns-2 c = simp (readable (c .before), lt-leb _ _ (c .if2 .taken))
+returns-2 c =
+    let args = c .before .before .before .before .args in
+    both windowOutcome (simp (readable (c .before), lt-leb _ _ (c .if2 .taken))) (window-due (now (args .«data»)) (args .self .«bit_pos») (args .most))
 
 mul-left : tie.Need-mul-left
 mul-left c = omega (arith, limits (c .before))
@@ -42,7 +49,9 @@ sub-left c = omega (arith, limits (c .before))
 
 returns-3 : tie.Need-returns-3
 unfolding nextWindow
-returns-3 c = simp (readable (c .before .before), le-leb _ _ (c .before .if2 .left), length-bitsFrom, eq-eqb _ _ (c .if3 .taken))
+returns-3 c =
+    let args = c .before .before .before .before .before .args in
+    both windowOutcome (simp (readable (c .before .before), le-leb _ _ (c .before .if2 .left), length-bitsFrom, eq-eqb _ _ (c .if3 .taken))) (window-due (now (args .«data»)) (args .self .«bit_pos») (args .most))
 
 least-requires : tie.Need-least-requires
 least-requires c κs = search needs
@@ -56,12 +65,13 @@ cast-t15 c = search needs
 returns-4 : tie.Need-returns-4
 unfolding nextWindow
 returns-4 c =
-    let s = c .before .before .before .before .before .before .before in
+    let args = c .before .before .before .before .before .before .before .args in
+    both windowOutcome (let s = c .before .before .before .before .before .before .before in
     let b = bitsFrom (now (s .args .«data»)) (s .args .self .«bit_pos») in
     let n : c .before .least .result ≡ min (s .args .most) (length b) = c .before .least .ensures ∙ ap (min (s .args .most)) (sym (length-bitsFrom (now (s .args .«data»)) (s .args .self .«bit_pos»))) in
     let some : eqb (length b) 0 ≡ false = ne-eqb (length b) 0 (λ e. c .before .before .if3 .left (sym (length-bitsFrom (now (s .args .«data»)) (s .args .self .«bit_pos»)) ∙ e)) in
     let v : c .peek .result ≡ val (take (s .args .most) b) = c .peek .ensures ∙ ap (λ (k : ℕ). val (take k b)) n ∙ ap val (take-least (s .args .most) b) in
-    simp (readable (c .before .before .before .before), le-leb _ _ (c .before .before .before .if2 .left), some, v, n, length-take)
+    simp (readable (c .before .before .before .before), le-leb _ _ (c .before .before .before .if2 .left), some, v, n, length-take)) (window-due (now (args .«data»)) (args .self .«bit_pos») (args .most))
 
 pub next-window-spec : {M : Type 1} → statement M
 next-window-spec = tie.close (tie.spec in-data-requires returns returns-2 mul-left sub-left returns-3 least-requires peek-requires cast-t15 returns-4)

@@ -11,6 +11,9 @@ use Rattle.bits.proofs.BitLaws.{length-bitsFrom}
 use Rattle.bits.proofs.CursorLaws.{in-data-yes}
 use Rattle.bits.proofs.cursor.Cursor.read_bits.Statement.{statement}
 use Rattle.bits.specs.Cursor.{inData, readBits}
+use Rattle.numbers.proofs.OutcomeLaws.{both}
+use Rattle.bits.specs.Outcomes.{bitsOutcome}
+use Rattle.bits.proofs.OutcomeLaws.{read-due}
 use Rattle.bits.proofs.cursor.Cursor.read_bits.Tie as tie
 
 in-data-requires : tie.Need-in-data-requires
@@ -18,7 +21,9 @@ in-data-requires c κs = search needs
 
 returns : tie.Need-returns
 unfolding readBits
-returns c = simp (sym (c .before .in-data .ensures) ∙ not-true _ (c .if1 .taken))
+returns c =
+    let args = c .before .before .before .args in
+    both bitsOutcome (simp (sym (c .before .in-data .ensures) ∙ not-true _ (c .if1 .taken))) (read-due (now (args .«data»)) (args .self .«bit_pos») (args .n))
 
 -- the data may be read from the position on
 readable : (c : tie.Else1) → inData (length (now (c .before .before .before .args .«data»))) (c .before .before .before .args .self .«bit_pos») ≡ true
@@ -29,7 +34,9 @@ limits c = in-data-yes (length (now (c .before .before .before .args .«data»))
 
 returns-2 : tie.Need-returns-2
 unfolding readBits
-returns-2 c = simp (readable (c .before), lt-leb _ _ (c .if2 .taken))
+returns-2 c =
+    let args = c .before .before .before .before .args in
+    both bitsOutcome (simp (readable (c .before), lt-leb _ _ (c .if2 .taken))) (read-due (now (args .«data»)) (args .self .«bit_pos») (args .n))
 
 mul-if3 : tie.Need-mul-if3
 mul-if3 c = omega (arith, limits (c .before))
@@ -40,7 +47,8 @@ sub-if3 c = omega (arith, limits (c .before))
 returns-3 : tie.Need-returns-3
 unfolding readBits
 returns-3 c =
-    simp (readable (c .before .before), le-leb _ _ (c .before .if2 .left), length-bitsFrom, lt-leb _ _ (c .if3 .taken))
+    let args = c .before .before .before .before .before .args in
+    both bitsOutcome (simp (readable (c .before .before), le-leb _ _ (c .before .if2 .left), length-bitsFrom, lt-leb _ _ (c .if3 .taken))) (read-due (now (args .«data»)) (args .self .«bit_pos») (args .n))
 
 peek-requires : tie.Need-peek-requires
 peek-requires c κs = omega (arith, limits (c .before .before))
@@ -51,7 +59,8 @@ add-t6 c = omega (arith, limits (c .before .before .before))
 returns-4 : tie.Need-returns-4
 unfolding readBits
 returns-4 c =
-    simp (readable (c .before .before .before), le-leb _ _ (c .before .before .if2 .left), length-bitsFrom, le-leb _ _ (c .before .if3 .left), c .peek .ensures)
+    let args = c .before .before .before .before .before .before .args in
+    both bitsOutcome (simp (readable (c .before .before .before), le-leb _ _ (c .before .before .if2 .left), length-bitsFrom, le-leb _ _ (c .before .if3 .left), c .peek .ensures)) (read-due (now (args .«data»)) (args .self .«bit_pos») (args .n))
 
 pub read-bits-spec : {M : Type 1} → statement M
 read-bits-spec = tie.close (tie.spec in-data-requires returns returns-2 mul-if3 sub-if3 returns-3 peek-requires add-t6 returns-4)
