@@ -1,10 +1,11 @@
 -- The cursor's answers by number are what is due, and the numbers tell the answers apart. Assumes nothing.
-use mathlib.Core.Bool.{Bool, cond, false, not, true, _&&_}
+use mathlib.Core.Bool.{Bool, cond, false, not, true}
 use mathlib.Core.List.{List}
 use mathlib.Core.Path.{_≡_, ap, refl, sym, _∙_}
 use Prim.Native.Nat.{ℕ}
 use lib.Dec.{eqb, leb}
 use lib.ListN.{length, take}
+use Rattle.numbers.proofs.OutcomeLaws.{one-test, three-tests, two-tests}
 use Rattle.numbers.specs.Outcome.{Outcome, accepted, refused}
 use Rattle.bits.specs.Bits.{bitsFrom, val}
 use Rattle.bits.specs.Cursor.{aligned, boolOf, cursorAt, inData, nextBits, nextWindow, numberOf, peekedOf, readBits, readBool, remaining, skipped}
@@ -23,20 +24,6 @@ use Rattle.bits.specs.declared.cursor.WindowPeeked.{WindowPeeked}
 use Rattle.bits.specs.declared.cursor.WindowPeeked.the-variants.{Window, Refused as WindowRefused}
 use Rattle.bits.specs.declared.error.BitReaderError.{BitReaderError}
 use Rattle.bits.specs.declared.error.BitReaderError.the-variants.{EndOfStream, OutOfRange}
-
--- one test, and two, under a map of answers
-one-test : {R A : Type 0} (told : R → Outcome A) (t : Bool) (x y : R) → told (cond t x y) ≡ cond t (told x) (told y)
-one-test told true x y = refl
-one-test told false x y = refl
-
-two-tests : {R A : Type 0} (told : R → Outcome A) (s t : Bool) (x y z : R) → told (cond s (cond t x y) z) ≡ cond s (cond t (told x) (told y)) (told z)
-two-tests told true t x y z = one-test told t x y
-two-tests told false t x y z = refl
-
--- a test that is two in one
-three-tests : {R A : Type 0} (told : R → Outcome A) (s u t : Bool) (x y z : R) → told (cond (s && u) (cond t x y) z) ≡ cond s (cond u (cond t (told x) (told y)) (told z)) (told z)
-three-tests told true u t x y z = two-tests told u t x y z
-three-tests told false u t x y z = refl
 
 module _ (d : List ℕ) (at : ℕ) where
   pub remaining-due : countOutcome (remaining d at) ≡ remainingDue d at

@@ -9,3 +9,5 @@ pub mod PredictionBlock
 pub mod RefusalLaws
 pub mod MissingLaws
 pub mod LevelLaws
+pub mod OutcomeLaws
+pub mod ScalerLaws

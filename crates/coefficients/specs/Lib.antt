@@ -4,3 +4,4 @@ pub mod Scan
 pub mod Prediction
 pub mod Level
 pub mod Stages
+pub mod Outcomes

@@ -3,19 +3,19 @@ use mathlib.Core.Bool.{Bool, true, false, _&&_}
 use mathlib.Core.List.{List, [], _∷_}
 use Prim.Native.Nat.{ℕ}
 use Rattle.coefficients.specs.declared.refusal.CoefficientError.{CoefficientError}
-use Rattle.coefficients.specs.declared.refusal.CoefficientError.the-variants.{Context, OutOfRange}
+use Rattle.coefficients.specs.declared.refusal.CoefficientError.the-variants.{Context, HandedIn}
 use Rattle.coefficients.specs.declared.refusal.Stage.{Stage}
 use Rattle.coefficients.specs.declared.refusal.Stage.the-variants.{Done, Refused}
 
 -- document 01's number: 12 for the context, 13 for a predictor, level or value handed in
 abbrev pub numberOf : CoefficientError → ℕ
 numberOf Context = 12
-numberOf OutOfRange = 13
+numberOf HandedIn = 13
 
 -- the first of the two tests that fails answers
 abbrev pub firstBad : Bool → Bool → Stage
 firstBad false v = Refused Context
-firstBad true false = Refused OutOfRange
+firstBad true false = Refused HandedIn
 firstBad true true = Done
 
 -- what lent memory holds afterwards: a refusal leaves it as it was

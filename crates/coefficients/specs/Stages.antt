@@ -7,7 +7,7 @@ use lib.ListN.{getD}
 use lib.IntN.{ℤ, pos, natAbs, _+ℤ_}
 use Rattle.numbers.specs.Grid.{build, cell}
 use Rattle.codes.specs.declared.dc_size.DcComponent.{DcComponent}
-use Rattle.coefficients.specs.declared.refusal.CoefficientError.the-variants.{Context, OutOfRange}
+use Rattle.coefficients.specs.declared.refusal.CoefficientError.the-variants.{Context, HandedIn}
 use Rattle.coefficients.specs.declared.refusal.Direction.{Direction}
 use Rattle.coefficients.specs.declared.refusal.Direction.the-variants.{Is as DirectionIs, Refused as DirectionRefused}
 use Rattle.coefficients.specs.declared.refusal.Scaler.{Scaler}
@@ -25,13 +25,13 @@ use Rattle.coefficients.specs.Level.{valuesFine}
 
 -- 12 unless the context is fine, then 13 unless the values are, else the value
 abbrev pub valueUnless : Bool → Bool → ℤ → Value
-valueUnless context values z = cond context (cond values (ValueIs z) (ValueRefused OutOfRange)) (ValueRefused Context)
+valueUnless context values z = cond context (cond values (ValueIs z) (ValueRefused HandedIn)) (ValueRefused Context)
 
 abbrev pub scalerAnswer : DcComponent → ℕ → Scaler
 scalerAnswer c q = cond (quantiserFine q) (ScalerIs (dcScaler c q)) (ScalerRefused Context)
 
 abbrev pub directionAnswer : ℤ → ℤ → ℤ → Direction
-directionAnswer fa fb fc = cond (dcFine fa && (dcFine fb && dcFine fc)) (DirectionIs (directionOf fa fb fc)) (DirectionRefused OutOfRange)
+directionAnswer fa fb fc = cond (dcFine fa && (dcFine fb && dcFine fc)) (DirectionIs (directionOf fa fb fc)) (DirectionRefused HandedIn)
 
 abbrev pub defaultAnswer : ℕ → Value
 defaultAnswer depth = valueUnless (depthFine depth) true (defaultDc depth)

@@ -5,6 +5,7 @@ ghost use lib.IntN.{natAbs};
 ghost use Rattle.numbers.specs.Grid.{cell};
 ghost use Rattle.coefficients.specs.Refusal.{after};
 ghost use Rattle.coefficients.specs.Level.{saturated, saturatedBlock, intraScan, limitedSum, levels, predictorsFine, placesFine, levelsAnswer};
+ghost use Rattle.coefficients.specs.Outcomes.{levelsDue, stageOutcome};
 ghost use Rattle.coefficients.specs.Stages.{PredictorsGood, PlacesGood};
 use crate::predictor::BlockPredictors;
 use crate::refusal::CoefficientError;
@@ -139,15 +140,16 @@ pub fn intra_levels(
     qf: &mut [[i32; 8]; 8],
 ) -> Stage
     ensures { λ r. ⌜ (r ≡ levelsAnswer «quantiser_scale» predictors qfs) × (now (qf .exit) ≡ after (levelsAnswer «quantiser_scale» predictors qfs) (levels component «quantiser_scale» «ac_pred_flag» «alternate_vertical_scan» predictors qfs) (now (qf .entry))) ⌝ }
+    ensures outcome { λ r. ⌜ stageOutcome r ≡ levelsDue «quantiser_scale» predictors qfs ⌝ }
 {
     if !ranges::Quantiser::fine(quantiser_scale) {
         return Stage::Refused(CoefficientError::Context);
     }
     if !predictors_fine(predictors) {
-        return Stage::Refused(CoefficientError::OutOfRange);
+        return Stage::Refused(CoefficientError::HandedIn);
     }
     if !places_fine(qfs) {
-        return Stage::Refused(CoefficientError::OutOfRange);
+        return Stage::Refused(CoefficientError::HandedIn);
     }
     *qf = levels_of(
         qfs,

@@ -18,7 +18,6 @@ pub use predictor::default_neighbour_dc;
 pub use predictor::predict_intra_ac_column;
 pub use predictor::predict_intra_ac_row;
 pub use predictor::predict_intra_dc;
-pub use predictor::scaler_of;
 pub use predictor::select_dc_direction;
 pub use refusal::CoefficientError;
 pub use refusal::Direction;

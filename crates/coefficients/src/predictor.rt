@@ -10,6 +10,7 @@ ghost use Rattle.coefficients.specs.Refusal.{after};
 ghost use Rattle.numbers.specs.Every.{every};
 ghost use Rattle.coefficients.specs.Level.{valuesFine};
 ghost use Rattle.coefficients.specs.Prediction.{dcScaler, directionOf, defaultDc, outsideOf, dcPrediction, acPrediction, predicted};
+ghost use Rattle.coefficients.specs.Outcomes.{acDue, dcDue, defaultDue, directionDue, directionOutcome, scalerDue, scalerOutcome, stageOutcome, valueOutcome};
 ghost use Rattle.coefficients.specs.Stages.{scalerAnswer, directionAnswer, defaultAnswer, dcAnswer, acAdded, acAnswer, PredictorsGood};
 use crate::refusal::CoefficientError;
 use crate::refusal::Direction;
@@ -66,6 +67,7 @@ fn missing_dc(bits_per_pixel: u32) -> i32
 // The DC of a missing neighbour: 2^(depth + 2), or 12.
 pub fn default_neighbour_dc(bits_per_pixel: u32) -> Value
     ensures { λ r. ⌜ r ≡ defaultAnswer «bits_per_pixel» ⌝ }
+    ensures outcome { λ r. ⌜ valueOutcome r ≡ defaultDue «bits_per_pixel» ⌝ }
 {
     if !ranges::Depth::fine(bits_per_pixel) {
         return Value::Refused(CoefficientError::Context);
@@ -73,22 +75,11 @@ pub fn default_neighbour_dc(bits_per_pixel: u32) -> Value
     Value::Is(missing_dc(bits_per_pixel))
 }
 
-// A quantiser up to 511; a greater one is taken as 511.
-fn at_most_511(quantiser_scale: u32) -> u32
-    ensures { λ r. ⌜ r ≡ min «quantiser_scale» 511 ⌝ }
+// Table 7-1, of a quantiser up to 511.
+fn scaler_of(component: DcComponent, q: u32) -> u32
+    requires { ⌜ q ≤ 511 ⌝ }
+    ensures { λ r. ⌜ (r ≡ dcScaler component q) × (r ≤ 1006) ⌝ }
 {
-    if quantiser_scale < 511 {
-        quantiser_scale
-    } else {
-        511
-    }
-}
-
-// Table 7-1, of a quantiser up to 511; a greater one is taken as 511.
-pub fn scaler_of(component: DcComponent, quantiser_scale: u32) -> u32
-    ensures { λ r. ⌜ (r ≡ dcScaler component (min «quantiser_scale» 511)) × (r ≤ 1006) ⌝ }
-{
-    let q = at_most_511(quantiser_scale);
     match component {
         DcComponent::Luminance => {
             if q <= 4 {
@@ -116,6 +107,7 @@ pub fn scaler_of(component: DcComponent, quantiser_scale: u32) -> u32
 // Table 7-1, or 12.
 pub fn dc_scaler(component: DcComponent, quantiser_scale: u32) -> Scaler
     ensures { λ r. ⌜ r ≡ scalerAnswer component «quantiser_scale» ⌝ }
+    ensures outcome { λ r. ⌜ scalerOutcome r ≡ scalerDue component «quantiser_scale» ⌝ }
 {
     if !ranges::Quantiser::fine(quantiser_scale) {
         return Scaler::Refused(CoefficientError::Context);
@@ -137,15 +129,16 @@ pub(crate) fn direction_of(fa: i32, fb: i32, fc: i32) -> DcPredictionDirection
 // 7.4.3.1, or 13.
 pub fn select_dc_direction(fa: i32, fb: i32, fc: i32) -> Direction
     ensures { λ r. ⌜ r ≡ directionAnswer fa fb fc ⌝ }
+    ensures outcome { λ r. ⌜ directionOutcome r ≡ directionDue fa fb fc ⌝ }
 {
     if !ranges::NeighbourDc::fine(fa) {
-        return Direction::Refused(CoefficientError::OutOfRange);
+        return Direction::Refused(CoefficientError::HandedIn);
     }
     if !ranges::NeighbourDc::fine(fb) {
-        return Direction::Refused(CoefficientError::OutOfRange);
+        return Direction::Refused(CoefficientError::HandedIn);
     }
     if !ranges::NeighbourDc::fine(fc) {
-        return Direction::Refused(CoefficientError::OutOfRange);
+        return Direction::Refused(CoefficientError::HandedIn);
     }
     Direction::Is(direction_of(fa, fb, fc))
 }
@@ -170,15 +163,16 @@ pub fn predict_intra_dc(
     dc_scaler_x: u32,
 ) -> Value
     ensures { λ r. ⌜ r ≡ dcAnswer «pqfx_dc» direction «fa_dc» «fc_dc» «dc_scaler_x» ⌝ }
+    ensures outcome { λ r. ⌜ valueOutcome r ≡ dcDue «pqfx_dc» direction «fa_dc» «fc_dc» «dc_scaler_x» ⌝ }
 {
     if !ranges::Difference::fine(pqfx_dc) {
-        return Value::Refused(CoefficientError::OutOfRange);
+        return Value::Refused(CoefficientError::HandedIn);
     }
     if !ranges::NeighbourDc::fine(fa_dc) {
-        return Value::Refused(CoefficientError::OutOfRange);
+        return Value::Refused(CoefficientError::HandedIn);
     }
     if !ranges::NeighbourDc::fine(fc_dc) {
-        return Value::Refused(CoefficientError::OutOfRange);
+        return Value::Refused(CoefficientError::HandedIn);
     }
     Value::Is(pqfx_dc + dc_prediction(direction, fa_dc, fc_dc, dc_scaler_x))
 }
@@ -243,13 +237,13 @@ fn predict_intra_ac(
         return Stage::Refused(CoefficientError::Context);
     }
     if !all_levels(pqfx) {
-        return Stage::Refused(CoefficientError::OutOfRange);
+        return Stage::Refused(CoefficientError::HandedIn);
     }
     if !ranges::Quantiser::fine(qp) {
-        return Stage::Refused(CoefficientError::OutOfRange);
+        return Stage::Refused(CoefficientError::HandedIn);
     }
     if !values_fine(has, qf) {
-        return Stage::Refused(CoefficientError::OutOfRange);
+        return Stage::Refused(CoefficientError::HandedIn);
     }
     *out = ac_added(pqfx, has, qf, qp, qp_x);
     Stage::Done
@@ -265,6 +259,7 @@ pub fn predict_intra_ac_column(
     out: &mut [i32; 7],
 ) -> Stage
     ensures { λ r. ⌜ (r ≡ acAnswer «pqfx_col» «has_column» «qfa_col» «qp_a» «qp_x») × (now (out .exit) ≡ after (acAnswer «pqfx_col» «has_column» «qfa_col» «qp_a» «qp_x») (acAdded «pqfx_col» «has_column» «qfa_col» «qp_a» «qp_x») (now (out .entry))) ⌝ }
+    ensures outcome { λ r. ⌜ stageOutcome r ≡ acDue «pqfx_col» «has_column» «qfa_col» «qp_a» «qp_x» ⌝ }
 {
     predict_intra_ac(pqfx_col, has_column, qfa_col, qp_a, qp_x, out)
 }
@@ -279,6 +274,7 @@ pub fn predict_intra_ac_row(
     out: &mut [i32; 7],
 ) -> Stage
     ensures { λ r. ⌜ (r ≡ acAnswer «pqfx_row» «has_row» «qfc_row» «qp_c» «qp_x») × (now (out .exit) ≡ after (acAnswer «pqfx_row» «has_row» «qfc_row» «qp_c» «qp_x») (acAdded «pqfx_row» «has_row» «qfc_row» «qp_c» «qp_x») (now (out .entry))) ⌝ }
+    ensures outcome { λ r. ⌜ stageOutcome r ≡ acDue «pqfx_row» «has_row» «qfc_row» «qp_c» «qp_x» ⌝ }
 {
     predict_intra_ac(pqfx_row, has_row, qfc_row, qp_c, qp_x, out)
 }

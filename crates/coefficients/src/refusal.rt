@@ -8,7 +8,7 @@ pub enum CoefficientError {
     // 12: the quantiser, the depth, or a zero in the matrix under method 1
     Context,
     // 13: a predictor, level or value handed in
-    OutOfRange,
+    HandedIn,
 }
 
 impl CoefficientError {
@@ -18,7 +18,7 @@ impl CoefficientError {
     {
         match self {
             CoefficientError::Context => 12,
-            CoefficientError::OutOfRange => 13,
+            CoefficientError::HandedIn => 13,
         }
     }
 }

@@ -6,3 +6,4 @@ pub mod DcLaws
 pub mod LimitLaws
 pub mod MismatchLaws
 pub mod AnswerLaws
+pub mod OutcomeLaws

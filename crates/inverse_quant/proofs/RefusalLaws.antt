@@ -14,7 +14,7 @@ pub context-good : (ctx : InverseQuantContext) → contextFine ctx ≡ true → 
 context-good ctx e =
     let b = both-true (quantiserFine (ctx .«quantiser_scale»)) (depthFine (ctx .«bits_per_pixel»)) e in
     let q = quantiser-range (ctx .«quantiser_scale») (b .0) in
-    record { positive = q .0; quantiser = omega (arith, q); depth = depth-range (ctx .«bits_per_pixel») (b .1) .1 }
+    record { positive = q .0; quantiser = q .1; shallow = depth-range (ctx .«bits_per_pixel») (b .1) .0; depth = depth-range (ctx .«bits_per_pixel») (b .1) .1 }
 
 pub context-fine : (ctx : InverseQuantContext) → 1 ≤ ctx .«quantiser_scale» → ctx .«quantiser_scale» ≤ 31
     → 4 ≤ ctx .«bits_per_pixel» → ctx .«bits_per_pixel» ≤ 12 → contextFine ctx ≡ true

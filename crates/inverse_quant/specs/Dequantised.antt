@@ -11,7 +11,7 @@ use Rattle.numbers.specs.Sum.{sumZ}
 use Rattle.codes.specs.declared.dc_size.DcComponent.{DcComponent}
 use Rattle.inverse_quant.specs.declared.context.InverseQuantContext.{InverseQuantContext}
 use Rattle.coefficients.specs.declared.refusal.Stage.{Stage}
-use Rattle.ranges.specs.Range.{quantiserFine, depthFine}
+use Rattle.ranges.specs.Range.{depthFine, highest, lowest, quantiserFine}
 use Rattle.coefficients.specs.Refusal.{firstBad}
 use Rattle.numbers.specs.Every.{every}
 use Rattle.coefficients.specs.Level.{blockFine}
@@ -25,19 +25,14 @@ intraDc qf c q short = qf *ℤ pos (cond short 8 (dcScaler c q))
 abbrev pub method1Intra : ℤ → ℕ → ℕ → ℤ
 method1Intra qf w q = quotZ (qf *ℤ pos w *ℤ pos q *ℤ pos 2) (pos 16)
 
--- and not intra: with QF's sign, and 0 at 0
+-- and not intra, with -1 for a negative QF and 1 for any other
 abbrev pub signOf : ℤ → ℤ
 signOf z = cond (ltZ z (pos 0)) (negsuc 0) (pos 1)
-
--- its sign, and 0 at 0
-abbrev pub signum : ℤ → ℤ
-signum (pos zero) = pos 0
-signum (pos (suc n)) = pos 1
-signum (negsuc n) = negsuc 0
 
 abbrev pub method1Inter : ℤ → ℕ → ℕ → ℤ
 method1Inter qf w q = quotZ ((pos 2 *ℤ qf +ℤ signOf qf) *ℤ pos w *ℤ pos q) (pos 16)
 
+-- either is 0 where QF is
 abbrev pub method1 : Bool → ℤ → ℕ → ℕ → ℤ
 method1 intra qf w q = cond (eqb (natAbs qf) 0) (pos 0) (cond intra (method1Intra qf w q) (method1Inter qf w q))
 
@@ -51,7 +46,7 @@ method2 (negsuc a) q = negℤ (pos (magnitude2 (suc a) q))
 
 -- 7.4.4.4: limited to -2 ^ (bits per pixel + 3) .. 2 ^ (bits per pixel + 3) - 1
 abbrev pub limitedF : ℕ → ℤ → ℤ
-limitedF depth z = clampZ z (negℤ (pos (2 ^ (depth + 3)))) (pos (2 ^ (depth + 3)) -ℤ pos 1)
+limitedF depth z = clampZ z (lowest (depth + 3)) (highest (depth + 3))
 
 -- the place of an intra block's DC
 abbrev pub isDc : Bool → ℕ → ℕ → Bool

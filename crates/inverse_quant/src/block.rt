@@ -4,6 +4,8 @@ ghost use mathlib.Core.Bool.{true, false};
 ghost use Rattle.coefficients.specs.Refusal.{after};
 ghost use Rattle.coefficients.specs.Stages.{LevelsGood};
 ghost use Rattle.inverse_quant.specs.Dequantised.{fPrime1, fPrime2, dequantised1, dequantised2, answer1, answer2};
+ghost use Rattle.coefficients.specs.Outcomes.{stageOutcome};
+ghost use Rattle.inverse_quant.specs.Outcomes.{due1, due2};
 ghost use Rattle.inverse_quant.specs.Stages.{ContextGood};
 use crate::coefficient::dc_value;
 use crate::coefficient::value1;
@@ -69,7 +71,7 @@ fn method1_block(
         return Stage::Refused(CoefficientError::Context);
     }
     if !block_fine(qf) {
-        return Stage::Refused(CoefficientError::OutOfRange);
+        return Stage::Refused(CoefficientError::HandedIn);
     }
     let f = f_prime1(qf, w, ctx);
     if control {
@@ -88,6 +90,7 @@ pub fn inverse_quant_method1(
     out: &mut [[i32; 8]; 8],
 ) -> Stage
     ensures { λ r. ⌜ (r ≡ answer1 ctx w qf) × (now (out .exit) ≡ after (answer1 ctx w qf) (dequantised1 true ctx w qf) (now (out .entry))) ⌝ }
+    ensures outcome { λ r. ⌜ stageOutcome r ≡ due1 ctx w qf ⌝ }
 {
     method1_block(qf, w, ctx, true, out)
 }
@@ -100,6 +103,7 @@ pub fn inverse_quant_method1_no_mismatch(
     out: &mut [[i32; 8]; 8],
 ) -> Stage
     ensures { λ r. ⌜ (r ≡ answer1 ctx w qf) × (now (out .exit) ≡ after (answer1 ctx w qf) (dequantised1 false ctx w qf) (now (out .entry))) ⌝ }
+    ensures outcome { λ r. ⌜ stageOutcome r ≡ due1 ctx w qf ⌝ }
 {
     method1_block(qf, w, ctx, false, out)
 }
@@ -111,12 +115,13 @@ pub fn inverse_quant_method2(
     out: &mut [[i32; 8]; 8],
 ) -> Stage
     ensures { λ r. ⌜ (r ≡ answer2 ctx qf) × (now (out .exit) ≡ after (answer2 ctx qf) (dequantised2 ctx qf) (now (out .entry))) ⌝ }
+    ensures outcome { λ r. ⌜ stageOutcome r ≡ due2 ctx qf ⌝ }
 {
     if !context_fine(ctx) {
         return Stage::Refused(CoefficientError::Context);
     }
     if !block_fine(qf) {
-        return Stage::Refused(CoefficientError::OutOfRange);
+        return Stage::Refused(CoefficientError::HandedIn);
     }
     *out = f_prime2(qf, ctx);
     Stage::Done

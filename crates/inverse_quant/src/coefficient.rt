@@ -2,27 +2,36 @@
 ghost use mathlib.Core.Path.{_≡_};
 ghost use Prim.Native.Nat.{_≤_};
 ghost use lib.IntN.{natAbs};
-ghost use Rattle.inverse_quant.specs.Dequantised.{intraDc, signum, method1, method2, limitedF};
-ghost use Rattle.inverse_quant.specs.Stages.{intraDcAnswer, method1Answer, method2Answer, ContextGood};
+ghost use Rattle.inverse_quant.specs.Dequantised.{intraDc, limitedF, method1, method2};
+ghost use Rattle.coefficients.specs.Outcomes.{valueOutcome};
+ghost use Rattle.inverse_quant.specs.Outcomes.{intraDcDue, method1Due, method2Due};
+ghost use Rattle.inverse_quant.specs.Stages.{ContextGood, intraDcAnswer, method1Answer, method2Answer, signum};
 use crate::context::InverseQuantContext;
 use codes::DcComponent;
 use coefficients::CoefficientError;
+use coefficients::Scaler;
 use coefficients::Value;
+use ranges::Depth;
+use ranges::DepthLimits;
 
-// 7.4.4.1.1, of a level and a quantiser up to 511.
+// 7.4.4.1.1, of a level and a quantiser that is one: its scaler is never refused.
 fn intra_dc(
     qf00: i32,
     component: DcComponent,
     quantiser_scale: u32,
     short_video_header: bool,
 ) -> i32
-    requires { ⌜ (natAbs qf00 ≤ 2048) × («quantiser_scale» ≤ 511) ⌝ }
+    requires { ⌜ (natAbs qf00 ≤ 2048) × (1 ≤ «quantiser_scale») × («quantiser_scale» ≤ 31) ⌝ }
     ensures { λ r. ⌜ r ≡ intraDc qf00 component «quantiser_scale» «short_video_header» ⌝ }
 {
     if short_video_header {
         return qf00 * 8;
     }
-    qf00 * (coefficients::scaler_of(component, quantiser_scale) as i32)
+    let scaler = coefficients::dc_scaler(component, quantiser_scale);
+    match scaler {
+        Scaler::Refused(_) => 0,
+        Scaler::Is(n) => qf00 * (n as i32),
+    }
 }
 
 // 7.4.4.1.1: the DC of an intra block, before limiting; or 12 or 13.
@@ -33,12 +42,13 @@ pub fn inverse_quant_intra_dc(
     short_video_header: bool,
 ) -> Value
     ensures { λ r. ⌜ r ≡ intraDcAnswer qf00 component «quantiser_scale» «short_video_header» ⌝ }
+    ensures outcome { λ r. ⌜ valueOutcome r ≡ intraDcDue qf00 component «quantiser_scale» «short_video_header» ⌝ }
 {
     if !ranges::Quantiser::fine(quantiser_scale) {
         return Value::Refused(CoefficientError::Context);
     }
     if !ranges::Level::fine(qf00) {
-        return Value::Refused(CoefficientError::OutOfRange);
+        return Value::Refused(CoefficientError::HandedIn);
     }
     Value::Is(intra_dc(qf00, component, quantiser_scale, short_video_header))
 }
@@ -76,6 +86,7 @@ pub fn inverse_quant_method1_coef(
     macroblock_intra: bool,
 ) -> Value
     ensures { λ r. ⌜ r ≡ method1Answer qf w «quantiser_scale» «macroblock_intra» ⌝ }
+    ensures outcome { λ r. ⌜ valueOutcome r ≡ method1Due qf w «quantiser_scale» «macroblock_intra» ⌝ }
 {
     if !ranges::Quantiser::fine(quantiser_scale) {
         return Value::Refused(CoefficientError::Context);
@@ -84,7 +95,7 @@ pub fn inverse_quant_method1_coef(
         return Value::Refused(CoefficientError::Context);
     }
     if !ranges::Level::fine(qf) {
-        return Value::Refused(CoefficientError::OutOfRange);
+        return Value::Refused(CoefficientError::HandedIn);
     }
     Value::Is(method1_coef(qf, w, quantiser_scale, macroblock_intra))
 }
@@ -102,23 +113,27 @@ fn method2_coef(qf: i32, quantiser_scale: u32) -> i32
 // 7.4.4.2.1: one value by method 2, before limiting; or 12 or 13.
 pub fn inverse_quant_method2_coef(qf: i32, quantiser_scale: u32) -> Value
     ensures { λ r. ⌜ r ≡ method2Answer qf «quantiser_scale» ⌝ }
+    ensures outcome { λ r. ⌜ valueOutcome r ≡ method2Due qf «quantiser_scale» ⌝ }
 {
     if !ranges::Quantiser::fine(quantiser_scale) {
         return Value::Refused(CoefficientError::Context);
     }
     if !ranges::Level::fine(qf) {
-        return Value::Refused(CoefficientError::OutOfRange);
+        return Value::Refused(CoefficientError::HandedIn);
     }
     Value::Is(method2_coef(qf, quantiser_scale))
 }
 
-// 7.4.4.4: a value limited by the depth.
+// 7.4.4.4: a value limited by the depth, which is one.
 fn saturate_fprime(value: i32, bits_per_pixel: u32) -> i32
-    requires { ⌜ «bits_per_pixel» ≤ 12 ⌝ }
+    requires { ⌜ (4 ≤ «bits_per_pixel») × («bits_per_pixel» ≤ 12) ⌝ }
     ensures { λ r. ⌜ r ≡ limitedF «bits_per_pixel» value ⌝ }
 {
-    let top = 1i32 << (bits_per_pixel + 3);
-    numbers::clamp(value, -top, top - 1)
+    let limits = Depth::value_limits(bits_per_pixel);
+    match limits {
+        DepthLimits::OutOfRange => value,
+        DepthLimits::Are(lo, hi) => numbers::clamp(value, lo, hi),
+    }
 }
 
 // The DC of an intra block, limited.

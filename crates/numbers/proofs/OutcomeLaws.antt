@@ -1,5 +1,5 @@
--- Tests of the state by numbers. Assumes nothing.
-use mathlib.Core.Bool.{Bool, true, false, cond}
+-- Answers and tests of the state by numbers. Assumes nothing.
+use mathlib.Core.Bool.{Bool, cond, false, true, _&&_}
 use mathlib.Core.List.{List, [], _∷_}
 use mathlib.Core.Path.{_≡_, ap, refl, _∙_}
 use Prim.Native.Nat.{ℕ}
@@ -34,3 +34,21 @@ by-numbers told k r n f h (t ∷ ts) z = go (t .0) (by-numbers told k r n f h ts
 -- an answer that is a definition's, and so has its outcome
 pub both : {R O : Type 0} (told : R → O) {r a : R} {o : O} → r ≡ a → told a ≡ o → (r ≡ a) × (told r ≡ o)
 both told e h = (e, ap told e ∙ h)
+
+-- the same beside what lent memory holds
+pub also : {R O B : Type 0} (told : R → O) {r a : R} {o : O} → (r ≡ a) × B → told a ≡ o → ((r ≡ a) × B) × (told r ≡ o)
+also told e h = (e, ap told (e .0) ∙ h)
+
+-- one test, and two, under a map of answers
+pub one-test : {R A : Type 0} (told : R → Outcome A) (t : Bool) (x y : R) → told (cond t x y) ≡ cond t (told x) (told y)
+one-test told true x y = refl
+one-test told false x y = refl
+
+pub two-tests : {R A : Type 0} (told : R → Outcome A) (s t : Bool) (x y z : R) → told (cond s (cond t x y) z) ≡ cond s (cond t (told x) (told y)) (told z)
+two-tests told true t x y z = one-test told t x y
+two-tests told false t x y z = refl
+
+-- a test that is two in one
+pub three-tests : {R A : Type 0} (told : R → Outcome A) (s u t : Bool) (x y z : R) → told (cond (s && u) (cond t x y) z) ≡ cond s (cond u (cond t (told x) (told y)) (told z)) (told z)
+three-tests told true u t x y z = two-tests told u t x y z
+three-tests told false u t x y z = refl

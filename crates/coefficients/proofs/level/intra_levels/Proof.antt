@@ -9,6 +9,9 @@ use Rattle.coefficients.proofs.RefusalLaws.{places-good, predictors-goo
 use Rattle.coefficients.proofs.level.intra_levels.Statement.{statement}
 use Rattle.coefficients.specs.Level.{predictorsFine, placesFine}
 use Rattle.ranges.specs.Range.{quantiserFine}
+use Rattle.numbers.proofs.OutcomeLaws.{also}
+use Rattle.coefficients.specs.Outcomes.{stageOutcome}
+use Rattle.coefficients.proofs.OutcomeLaws.{levels-due}
 use Rattle.coefficients.proofs.level.intra_levels.Tie as tie
 
 -- the three tests that passed
@@ -25,20 +28,25 @@ fine-requires : tie.Need-fine-requires
 fine-requires c κs = search needs
 
 returns : tie.Need-returns
-returns c = rw (flag-refuses (c .before .fine .ensures) (c .if1 .taken)) (refl, refl)
+returns c =
+    let args = c .before .before .args in
+    also stageOutcome (rw (flag-refuses (c .before .fine .ensures) (c .if1 .taken)) (refl, refl)) (levels-due (args .quantiser-scale) (args .predictors) (args .qfs))
 
 predictors-fine-requires : tie.Need-predictors-fine-requires
 predictors-fine-requires c κs = search needs
 
 returns-2 : tie.Need-returns-2
-returns-2 c = rw (context-ok (c .before .before), flag-refuses (c .before .predictors-fine .ensures) (c .if2 .taken)) (refl, refl)
+returns-2 c =
+    let args = c .before .before .before .before .args in
+    also stageOutcome (rw (context-ok (c .before .before), flag-refuses (c .before .predictors-fine .ensures) (c .if2 .taken)) (refl, refl)) (levels-due (args .quantiser-scale) (args .predictors) (args .qfs))
 
 places-fine-requires : tie.Need-places-fine-requires
 places-fine-requires c κs = search needs
 
 returns-3 : tie.Need-returns-3
 returns-3 c =
-    rw (context-ok (c .before .before .before .before), predictors-ok (c .before .before), flag-refuses (c .before .places-fine .ensures) (c .if3 .taken)) (refl, refl)
+    let args = c .before .before .before .before .before .before .args in
+    also stageOutcome (rw (context-ok (c .before .before .before .before), predictors-ok (c .before .before), flag-refuses (c .before .places-fine .ensures) (c .if3 .taken)) (refl, refl)) (levels-due (args .quantiser-scale) (args .predictors) (args .qfs))
 
 levels-of-requires : tie.Need-levels-of-requires
 levels-of-requires c κs =
@@ -50,8 +58,9 @@ levels-of-requires c κs =
 
 returns-4 : tie.Need-returns-4
 returns-4 c =
-    rw (context-ok (c .before .before .before .before .before), predictors-ok (c .before .before .before), places-ok (c .before))
-    (refl, c .levels-of .ensures)
+    let args = c .before .before .before .before .before .before .before .args in
+    also stageOutcome (rw (context-ok (c .before .before .before .before .before), predictors-ok (c .before .before .before), places-ok (c .before))
+    (refl, c .levels-of .ensures)) (levels-due (args .quantiser-scale) (args .predictors) (args .qfs))
 
 pub intra-levels-spec : {M : Type 1} → statement M
 intra-levels-spec =

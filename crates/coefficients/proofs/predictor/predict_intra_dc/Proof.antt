@@ -9,6 +9,9 @@ use Rattle.coefficients.proofs.RangeLaws.{dc-abs, difference-abs}
 use Rattle.coefficients.proofs.predictor.predict_intra_dc.Statement.{statement}
 use Rattle.numbers.proofs.Expressions.{Sx, loc, _⊞_, fits, back}
 use Rattle.ranges.specs.Range.{differenceFine, dcFine}
+use Rattle.numbers.proofs.OutcomeLaws.{both}
+use Rattle.coefficients.specs.Outcomes.{valueOutcome}
+use Rattle.coefficients.proofs.OutcomeLaws.{dc-due}
 use Rattle.coefficients.proofs.predictor.predict_intra_dc.Tie as tie
 
 -- the three flags are the definition's tests
@@ -34,20 +37,25 @@ fine-requires : tie.Need-fine-requires
 fine-requires c κs = search needs
 
 returns : tie.Need-returns
-returns c = rw (flag-refuses (difference-is (c .before)) (c .if1 .taken))
+returns c =
+    let args = c .before .before .args in
+    both valueOutcome (rw (flag-refuses (difference-is (c .before)) (c .if1 .taken))) (dc-due (args .pqfx-dc) (args .direction) (args .fa-dc) (args .fc-dc) (args .dc-scaler-x))
 
 fine-requires-2 : tie.Need-fine-requires-2
 fine-requires-2 c κs = search needs
 
 returns-2 : tie.Need-returns-2
-returns-2 c = rw (difference-ok (c .before .before), flag-refuses (a-is (c .before)) (c .if2 .taken))
+returns-2 c =
+    let args = c .before .before .before .before .args in
+    both valueOutcome (rw (difference-ok (c .before .before), flag-refuses (a-is (c .before)) (c .if2 .taken))) (dc-due (args .pqfx-dc) (args .direction) (args .fa-dc) (args .fc-dc) (args .dc-scaler-x))
 
 fine-requires-3 : tie.Need-fine-requires-3
 fine-requires-3 c κs = search needs
 
 returns-3 : tie.Need-returns-3
 returns-3 c =
-    rw (difference-ok (c .before .before .before .before), a-ok (c .before .before), flag-refuses (c-is (c .before)) (c .if3 .taken))
+    let args = c .before .before .before .before .before .before .args in
+    both valueOutcome (rw (difference-ok (c .before .before .before .before), a-ok (c .before .before), flag-refuses (c-is (c .before)) (c .if3 .taken))) (dc-due (args .pqfx-dc) (args .direction) (args .fa-dc) (args .fc-dc) (args .dc-scaler-x))
 
 dc-prediction-requires : tie.Need-dc-prediction-requires
 dc-prediction-requires c κs =
@@ -66,9 +74,10 @@ add-t12 c = fits (sum c) tt
 
 returns-4 : tie.Need-returns-4
 returns-4 c =
-    let s = c .before .before .before .before .before .before .before in
+    let args = c .before .before .before .before .before .before .before .args in
+    both valueOutcome (let s = c .before .before .before .before .before .before .before in
     rw (difference-ok (c .before .before .before .before .before), a-ok (c .before .before .before), c-ok (c .before), back (sum c) tt, c .dc-prediction .ensures .0)
-    (simp (toZ-ofZ, s .fits .fa-dc, s .fits .fc-dc))
+    (simp (toZ-ofZ, s .fits .fa-dc, s .fits .fc-dc))) (dc-due (args .pqfx-dc) (args .direction) (args .fa-dc) (args .fc-dc) (args .dc-scaler-x))
 
 pub predict-intra-dc-spec : {M : Type 1} → statement M
 predict-intra-dc-spec =

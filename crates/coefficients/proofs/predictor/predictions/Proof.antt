@@ -50,7 +50,7 @@ direction-is c =
     c .direction-of .ensures ∙ (λ i. directionOf (reads-a t i) (reads-b t i) (reads-c t i))
 
 scaler-of-requires : tie.Need-scaler-of-requires Inv-loop μ-loop Inv-loop2 μ-loop2
-scaler-of-requires c κs = search needs
+scaler-of-requires c κs = omega arith
 
 dc-prediction-requires : tie.Need-dc-prediction-requires Inv-loop μ-loop Inv-loop2 μ-loop2
 dc-prediction-requires c κs =
@@ -69,9 +69,7 @@ dc-is : (c : tie.After-dc-prediction Inv-loop μ-loop Inv-loop2 μ-loop2) → dc
 dc-is c =
     let d = c .before .before .before .before in
     let t = d .before .before .before in
-    let q = start c .args .quantiser-scale in
-    let m : min q 511 ≡ q = omega arith in
-    let s = c .before .before .before .scaler-of .ensures .0 ∙ ap (dcScaler (start c .args .component)) m in
+    let s = c .before .before .before .scaler-of .ensures .0 in
     held (c .dc-prediction .result) (c .dc-prediction .ok)
     ∙ c .dc-prediction .ensures .0
     ∙ (λ i. dcPrediction (direction-is d i) (reads-a t i) (reads-c t i) (s i))

@@ -5,9 +5,6 @@ use borrow.Author.Tests.{le-leb, lt-leb}
 use Rattle.coefficients.proofs.predictor.scaler_of.Statement.{statement}
 use Rattle.coefficients.proofs.predictor.scaler_of.Tie as tie
 
-at-most-511-requires : tie.Need-at-most-511-requires
-at-most-511-requires c κs = search needs
-
 enum-told : tie.Need-enum-told
 enum-told c = search needs
 
@@ -34,49 +31,41 @@ sub-result-2 c = search needs
 
 returns : tie.Need-returns
 returns c =
-    let q = c .before .before .before .at-most-511 .ensures in
-    (rw (← q) (simp (c .before .enum-told .given .1, le-leb _ _ (c .if1 .taken))), omega arith)
+    (simp (c .before .enum-told .given .1, le-leb _ _ (c .if1 .taken)), omega arith)
 
 returns-2 : tie.Need-returns-2
 returns-2 c =
     let e = c .before .before in
-    let q = e .before .before .at-most-511 .ensures in
-    (rw (← q) (simp (e .enum-told .given .1, lt-leb _ _ (c .before .if1 .left), le-leb _ _ (c .if2 .taken))), omega arith)
+    (simp (e .enum-told .given .1, lt-leb _ _ (c .before .if1 .left), le-leb _ _ (c .if2 .taken)), omega arith)
 
 returns-3 : tie.Need-returns-3
 returns-3 c =
     let e = c .before .before .before in
-    let q = e .before .before .at-most-511 .ensures in
-    (rw (← q) (simp (e .enum-told .given .1, lt-leb _ _ (c .before .before .if1 .left), lt-leb _ _ (c .before .if2 .left), le-leb _ _ (c .if3 .taken))), omega arith)
+    (simp (e .enum-told .given .1, lt-leb _ _ (c .before .before .if1 .left), lt-leb _ _ (c .before .if2 .left), le-leb _ _ (c .if3 .taken)), omega arith)
 
 returns-4 : tie.Need-returns-4
 returns-4 c =
     let e = c .before .before .before in
-    let q = e .before .before .at-most-511 .ensures in
-    (rw (← q) (simp (e .enum-told .given .1, lt-leb _ _ (c .before .before .if1 .left), lt-leb _ _ (c .before .if2 .left), lt-leb _ _ (c .if3 .left))), omega arith)
+    (simp (e .enum-told .given .1, lt-leb _ _ (c .before .before .if1 .left), lt-leb _ _ (c .before .if2 .left), lt-leb _ _ (c .if3 .left)), omega arith)
 
 returns-5 : tie.Need-returns-5
 returns-5 c =
-    let q = c .before .before .before .at-most-511 .ensures in
-    (rw (← q) (simp (c .before .enum-told2 .given .1, le-leb _ _ (c .if4 .taken))), omega arith)
+    (simp (c .before .enum-told2 .given .1, le-leb _ _ (c .if4 .taken)), omega arith)
 
 returns-6 : tie.Need-returns-6
 returns-6 c =
     let e = c .before .before in
-    let q = e .before .before .at-most-511 .ensures in
-    (rw (← q) (simp (e .enum-told2 .given .1, lt-leb _ _ (c .before .if4 .left), le-leb _ _ (c .if5 .taken))), omega arith)
+    (simp (e .enum-told2 .given .1, lt-leb _ _ (c .before .if4 .left), le-leb _ _ (c .if5 .taken)), omega arith)
 
 returns-7 : tie.Need-returns-7
 returns-7 c =
     let e = c .before .before in
-    let q = e .before .before .at-most-511 .ensures in
-    (rw (← q) (simp (e .enum-told2 .given .1, lt-leb _ _ (c .before .if4 .left), lt-leb _ _ (c .if5 .left))), omega arith)
+    (simp (e .enum-told2 .given .1, lt-leb _ _ (c .before .if4 .left), lt-leb _ _ (c .if5 .left)), omega arith)
 
 pub scaler-of-spec : {M : Type 1} → statement M
 scaler-of-spec =
     tie.close
     (tie.spec
-    at-most-511-requires
     enum-told
     mul-result
     add-result

@@ -7,6 +7,9 @@ use Rattle.numbers.proofs.Tests.{flag-passes, flag-refuses}
 use Rattle.coefficients.proofs.RangeLaws.{dc-abs}
 use Rattle.coefficients.proofs.predictor.select_dc_direction.Statement.{statement}
 use Rattle.ranges.specs.Range.{dcFine}
+use Rattle.numbers.proofs.OutcomeLaws.{both}
+use Rattle.coefficients.specs.Outcomes.{directionOutcome}
+use Rattle.coefficients.proofs.OutcomeLaws.{direction-due}
 use Rattle.coefficients.proofs.predictor.select_dc_direction.Tie as tie
 
 -- the three flags are the definition's tests
@@ -32,19 +35,25 @@ fine-requires : tie.Need-fine-requires
 fine-requires c κs = search needs
 
 returns : tie.Need-returns
-returns c = rw (flag-refuses (a-is (c .before)) (c .if1 .taken))
+returns c =
+    let args = c .before .before .args in
+    both directionOutcome (rw (flag-refuses (a-is (c .before)) (c .if1 .taken))) (direction-due (args .fa) (args .fb) (args .fc))
 
 fine-requires-2 : tie.Need-fine-requires-2
 fine-requires-2 c κs = search needs
 
 returns-2 : tie.Need-returns-2
-returns-2 c = rw (a-ok (c .before .before), flag-refuses (b-is (c .before)) (c .if2 .taken))
+returns-2 c =
+    let args = c .before .before .before .before .args in
+    both directionOutcome (rw (a-ok (c .before .before), flag-refuses (b-is (c .before)) (c .if2 .taken))) (direction-due (args .fa) (args .fb) (args .fc))
 
 fine-requires-3 : tie.Need-fine-requires-3
 fine-requires-3 c κs = search needs
 
 returns-3 : tie.Need-returns-3
-returns-3 c = rw (a-ok (c .before .before .before .before), b-ok (c .before .before), flag-refuses (c-is (c .before)) (c .if3 .taken))
+returns-3 c =
+    let args = c .before .before .before .before .before .before .args in
+    both directionOutcome (rw (a-ok (c .before .before .before .before), b-ok (c .before .before), flag-refuses (c-is (c .before)) (c .if3 .taken))) (direction-due (args .fa) (args .fb) (args .fc))
 
 direction-of-requires : tie.Need-direction-of-requires
 direction-of-requires c κs =
@@ -54,9 +63,10 @@ direction-of-requires c κs =
 
 returns-4 : tie.Need-returns-4
 returns-4 c =
-    let s = c .before .before .before .before .before .before .before in
+    let args = c .before .before .before .before .before .before .before .args in
+    both directionOutcome (let s = c .before .before .before .before .before .before .before in
     rw (a-ok (c .before .before .before .before .before), b-ok (c .before .before .before), c-ok (c .before), c .direction-of .ensures)
-    (simp (toZ-ofZ, s .fits .fa, s .fits .fb, s .fits .fc))
+    (simp (toZ-ofZ, s .fits .fa, s .fits .fb, s .fits .fc))) (direction-due (args .fa) (args .fb) (args .fc))
 
 pub select-dc-direction-spec : {M : Type 1} → statement M
 select-dc-direction-spec =

@@ -3,7 +3,7 @@ use mathlib.Core.Bool.{true}
 use mathlib.Core.Path.{_≡_}
 use denote.Ref.{now}
 use borrow.Author.Needs.{needs}
-use Rattle.coefficients.specs.declared.refusal.CoefficientError.the-variants.{Context, OutOfRange}
+use Rattle.coefficients.specs.declared.refusal.CoefficientError.the-variants.{Context, HandedIn}
 use Rattle.coefficients.specs.Level.{blockFine}
 use Rattle.inverse_quant.specs.Dequantised.{answer2, contextFine, dequantised2}
 use Rattle.numbers.proofs.Tests.{flag-passes, flag-refuses}
@@ -11,6 +11,9 @@ use Rattle.coefficients.proofs.RefusalLaws.{block-good}
 use Rattle.inverse_quant.proofs.RefusalLaws.{context-good}
 use Rattle.inverse_quant.proofs.AnswerLaws.{done-writes, refused-keeps}
 use Rattle.inverse_quant.proofs.block.inverse_quant_method2.Statement.{statement}
+use Rattle.numbers.proofs.OutcomeLaws.{also}
+use Rattle.coefficients.specs.Outcomes.{stageOutcome}
+use Rattle.inverse_quant.proofs.OutcomeLaws.{due-2}
 use Rattle.inverse_quant.proofs.block.inverse_quant_method2.Tie as tie
 
 context : (c : tie.Else1) → contextFine (c .before .before .args .ctx) ≡ true
@@ -24,18 +27,20 @@ context-fine-requires c κs = search needs
 
 returns : tie.Need-returns
 returns c =
-    let s = c .before .before in
+    let args = c .before .before .args in
+    also stageOutcome (let s = c .before .before in
     refused-keeps (answer2 (s .args .ctx) (s .args .qf)) Context (dequantised2 (s .args .ctx) (s .args .qf)) (now (s .args .out))
-    (rw (flag-refuses (c .before .context-fine .ensures) (c .if1 .taken)))
+    (rw (flag-refuses (c .before .context-fine .ensures) (c .if1 .taken)))) (due-2 (args .ctx) (args .qf))
 
 block-fine-requires : tie.Need-block-fine-requires
 block-fine-requires c κs = search needs
 
 returns-2 : tie.Need-returns-2
 returns-2 c =
-    let s = c .before .before .before .before in
-    refused-keeps (answer2 (s .args .ctx) (s .args .qf)) OutOfRange (dequantised2 (s .args .ctx) (s .args .qf)) (now (s .args .out))
-    (rw (context (c .before .before), flag-refuses (c .before .block-fine .ensures) (c .if2 .taken)))
+    let args = c .before .before .before .before .args in
+    also stageOutcome (let s = c .before .before .before .before in
+    refused-keeps (answer2 (s .args .ctx) (s .args .qf)) HandedIn (dequantised2 (s .args .ctx) (s .args .qf)) (now (s .args .out))
+    (rw (context (c .before .before), flag-refuses (c .before .block-fine .ensures) (c .if2 .taken)))) (due-2 (args .ctx) (args .qf))
 
 f-prime2-requires : tie.Need-f-prime2-requires
 f-prime2-requires c κs =
@@ -45,10 +50,11 @@ f-prime2-requires c κs =
 returns-3 : tie.Need-returns-3
 unfolding dequantised2
 returns-3 c =
-    let e = c .before in
+    let args = c .before .before .before .before .before .args in
+    also stageOutcome (let e = c .before in
     let s = e .before .before .before .before in
     done-writes (answer2 (s .args .ctx) (s .args .qf)) (dequantised2 (s .args .ctx) (s .args .qf)) (now (s .args .out)) (c .f-prime2 .result)
-    (rw (context (e .before .before), levels e)) (c .f-prime2 .ensures)
+    (rw (context (e .before .before), levels e)) (c .f-prime2 .ensures)) (due-2 (args .ctx) (args .qf))
 
 pub inverse-quant-method2-spec : {M : Type 1} → statement M
 inverse-quant-method2-spec = tie.close (tie.spec context-fine-requires returns block-fine-requires returns-2 f-prime2-requires returns-3)

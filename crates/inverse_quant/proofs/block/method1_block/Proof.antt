@@ -5,7 +5,7 @@ use mathlib.Core.Path.{_≡_, ap, _∙_}
 use lib.IntN.{ℤ}
 use denote.Ref.{now}
 use borrow.Author.Needs.{needs}
-use Rattle.coefficients.specs.declared.refusal.CoefficientError.the-variants.{Context, OutOfRange}
+use Rattle.coefficients.specs.declared.refusal.CoefficientError.the-variants.{Context, HandedIn}
 use Rattle.coefficients.specs.declared.refusal.Stage.{Stage}
 use Rattle.coefficients.specs.declared.refusal.Stage.the-variants.{Done}
 use Rattle.numbers.specs.Every.{every}
@@ -65,7 +65,7 @@ returns-3 : tie.Need-returns-3
 returns-3 c =
     let m = c .before .before in
     let s = m .before .before .before .before in
-    refused-keeps (answer s) OutOfRange (new s) (old s)
+    refused-keeps (answer s) HandedIn (new s) (old s)
     (rw (context (m .before .before), matrix m, flag-refuses (c .before .block-fine .ensures) (c .if3 .taken)))
 
 -- the context and the levels, as ranges

@@ -12,6 +12,9 @@ use Rattle.numbers.proofs.Words.{held}
 use Rattle.numbers.proofs.Tests.{flag-passes, flag-refuses}
 use Rattle.coefficients.proofs.RangeLaws.{level-abs, quantiser-range}
 use Rattle.inverse_quant.proofs.coefficient.inverse_quant_intra_dc.Statement.{statement}
+use Rattle.numbers.proofs.OutcomeLaws.{both}
+use Rattle.coefficients.specs.Outcomes.{valueOutcome}
+use Rattle.inverse_quant.proofs.OutcomeLaws.{intra-dc-due}
 use Rattle.inverse_quant.proofs.coefficient.inverse_quant_intra_dc.Tie as tie
 
 -- the quantiser is one
@@ -29,26 +32,32 @@ fine-requires : tie.Need-fine-requires
 fine-requires c κs = search needs
 
 returns : tie.Need-returns
-returns c = rw (flag-refuses (c .before .fine .ensures) (c .if1 .taken))
+returns c =
+    let args = c .before .before .args in
+    both valueOutcome (rw (flag-refuses (c .before .fine .ensures) (c .if1 .taken))) (intra-dc-due (args .qf00) (args .component) (args .quantiser-scale) (args .short-video-header))
 
 fine-requires-2 : tie.Need-fine-requires-2
 fine-requires-2 c κs = search needs
 
 returns-2 : tie.Need-returns-2
-returns-2 c = rw (quantiser (c .before .before), flag-refuses (told (c .before)) (c .if2 .taken))
+returns-2 c =
+    let args = c .before .before .before .before .args in
+    both valueOutcome (rw (quantiser (c .before .before), flag-refuses (told (c .before)) (c .if2 .taken))) (intra-dc-due (args .qf00) (args .component) (args .quantiser-scale) (args .short-video-header))
 
 intra-dc-requires : tie.Need-intra-dc-requires
 intra-dc-requires c κs =
     let s = c .before .before .before .before in
-    (rw (toZ-ofZ (s .fits .qf00)) (level-abs (s .args .qf00) (fine c)), omega (arith, quantiser-range (s .args .quantiser-scale) (quantiser (c .before .before))))
+    let q = quantiser-range (s .args .quantiser-scale) (quantiser (c .before .before)) in
+    (rw (toZ-ofZ (s .fits .qf00)) (level-abs (s .args .qf00) (fine c)), q .0, q .1)
 
 returns-3 : tie.Need-returns-3
 returns-3 c =
-    let s = c .before .before .before .before .before in
+    let args = c .before .before .before .before .before .args in
+    both valueOutcome (let s = c .before .before .before .before .before in
     rw (quantiser (c .before .before .before), fine (c .before))
     (ap Is
     (held (c .intra-dc .result) (c .intra-dc .ok) ∙ c .intra-dc .ensures
-    ∙ ap (λ (z : ℤ). intraDc z (s .args .component) (s .args .quantiser-scale) (s .args .short-video-header)) (toZ-ofZ (s .fits .qf00))))
+    ∙ ap (λ (z : ℤ). intraDc z (s .args .component) (s .args .quantiser-scale) (s .args .short-video-header)) (toZ-ofZ (s .fits .qf00))))) (intra-dc-due (args .qf00) (args .component) (args .quantiser-scale) (args .short-video-header))
 
 pub inverse-quant-intra-dc-spec : {M : Type 1} → statement M
 inverse-quant-intra-dc-spec = tie.close (tie.spec fine-requires returns fine-requires-2 returns-2 intra-dc-requires returns-3)

@@ -14,6 +14,9 @@ use Rattle.numbers.proofs.Words.{held}
 use Rattle.numbers.proofs.Tests.{flag-passes, flag-refuses}
 use Rattle.coefficients.proofs.RangeLaws.{level-abs, quantiser-range}
 use Rattle.inverse_quant.proofs.coefficient.inverse_quant_method1_coef.Statement.{statement}
+use Rattle.numbers.proofs.OutcomeLaws.{both}
+use Rattle.coefficients.specs.Outcomes.{valueOutcome}
+use Rattle.inverse_quant.proofs.OutcomeLaws.{method1-due}
 use Rattle.inverse_quant.proofs.coefficient.inverse_quant_method1_coef.Tie as tie
 
 -- the quantiser is one
@@ -35,16 +38,22 @@ fine-requires : tie.Need-fine-requires
 fine-requires c κs = search needs
 
 returns : tie.Need-returns
-returns c = rw (flag-refuses (c .before .fine .ensures) (c .if1 .taken))
+returns c =
+    let args = c .before .before .args in
+    both valueOutcome (rw (flag-refuses (c .before .fine .ensures) (c .if1 .taken))) (method1-due (args .qf) (args .w) (args .quantiser-scale) (args .macroblock-intra))
 
 returns-2 : tie.Need-returns-2
-returns-2 c = rw (quantiser (c .before), c .if2 .taken)
+returns-2 c =
+    let args = c .before .before .before .args in
+    both valueOutcome (rw (quantiser (c .before), c .if2 .taken)) (method1-due (args .qf) (args .w) (args .quantiser-scale) (args .macroblock-intra))
 
 fine-requires-2 : tie.Need-fine-requires-2
 fine-requires-2 c κs = search needs
 
 returns-3 : tie.Need-returns-3
-returns-3 c = rw (quantiser (c .before .before .before), weight (c .before .before), flag-refuses (told (c .before)) (c .if3 .taken))
+returns-3 c =
+    let args = c .before .before .before .before .before .args in
+    both valueOutcome (rw (quantiser (c .before .before .before), weight (c .before .before), flag-refuses (told (c .before)) (c .if3 .taken))) (method1-due (args .qf) (args .w) (args .quantiser-scale) (args .macroblock-intra))
 
 method1-coef-requires : tie.Need-method1-coef-requires
 method1-coef-requires c κs =
@@ -53,11 +62,12 @@ method1-coef-requires c κs =
 
 returns-4 : tie.Need-returns-4
 returns-4 c =
-    let s = c .before .before .before .before .before .before in
+    let args = c .before .before .before .before .before .before .args in
+    both valueOutcome (let s = c .before .before .before .before .before .before in
     rw (quantiser (c .before .before .before .before), weight (c .before .before .before), fine (c .before))
     (ap Is
     (held (c .method1-coef .result) (c .method1-coef .ok) ∙ c .method1-coef .ensures
-    ∙ ap (λ (z : ℤ). method1 (s .args .macroblock-intra) z (s .args .w) (s .args .quantiser-scale)) (toZ-ofZ (s .fits .qf))))
+    ∙ ap (λ (z : ℤ). method1 (s .args .macroblock-intra) z (s .args .w) (s .args .quantiser-scale)) (toZ-ofZ (s .fits .qf))))) (method1-due (args .qf) (args .w) (args .quantiser-scale) (args .macroblock-intra))
 
 pub inverse-quant-method1-coef-spec : {M : Type 1} → statement M
 inverse-quant-method1-coef-spec = tie.close (tie.spec fine-requires returns returns-2 fine-requires-2 returns-3 method1-coef-requires returns-4)

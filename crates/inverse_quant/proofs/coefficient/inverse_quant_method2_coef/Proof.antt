@@ -12,6 +12,9 @@ use Rattle.numbers.proofs.Words.{held}
 use Rattle.numbers.proofs.Tests.{flag-passes, flag-refuses}
 use Rattle.coefficients.proofs.RangeLaws.{level-abs, quantiser-range}
 use Rattle.inverse_quant.proofs.coefficient.inverse_quant_method2_coef.Statement.{statement}
+use Rattle.numbers.proofs.OutcomeLaws.{both}
+use Rattle.coefficients.specs.Outcomes.{valueOutcome}
+use Rattle.inverse_quant.proofs.OutcomeLaws.{method2-due}
 use Rattle.inverse_quant.proofs.coefficient.inverse_quant_method2_coef.Tie as tie
 
 -- the quantiser is one
@@ -29,13 +32,17 @@ fine-requires : tie.Need-fine-requires
 fine-requires c κs = search needs
 
 returns : tie.Need-returns
-returns c = rw (flag-refuses (c .before .fine .ensures) (c .if1 .taken))
+returns c =
+    let args = c .before .before .args in
+    both valueOutcome (rw (flag-refuses (c .before .fine .ensures) (c .if1 .taken))) (method2-due (args .qf) (args .quantiser-scale))
 
 fine-requires-2 : tie.Need-fine-requires-2
 fine-requires-2 c κs = search needs
 
 returns-2 : tie.Need-returns-2
-returns-2 c = rw (quantiser (c .before .before), flag-refuses (told (c .before)) (c .if2 .taken))
+returns-2 c =
+    let args = c .before .before .before .before .args in
+    both valueOutcome (rw (quantiser (c .before .before), flag-refuses (told (c .before)) (c .if2 .taken))) (method2-due (args .qf) (args .quantiser-scale))
 
 method2-coef-requires : tie.Need-method2-coef-requires
 method2-coef-requires c κs =
@@ -44,11 +51,12 @@ method2-coef-requires c κs =
 
 returns-3 : tie.Need-returns-3
 returns-3 c =
-    let s = c .before .before .before .before .before in
+    let args = c .before .before .before .before .before .args in
+    both valueOutcome (let s = c .before .before .before .before .before in
     rw (quantiser (c .before .before .before), fine (c .before))
     (ap Is
     (held (c .method2-coef .result) (c .method2-coef .ok) ∙ c .method2-coef .ensures
-    ∙ ap (λ (z : ℤ). method2 z (s .args .quantiser-scale)) (toZ-ofZ (s .fits .qf))))
+    ∙ ap (λ (z : ℤ). method2 z (s .args .quantiser-scale)) (toZ-ofZ (s .fits .qf))))) (method2-due (args .qf) (args .quantiser-scale))
 
 pub inverse-quant-method2-coef-spec : {M : Type 1} → statement M
 inverse-quant-method2-coef-spec = tie.close (tie.spec fine-requires returns fine-requires-2 returns-2 method2-coef-requires returns-3)

@@ -7,7 +7,7 @@ use lib.Signed.{quotZ}
 use mir.Syntax.{w32}
 use borrow.Author.Needs.{needs}
 use Rattle.numbers.proofs.Expressions.{Sx, loc, lit, _⊞_, _⊠_, _⊘_, back, fits}
-use Rattle.inverse_quant.specs.Dequantised.{signum}
+use Rattle.inverse_quant.specs.Stages.{signum}
 use Rattle.inverse_quant.proofs.MethodLaws.{method1-inter, method1-intra}
 use Rattle.inverse_quant.proofs.coefficient.method1_coef.Statement.{statement}
 use Rattle.inverse_quant.proofs.coefficient.method1_coef.Tie as tie

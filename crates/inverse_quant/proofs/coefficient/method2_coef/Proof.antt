@@ -6,7 +6,7 @@ use lib.IntN.{ℤ, pos, _+ℤ_, _-ℤ_, _*ℤ_}
 use mir.Syntax.{w32}
 use borrow.Author.Needs.{needs}
 use Rattle.numbers.proofs.Expressions.{Sx, loc, lit, _⊞_, _⊟_, _⊠_, back, fits}
-use Rattle.inverse_quant.specs.Dequantised.{signum}
+use Rattle.inverse_quant.specs.Stages.{signum}
 use Rattle.inverse_quant.proofs.MethodLaws.{method2-is}
 use Rattle.inverse_quant.proofs.coefficient.method2_coef.Statement.{statement}
 use Rattle.inverse_quant.proofs.coefficient.method2_coef.Tie as tie

@@ -5,7 +5,7 @@ use lib.IntN.{pos}
 use mir.Syntax.{w32}
 use Rattle.numbers.proofs.Expressions.{Sx, any, lit, test-eq, test-lt, test-ne}
 use Rattle.numbers.proofs.Integers.{lt-false, lt-true}
-use Rattle.inverse_quant.specs.Dequantised.{signum}
+use Rattle.inverse_quant.specs.Stages.{signum}
 use Rattle.inverse_quant.proofs.MethodLaws.{sign-above, sign-below}
 use Rattle.inverse_quant.proofs.coefficient.sign_of.Statement.{statement}
 use Rattle.inverse_quant.proofs.coefficient.sign_of.Tie as tie
