@@ -1,9 +1,9 @@
--- What follows of the contracts: a refused call leaves no trace, a full picture is complete, and what the first macroblock has of one read alone. Assumes nothing.
+-- What follows of the contracts: a refused step leaves no trace, a full picture is complete and takes no more, and what the first macroblock has of one read alone. Assumes nothing.
 use mathlib.Core.Bool.{Bool, cond, false, true}
 use mathlib.Core.List.{List, [], _++_, _∷_}
 use mathlib.Core.Logic.{_⊎_, ⊎-elim}
 use mathlib.Core.Option.{none}
-use mathlib.Core.Path.{_≡_, ap, ap₂, refl, sym, _∙_}
+use mathlib.Core.Path.{_≡_, ap, ap₂, refl, subst⁻¹, sym, _∙_}
 use Prim.Native.Nat.{ℕ, _*_, _+_, _<_, _≤_}
 use native.Mathlib.Nat.{mod-eq-of-lt}
 use native.Mathlib.Omega.{arith}
@@ -25,25 +25,30 @@ use Rattle.block.specs.declared.error.BlockAssemblyError.{BlockAssemblyError}
 use Rattle.block.specs.declared.error.BlockAssemblyError.the-variants.{Complete, Context, OutOfRange, TooShort}
 use Rattle.block.specs.declared.error.Checked.{Checked}
 use Rattle.block.specs.declared.error.Checked.the-variants.{Bad, Fine}
-use Rattle.macroblock.specs.Answer.{keptBy, told}
+use Rattle.macroblock.specs.Answer.{keptBy, told as toldAlone}
 use Rattle.macroblock.specs.Header.{headerCheck}
 use Rattle.macroblock.specs.Six.{blockAt, valuesOfSix}
 use Rattle.macroblock.specs.declared.decode.MacroblockDecoded.{MacroblockDecoded}
 use Rattle.macroblock.specs.declared.decode.MacroblockDecoded.the-variants.{Decoded as AloneDecoded, Refused as AloneRefused}
 use Rattle.neighbours.specs.Neighbours.{Around, found, predictors}
 use Rattle.neighbours.specs.Record.{recordAt}
-use Rattle.picture.specs.Call.{Input, answerBy, answerOut, answerTold, aroundHere, contextHere, samplesOut, samplesTold, sentenceHere, stateHere, storeOut, storeTold}
-use Rattle.picture.specs.Picture.{pictureOf, onward}
+use Rattle.picture.specs.Call.{Input, answerBy, answerOut, answerTold, answerWith, aroundHere, contextHere, samplesOut, samplesTold, sentenceHere, stateHere, storeOut, storeTold}
+use Rattle.picture.specs.Picture.{onward, openOf, pictureOf}
 use Rattle.picture.specs.Ring.{aroundDue, offset}
 use Rattle.picture.specs.Serial.{recordUpTo, valuesInTurn}
 use Rattle.picture.specs.declared.call.PictureDecoded.{PictureDecoded}
 use Rattle.picture.specs.declared.call.PictureDecoded.the-variants.{Decoded, Refused}
 use Rattle.picture.specs.declared.picture.Picture.{Picture}
-use Rattle.history.proofs.Places.{longer}
-use Rattle.history.specs.History.{outcome, pictureAfter, run}
-use Rattle.history.specs.Ideal.{addedTo, idealState, idealTests, listAfter}
+use Rattle.picture.specs.declared.picture.PictureOpened.{PictureOpened}
+use Rattle.picture.specs.declared.picture.PictureOpened.the-variants.{Opened, Refused as Unopened}
+use Rattle.history.proofs.Longer.{longer}
+use Rattle.history.proofs.Runs.{history}
+use Rattle.history.specs.History.{State, next, pictureAfter, pictureOpened, told}
+use Rattle.history.specs.Ideal.{Ideal, addedTo, blankIdeal, ideal, idealNext, idealState, idealTests, idealTold, onwardFrom, pictureNow, reopened, samplesIdeal}
+use Rattle.history.specs.Remembered.{Remembered}
+use Rattle.history.specs.Step.{Step, Told, afterAll, decoded, macroblock, opened, opening, toldAll}
 
--- ---- a refused call leaves no trace
+-- ---- a refused step leaves no trace
 
 module _ (p : Picture) (x : Input) (s : List ℤ) {e : BlockAssemblyError} (q : answerOut p x s ≡ Refused e) where
   abbrev samplesRead : Res (List Parts) → List ℤ
@@ -66,38 +71,116 @@ module _ (p : Picture) (x : Input) (s : List ℤ) {e : BlockAssemblyError} (q : 
   unfolding answerOut storeOut
   store-kept = untouched (stateHere p x s) (sentenceHere p x) q .1
 
-  pub no-trace : (xs : List Input) → run p s (x ∷ xs) ≡ outcome p x s ∷ run p s xs
-  unfolding run
-  no-trace xs = ap₂ (λ (y : Picture) (t : List ℤ). outcome p x s ∷ run y t xs) (ap (pictureAfter p) q) store-kept
+-- told a number
+abbrev pub Refusal : Told → Type 0
+Refusal (opened (Opened p)) = ⊥
+Refusal (opened (Unopened e)) = Unit {0}
+Refusal (decoded (Decoded n c p) samples) = ⊥
+Refusal (decoded (Refused e) samples) = Unit {0}
 
--- ---- 15 after width times height
+module _ (s : State) where
+  same-opened : (o : PictureOpened) → Refusal (opened o) → pictureOpened (s .picture) o ≡ s .picture
+  same-opened (Opened p) k = absurd k
+  same-opened (Unopened e) k = refl
 
-module _ (w h depth : ℕ) (method : Bool) (mbs : List (List ℤ)) (x : Input) where
-  pub complete : w * h ≤ length mbs → inData (length (x .bytes)) (x .start) ≡ true → contextFine (contextHere (pictureOf w h depth method (length mbs)) x) (x .matrix) ≡ true → 384 ≤ length (x .samples)
-      → idealState w h depth method mbs x ≡ Bad Complete
+  same-decoded : (x : Input) (a : PictureDecoded) (t : List ℤ) → answerOut (s .picture) x (s .store) ≡ a → Refusal (decoded a t) → next s (macroblock x) ≡ s
+  same-decoded x (Decoded n c p) t e k = absurd k
+  same-decoded x (Refused n) t e k = λ i. record { picture = pictureAfter (s .picture) (e i); store = store-kept (s .picture) x (s .store) e i }
+
+  pub state-kept : (x : Step) → Refusal (told s x) → next s x ≡ s
+  state-kept (opening w h depth method) k = λ i. record { picture = same-opened (openOf w h depth method) k i; store = s .store }
+  state-kept (macroblock x) k = same-decoded x (answerOut (s .picture) x (s .store)) (samplesOut (s .picture) x (s .store)) refl k
+
+-- a run after a run
+told-on : (ys xs : List Step) (s : State) → toldAll told next s (ys ++ xs) ≡ toldAll told next s ys ++ toldAll told next (afterAll told next s ys) xs
+unfolding toldAll afterAll
+told-on [] xs s = refl
+told-on (y ∷ ys) xs s = ap (λ (ts : List Told). told s y ∷ ts) (told-on ys xs (next s y))
+
+after-on : (ys xs : List Step) (s : State) → afterAll told next s (ys ++ xs) ≡ afterAll told next (afterAll told next s ys) xs
+unfolding afterAll
+after-on [] xs s = refl
+after-on (y ∷ ys) xs s = after-on ys xs (next s y)
+
+-- with the refused step x in its midst a run tells the others what it tells them without, and leaves the same
+module _ (ys : List Step) (x : Step) (xs : List Step) (s : State) where
+  abbrev there : State
+  there = afterAll told next s ys
+
+  pub record NoTrace : Type 0 where
+    pub with-it : toldAll told next s (ys ++ (x ∷ xs)) ≡ toldAll told next s ys ++ (told there x ∷ toldAll told next there xs)
+    pub without : toldAll told next s (ys ++ xs) ≡ toldAll told next s ys ++ toldAll told next there xs
+    pub left : afterAll told next s (ys ++ (x ∷ xs)) ≡ afterAll told next s (ys ++ xs)
+
+  pub no-trace : Refusal (told there x) → NoTrace
+  unfolding toldAll afterAll
+  no-trace k =
+      let e = state-kept there x k in
+      record {
+        with-it = told-on ys (x ∷ xs) s ∙ ap (λ (t : State). toldAll told next s ys ++ (told there x ∷ toldAll told next t xs)) e;
+        without = told-on ys xs s;
+        left = after-on ys (x ∷ xs) s ∙ ap (λ (t : State). afterAll told next t xs) e ∙ sym (after-on ys xs s);
+      }
+
+-- ---- 15 from width times height on
+
+module _ (room : ℕ) (i : Ideal) (x : Input) (full : i .width * i .height ≤ length (i .accepted))
+    (a : inData (length (x .bytes)) (x .start) ≡ true) (b : contextFine (contextHere (pictureNow i) x) (x .matrix) ≡ true) (c : 384 ≤ length (x .samples)) (d : 192 * i .width ≤ room) where
+  complete-state : idealState room i x ≡ Bad Complete
   unfolding idealState
-  complete full a b c =
-      ap₂ (λ (s t : Bool). tests s t (leb 384 (length (x .samples))) (ltb (length mbs) (w * h))) a b
-      ∙ ap₂ (λ (s t : Bool). tests true true s t) (le-leb 384 (length (x .samples)) c) (le-ltb (length mbs) (w * h) full)
+  complete-state =
+      ap₂ (λ (s t : Bool). tests s t (leb 384 (length (x .samples))) (leb (192 * i .width) room) (ltb (length (i .accepted)) (i .width * i .height))) a b
+      ∙ ap₂ (λ (s t : Bool). tests true true s t (ltb (length (i .accepted)) (i .width * i .height))) (le-leb 384 (length (x .samples)) c) (le-leb (192 * i .width) room d)
+      ∙ ap (tests true true true true) (le-ltb (length (i .accepted)) (i .width * i .height) full)
     where
-      tests : Bool → Bool → Bool → Bool → Checked
-      tests s t u v = cond s (cond t (cond u (cond v (headerCheck (x .header)) (Bad Complete)) (Bad TooShort)) (Bad Context)) (Bad OutOfRange)
+      tests : Bool → Bool → Bool → Bool → Bool → Checked
+      tests s t u r v = cond s (cond t (cond u (cond r (cond v (headerCheck (x .header)) (Bad Complete)) (Bad TooShort)) (Bad TooShort)) (Bad Context)) (Bad OutOfRange)
 
-  -- never more
-  pub at-most : length mbs ≤ w * h → length (listAfter w h depth method mbs x) ≤ w * h
-  unfolding listAfter idealState
-  at-most l = go (idealState w h depth method mbs x) (sentenceHere (pictureOf w h depth method (length mbs)) x) due
+  pub complete : ideal room i x ≡ decoded (Refused Complete) (x .samples)
+  unfolding ideal
+  complete =
+      ap (λ (st : Checked). decoded (answerWith (pictureNow i) x st) (keptBy st (samplesIdeal room i x (sentenceHere (pictureNow i) x)) (x .samples))) complete-state
+
+-- ---- never more
+
+abbrev pub AtMost : Ideal → Type 0
+AtMost i = length (i .accepted) ≤ i .width * i .height
+
+module _ (room : ℕ) where
+  at-most-call : (i : Ideal) (x : Input) → AtMost i → AtMost (onwardFrom room i x)
+  unfolding onwardFrom idealState
+  at-most-call i x l = go (idealState room i x) (sentenceHere (pictureNow i) x) due
     where
-      due : idealState w h depth method mbs x ≡ Fine → length mbs < w * h
-      due e = ltb-true (length mbs) (w * h) (all-pass (idealTests w h depth method mbs x) e .1 .1 .1 .0)
+      due : idealState room i x ≡ Fine → length (i .accepted) < i .width * i .height
+      due e = ltb-true (length (i .accepted)) (i .width * i .height) (all-pass (idealTests room i x) e .1 .1 .1 .1 .0)
 
-      one-more : (r : List ℤ) → length mbs < w * h → length (mbs ++ (r ∷ [])) ≤ w * h
-      one-more r k = omega (arith, longer mbs r)
+      one-more : (m : Remembered) → length (i .accepted) < i .width * i .height → length (i .accepted ++ (m ∷ [])) ≤ i .width * i .height
+      one-more m k = omega (arith, longer (i .accepted) m)
 
-      go : (st : Checked) (y : Res (List Parts)) → (st ≡ Fine → length mbs < w * h) → length (addedTo w h depth method mbs x st y) ≤ w * h
+      go : (st : Checked) (y : Res (List Parts)) → (st ≡ Fine → length (i .accepted) < i .width * i .height) → length (addedTo room i x st y) ≤ i .width * i .height
       go (Bad e) y f = l
       go Fine (no e) f = l
       go Fine (ok t r) f = one-more _ (f refl)
+
+  at-most-opened : (i : Ideal) (w h depth : ℕ) (method : Bool) (o : PictureOpened) → AtMost i → AtMost (reopened i w h depth method o)
+  at-most-opened i w h depth method (Opened p) l = omega arith
+  at-most-opened i w h depth method (Unopened e) l = l
+
+  at-most-next : (i : Ideal) (x : Step) → AtMost i → AtMost (idealNext room i x)
+  at-most-next i (opening w h depth method) l = at-most-opened i w h depth method (openOf w h depth method) l
+  at-most-next i (macroblock x) l = at-most-call i x l
+
+  at-most-after : (xs : List Step) (i : Ideal) → AtMost i → AtMost (afterAll (idealTold room) (idealNext room) i xs)
+  unfolding afterAll
+  at-most-after [] i l = l
+  at-most-after (x ∷ xs) i l = at-most-after xs (idealNext room i x) (at-most-next i x l)
+
+-- after any run the picture has accepted at most width times height
+pub at-most : (w h depth : ℕ) (method : Bool) (p : Picture) → openOf w h depth method ≡ Opened p → (store : List ℤ) (xs : List Step)
+    → let q = afterAll told next (record { picture = p; store = store }) xs .picture in q .accepted ≤ q .width * q .height
+at-most w h depth method p e store xs =
+    subst⁻¹ (λ (q : Picture). q .accepted ≤ q .width * q .height) (history w h depth method p e store xs .picture)
+    (at-most-after (length store) xs (blankIdeal w h depth method) (omega arith))
 
 -- ---- the first macroblock, and one read alone with `BlockPredictors::outside`
 
@@ -121,7 +204,7 @@ abbrev pub withPicture : Picture → MacroblockDecoded → PictureDecoded
 withPicture p (AloneDecoded n c) = Decoded n c (onward p)
 withPicture p (AloneRefused e) = Refused e
 
-pub same-reading : (p : Picture) (d : List ℕ) (at : ℕ) (y : Res (List Parts)) → answerTold p d at y ≡ withPicture p (told d at y)
+pub same-reading : (p : Picture) (d : List ℕ) (at : ℕ) (y : Res (List Parts)) → answerTold p d at y ≡ withPicture p (toldAlone d at y)
 same-reading p d at (ok s r) = refl
 same-reading p d at (no e) = refl
 

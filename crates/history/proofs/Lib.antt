@@ -1,4 +1,7 @@
--- The promise on a picture's history, proved, and what follows of it.
+-- The promise on a run of openings and calls, proved, and what follows of it.
+pub mod Longer
+pub mod Blocks
 pub mod Places
+pub mod Calls
 pub mod Runs
 pub mod Consequences

@@ -1,34 +1,33 @@
--- What a call takes from the store is what stands in the list by column and row. Assumes nothing.
+-- What a call takes from the store agrees with what stands in the list by column and row. Assumes nothing.
 use mathlib.Core.Bool.{Bool, cond, false, true}
 use mathlib.Core.List.{List, [], _++_, _∷_}
 use mathlib.Core.Logic.{⊎-elim}
-use mathlib.Core.Option.{some}
-use mathlib.Core.Path.{_≡_, ap, refl, subst⁻¹, sym, _∙_}
+use mathlib.Core.Path.{_≡_, ap, refl, subst, subst⁻¹, sym, _∙_}
 use Prim.Native.Nat.{ℕ, _%_, _*_, _+_, _-_, _/_, _<_, _≤_}
 use native.Mathlib.Nat.{add-mul, div-add-mod', div-eq-of-lt, le-div-iff-mul-le, one-mul}
 use native.Mathlib.Omega.{arith}
 use lib.Dec.{leb, ltb}
 use lib.IntN.{ℤ}
-use lib.ListN.{List·getD-append, getD, length, length-append}
-use lib.Seq.{getD-append-seam}
+use lib.ListN.{getD, length}
 use borrow.Author.Tests.{le-leb, le-ltb, lt-leb, lt-ltb, ltb-true}
 use Rattle.numbers.proofs.Fill.{lt-or-le}
 use Rattle.neighbours.proofs.RecordLaws.{read-back}
-use Rattle.neighbours.proofs.SoundLaws.{AroundSound, Sound}
 use Rattle.neighbours.specs.Neighbours.{found}
 use Rattle.neighbours.specs.Record.{recordAt, storedAt}
 use Rattle.picture.proofs.RingLaws.{offset-is, ring-kept, slot, slot-in}
-use Rattle.picture.specs.Picture.{pictureOf}
 use Rattle.picture.specs.Ring.{aroundDue, offset}
-use Rattle.history.specs.Ideal.{aroundIn, cellOf}
+use Rattle.history.proofs.Blocks.{Agrees, Gives, Match}
+use Rattle.history.proofs.Longer.{before, last, longer}
+use Rattle.history.specs.Ideal.{Ideal, aroundIn, cellOf, pictureNow}
+use Rattle.history.specs.Remembered.{Remembered}
 
--- the last 2 w accepted macroblocks' records stand in the store
-abbrev pub Kept : ℕ → List ℤ → List (List ℤ) → Type 0
-Kept w s mbs = (j : ℕ) → j < length mbs → length mbs ≤ j + 2 * w → recordAt s (slot w j * 96) ≡ getD mbs j []
+-- what stands past the end of the list
+abbrev unknown : Remembered
+unknown = record { dcs = []; levels = []; quantiser = 0 }
 
--- all that were accepted are in range
-abbrev pub AllSound : List (List ℤ) → Type 0
-AllSound mbs = (j : ℕ) → j < length mbs → Sound (getD mbs j [])
+-- the records of the last 2 w accepted macroblocks stand in the store
+abbrev pub Kept : ℕ → List ℤ → List Remembered → Type 0
+Kept w s ms = (j : ℕ) → j < length ms → length ms ≤ j + 2 * w → Gives (recordAt s (slot w j * 96)) (getD ms j unknown)
 
 both-true : (a b : Bool) → cond a b false ≡ true → (a ≡ true) × (b ≡ true)
 both-true true b e = (refl, e)
@@ -69,89 +68,59 @@ module _ (w n : ℕ) (h : 1 ≤ w) where
       (λ (a : w ≤ n). le-leb w n a ∙ sym (lt-ltb 0 (n / w) (le-div-iff-mul-le {k = w} {x = 1} {y = n} h .1 (omega (arith, one-mul w)))))
       (lt-or-le n w)
 
-found-eq : {A : Type 0} (b b′ : Bool) (x y : A) → b ≡ b′ → (b ≡ true → x ≡ y) → found b x ≡ found b′ y
-found-eq b b′ x y e f = same b f ∙ ap (λ (t : Bool). found t y) e
-  where
-    same : (b : Bool) → (b ≡ true → x ≡ y) → found b x ≡ found b y
-    same true g = ap some (g refl)
-    same false g = refl
-
 -- ---- the store and the list agree
 
-module _ (w : ℕ) (s : List ℤ) (mbs : List (List ℤ)) (h : 1 ≤ w) (k : Kept w s mbs) where
-  look : (back : ℕ) → 1 ≤ back → back ≤ w + 1 → back ≤ length mbs → recordAt s (offset w (length mbs) back) ≡ getD mbs (length mbs - back) []
-  look back a b c = ap (recordAt s) (offset-is w (length mbs) back c) ∙ k (length mbs - back) (omega arith) (omega arith)
+found-match : (b b′ : Bool) (r : List ℤ) (m : Remembered) → b ≡ b′ → (b ≡ true → Gives r m) → Match (found b r) (found b′ m)
+found-match b b′ r m e f = subst (λ (t : Bool). Match (found b r) (found t m)) e (same b f)
+  where
+    same : (b : Bool) → (b ≡ true → Gives r m) → Match (found b r) (found b m)
+    same true g = g refl
+    same false g = tt
 
-  pub around-is : (height depth q : ℕ) (method : Bool) → aroundDue (pictureOf w height depth method (length mbs)) q s ≡ aroundIn w mbs
+module _ (i : Ideal) (s : List ℤ) (h : 1 ≤ i .width) (k : Kept (i .width) s (i .accepted)) where
+  abbrev w : ℕ
+  w = i .width
+
+  abbrev n : ℕ
+  n = length (i .accepted)
+
+  look : (back j : ℕ) → 1 ≤ back → back ≤ w + 1 → back ≤ n → j ≡ n - back → Gives (recordAt s (offset w n back)) (getD (i .accepted) j unknown)
+  look back j a b c e =
+      subst (λ (o : ℕ). Gives (recordAt s o) (getD (i .accepted) j unknown)) (ap (λ (t : ℕ). slot w t * 96) e ∙ sym (offset-is w n back c)) (k j (omega arith) (omega arith))
+
+  pub around-agrees : (q : ℕ) → Agrees (aroundDue (pictureNow i) q s) (aroundIn i)
   unfolding aroundDue
-  around-is height depth q method =
-      let n = length mbs in
-      let e₁ = found-eq (ltb 0 (n % w)) (ltb 0 (n % w)) (recordAt s (offset w n 1)) (cellOf w mbs (n % w - 1) (n / w)) refl
-      (λ (a : ltb 0 (n % w) ≡ true).
-      let p = ltb-true 0 (n % w) a in
-      look 1 (omega arith) (omega arith) (left-le w n h p) ∙ ap (λ (j : ℕ). getD mbs j []) (sym (left-is w n h p))) in
-      let e₂ = found-eq (cond (ltb 0 (n % w)) (leb w n) false) (cond (ltb 0 (n % w)) (ltb 0 (n / w)) false) (recordAt s (offset w n (w + 1))) (cellOf w mbs (n % w - 1) (n / w - 1))
-      (ap (λ (b : Bool). cond (ltb 0 (n % w)) b false) (below-is w n h))
-      (λ (a : cond (ltb 0 (n % w)) (leb w n) false ≡ true).
-      let p = both-true (ltb 0 (n % w)) (leb w n) a in
-      let x = ltb-true 0 (n % w) (p .0) in
-      let y = ltb-true 0 (n / w) (sym (below-is w n h) ∙ p .1) in
-      look (w + 1) (omega arith) (omega arith) (both-le w n h x y) ∙ ap (λ (j : ℕ). getD mbs j []) (sym (both-is w n h x y))) in
-      let e₃ = found-eq (leb w n) (ltb 0 (n / w)) (recordAt s (offset w n w)) (cellOf w mbs (n % w) (n / w - 1)) (below-is w n h)
-      (λ (a : leb w n ≡ true).
-      let y = ltb-true 0 (n / w) (sym (below-is w n h) ∙ a) in
-      look w h (omega arith) (above-le w n h y) ∙ ap (λ (j : ℕ). getD mbs j []) (sym (above-is w n h y))) in
-      λ i. record { left = e₁ i; aboveLeft = e₂ i; above = e₃ i }
-
--- ---- what is looked up is in range
-
-found-sound : (b : Bool) (x r : List ℤ) → (b ≡ true → Sound x) → found b x ≡ some r → Sound r
-found-sound true x r f e = let z : x ≡ r = cc in subst⁻¹ Sound (sym z) (f refl)
-found-sound false x r f e = absurd (let z : _≡_ {A = ℕ} 0 1 = cc in omega arith)
-
-pub around-sound : (w : ℕ) (mbs : List (List ℤ)) → 1 ≤ w → AllSound mbs → AroundSound (aroundIn w mbs)
-around-sound w mbs h g =
-    let n = length mbs in
-    record {
-      left = λ r e. found-sound (ltb 0 (n % w)) (cellOf w mbs (n % w - 1) (n / w)) r
-          (λ a. let p = ltb-true 0 (n % w) a in g (n / w * w + (n % w - 1)) (omega (arith, left-is w n h p, left-le w n h p))) e;
-      aboveLeft = λ r e. found-sound (cond (ltb 0 (n % w)) (ltb 0 (n / w)) false) (cellOf w mbs (n % w - 1) (n / w - 1)) r
-          (λ a.
-          let p = both-true (ltb 0 (n % w)) (ltb 0 (n / w)) a in
-          let x = ltb-true 0 (n % w) (p .0) in
-          let y = ltb-true 0 (n / w) (p .1) in
-          g ((n / w - 1) * w + (n % w - 1)) (omega (arith, both-is w n h x y, both-le w n h x y))) e;
-      above = λ r e. found-sound (ltb 0 (n / w)) (cellOf w mbs (n % w) (n / w - 1)) r
-          (λ a. let y = ltb-true 0 (n / w) a in g ((n / w - 1) * w + n % w) (omega (arith, above-is w n h y, above-le w n h y))) e;
-    }
+  around-agrees q =
+      record {
+        left = found-match (ltb 0 (n % w)) (ltb 0 (n % w)) (recordAt s (offset w n 1)) (cellOf i (n % w - 1) (n / w)) refl
+            (λ (a : ltb 0 (n % w) ≡ true).
+            let x = ltb-true 0 (n % w) a in
+            look 1 (n / w * w + (n % w - 1)) (omega arith) (omega arith) (left-le w n h x) (left-is w n h x));
+        aboveLeft = found-match (cond (ltb 0 (n % w)) (leb w n) false) (cond (ltb 0 (n % w)) (ltb 0 (n / w)) false) (recordAt s (offset w n (w + 1))) (cellOf i (n % w - 1) (n / w - 1))
+            (ap (λ (b : Bool). cond (ltb 0 (n % w)) b false) (below-is w n h))
+            (λ (a : cond (ltb 0 (n % w)) (leb w n) false ≡ true).
+            let p = both-true (ltb 0 (n % w)) (leb w n) a in
+            let x = ltb-true 0 (n % w) (p .0) in
+            let y = ltb-true 0 (n / w) (sym (below-is w n h) ∙ p .1) in
+            look (w + 1) ((n / w - 1) * w + (n % w - 1)) (omega arith) (omega arith) (both-le w n h x y) (both-is w n h x y));
+        above = found-match (leb w n) (ltb 0 (n / w)) (recordAt s (offset w n w)) (cellOf i (n % w) (n / w - 1)) (below-is w n h)
+            (λ (a : leb w n ≡ true).
+            let y = ltb-true 0 (n / w) (sym (below-is w n h) ∙ a) in
+            look w ((n / w - 1) * w + n % w) h (omega arith) (above-le w n h y) (above-is w n h y));
+      }
 
 -- ---- one more accepted
 
-module _ (mbs : List (List ℤ)) (r : List ℤ) where
-  pub longer : length (mbs ++ (r ∷ [])) ≡ length mbs + 1
-  longer = length-append mbs (r ∷ [])
-
-  before : (j : ℕ) → j < length mbs → getD (mbs ++ (r ∷ [])) j [] ≡ getD mbs j []
-  before j h = List·getD-append mbs (r ∷ []) [] j h
-
-  last : (j : ℕ) → j ≡ length mbs → getD (mbs ++ (r ∷ [])) j [] ≡ r
-  last j e = ap (λ (i : ℕ). getD (mbs ++ (r ∷ [])) i []) e ∙ getD-append-seam mbs r [] []
-
-  pub sound-more : AllSound mbs → Sound r → AllSound (mbs ++ (r ∷ []))
-  sound-more g f j p =
-      ⊎-elim
-      (λ (a : j < length mbs). subst⁻¹ Sound (before j a) (g j a))
-      (λ (a : length mbs ≤ j). let e : j ≡ length mbs = omega (arith, longer) in subst⁻¹ Sound (last j e) f)
-      (lt-or-le j (length mbs))
-
-  -- the record of macroblock n, written at its slot, keeps every record that is still needed
-  pub kept-more : (w : ℕ) (s : List ℤ) → 1 ≤ w → 192 * w ≤ length s → length r ≡ 91 → Kept w s mbs → Kept w (storedAt s (slot w (length mbs) * 96) r) (mbs ++ (r ∷ []))
-  kept-more w s h k l g j p q =
-      ⊎-elim
-      (λ (a : j < length mbs). ring-kept w j (length mbs) s r h k l a (omega (arith, longer)) ∙ g j a (omega (arith, longer)) ∙ sym (before j a))
-      (λ (a : length mbs ≤ j).
-      let e : j ≡ length mbs = omega (arith, longer) in
-      ap (λ (i : ℕ). recordAt (storedAt s (slot w (length mbs) * 96) r) (slot w i * 96)) e
-      ∙ read-back s (slot w (length mbs) * 96) r (omega (arith, slot-in w (length mbs) (length s) h k)) l
-      ∙ sym (last j e))
-      (lt-or-le j (length mbs))
+-- the record of macroblock n, written at its slot, keeps every record that is still needed
+pub kept-more : (ms : List Remembered) (m : Remembered) (r : List ℤ) → Gives r m
+    → (w : ℕ) (s : List ℤ) → 1 ≤ w → 192 * w ≤ length s → Kept w s ms → Kept w (storedAt s (slot w (length ms) * 96) r) (ms ++ (m ∷ []))
+kept-more ms m r f w s h k g j p q =
+    ⊎-elim
+    (λ (a : j < length ms).
+    subst⁻¹ (λ (t : List ℤ). Gives t (getD (ms ++ (m ∷ [])) j unknown)) (ring-kept w j (length ms) s r h k (f .sound .long) a (omega (arith, longer ms m)))
+    (subst⁻¹ (Gives (recordAt s (slot w j * 96))) (before ms m unknown j a) (g j a (omega (arith, longer ms m)))))
+    (λ (a : length ms ≤ j).
+    let e : j ≡ length ms = omega (arith, longer ms m) in
+    let t = ap (λ (i : ℕ). recordAt (storedAt s (slot w (length ms) * 96) r) (slot w i * 96)) e ∙ read-back s (slot w (length ms) * 96) r (omega (arith, slot-in w (length ms) (length s) h k)) (f .sound .long) in
+    subst⁻¹ (λ (t : List ℤ). Gives t (getD (ms ++ (m ∷ [])) j unknown)) t (subst⁻¹ (Gives r) (last ms m unknown j e) f))
+    (lt-or-le j (length ms))

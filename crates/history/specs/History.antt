@@ -1,34 +1,49 @@
--- A run of calls on a picture and its store, each as its contract says; and the promise on it. Definitions only.
+-- A run of openings and calls on a picture and one store, each as its contract says; and the promise on it. Definitions only.
 use mathlib.Core.Bool.{Bool}
-use mathlib.Core.List.{List, [], _∷_}
+use mathlib.Core.List.{List}
 use mathlib.Core.Path.{_≡_}
-use Prim.Native.Nat.{ℕ, _*_, _≤_}
+use Prim.Native.Nat.{ℕ}
 use lib.IntN.{ℤ}
 use lib.ListN.{length}
-use Rattle.picture.specs.Call.{Input, answerOut, samplesOut, storeOut}
+use Rattle.picture.specs.Call.{answerOut, samplesOut, storeOut}
 use Rattle.picture.specs.Picture.{openOf}
 use Rattle.picture.specs.declared.call.PictureDecoded.{PictureDecoded}
 use Rattle.picture.specs.declared.call.PictureDecoded.the-variants.{Decoded, Refused}
 use Rattle.picture.specs.declared.picture.Picture.{Picture}
-use Rattle.picture.specs.declared.picture.PictureOpened.the-variants.{Opened}
-use Rattle.history.specs.Ideal.{Outcome, runIdeal}
+use Rattle.picture.specs.declared.picture.PictureOpened.{PictureOpened}
+use Rattle.picture.specs.declared.picture.PictureOpened.the-variants.{Opened, Refused as Unopened}
+use Rattle.history.specs.Ideal.{Ideal, blankIdeal, idealNext, idealTold, pictureNow}
+use Rattle.history.specs.Step.{Step, Told, afterAll, decoded, macroblock, opened, opening, toldAll}
 
--- the picture handed back, or the one before a refused call
+-- the picture and the store, untouched between steps
+pub record State : Type 0 where
+  pub picture : Picture
+  pub store : List ℤ
+
+-- the picture handed back, or the one before a refusal
+abbrev pub pictureOpened : Picture → PictureOpened → Picture
+pictureOpened p (Opened q) = q
+pictureOpened p (Unopened e) = p
+
 abbrev pub pictureAfter : Picture → PictureDecoded → Picture
 pictureAfter p (Decoded n c q) = q
 pictureAfter p (Refused e) = p
 
-abbrev pub outcome : Picture → Input → List ℤ → Outcome
-outcome p x s = record { answer = answerOut p x s; samples = samplesOut p x s }
+abbrev pub told : State → Step → Told
+told s (opening w h depth method) = opened (openOf w h depth method)
+told s (macroblock x) = decoded (answerOut (s .picture) x (s .store)) (samplesOut (s .picture) x (s .store))
 
--- the store is untouched between calls
-unfoldable pub run : Picture → List ℤ → List Input → List Outcome
-run p s [] = []
-run p s (x ∷ xs) = outcome p x s ∷ run (pictureAfter p (answerOut p x s)) (storeOut p x s) xs
+abbrev pub next : State → Step → State
+next s (opening w h depth method) = record { picture = pictureOpened (s .picture) (openOf w h depth method); store = s .store }
+next s (macroblock x) = record { picture = pictureAfter (s .picture) (answerOut (s .picture) x (s .store)); store = storeOut (s .picture) x (s .store) }
 
--- from an opening, on any store that is long enough, whatever it holds, every call is told what the ideal picture is told
+-- every step is told what the ideal picture is told, and the picture after them is the ideal's
+pub record Same (s : State) (i : Ideal) (xs : List Step) : Type 0 where
+  pub answers : toldAll told next s xs ≡ toldAll (idealTold (length (s .store))) (idealNext (length (s .store))) i xs
+  pub picture : afterAll told next s xs .picture ≡ pictureNow (afterAll (idealTold (length (s .store))) (idealNext (length (s .store))) i xs)
+
+-- from an opening, on any store, whatever it holds and however long it is
 abbrev pub History : Type 0
 History =
     (w h depth : ℕ) (method : Bool) (p : Picture) → openOf w h depth method ≡ Opened p
-    → (s : List ℤ) → 192 * w ≤ length s
-    → (xs : List Input) → run p s xs ≡ runIdeal w h depth method [] xs
+    → (store : List ℤ) (xs : List Step) → Same (record { picture = p; store = store }) (blankIdeal w h depth method) xs

@@ -1,4 +1,4 @@
--- The ideal picture: the list of what was accepted, neighbours looked up in it by column and row. No store, and so neither refusal 13 nor a store that is too short. Definitions only.
+-- The ideal picture: the list of the macroblocks accepted since its opening, neighbours looked up in it by column and row. Of a store it knows the length alone, which 14 asks for; 13 cannot arise. Definitions only.
 use mathlib.Core.Bool.{Bool, cond, false}
 use mathlib.Core.List.{List, [], _++_, _∷_}
 use Prim.Native.Nat.{ℕ, _%_, _*_, _+_, _-_, _/_}
@@ -6,73 +6,109 @@ use lib.Dec.{leb, ltb}
 use lib.IntN.{ℤ}
 use lib.ListN.{getD, length}
 use Rattle.bits.specs.Cursor.{inData}
+use Rattle.samples.specs.Samples.{samplesAfter}
 use Rattle.texture.specs.Macroblock.{Parts}
 use Rattle.texture.specs.Reader.{Res, no, ok}
 use Rattle.block.specs.Answer.{firstBad}
+use Rattle.block.specs.Rows.{rowsOf}
 use Rattle.block.specs.Values.{contextFine}
 use Rattle.block.specs.declared.error.BlockAssemblyError.{BlockAssemblyError}
 use Rattle.block.specs.declared.error.BlockAssemblyError.the-variants.{Complete, Context, OutOfRange, TooShort}
 use Rattle.block.specs.declared.error.Checked.{Checked}
 use Rattle.block.specs.declared.error.Checked.the-variants.{Bad, Fine}
-use Rattle.macroblock.specs.Header.{headerTests}
-use Rattle.neighbours.specs.Neighbours.{Around, found}
-use Rattle.picture.specs.Call.{Input, answerWith, contextHere, recordHere, samplesWith, sentenceHere}
-use Rattle.picture.specs.Picture.{pictureOf}
-use Rattle.picture.specs.declared.call.PictureDecoded.{PictureDecoded}
+use Rattle.macroblock.specs.Answer.{keptBy}
+use Rattle.macroblock.specs.Header.{headerTests, patternBy}
+use Rattle.macroblock.specs.Six.{samplesOfSix}
+use Rattle.neighbours.specs.Neighbours.{found}
+use Rattle.picture.specs.Call.{Input, answerWith, contextHere, sentenceHere}
+use Rattle.picture.specs.Picture.{openOf, pictureOf}
 use Rattle.picture.specs.declared.picture.Picture.{Picture}
+use Rattle.picture.specs.declared.picture.PictureOpened.{PictureOpened}
+use Rattle.picture.specs.declared.picture.PictureOpened.the-variants.{Opened, Refused as Unopened}
+use Rattle.history.specs.Remembered.{Neighbourhood, Remembered, remembered, valuesOfAll}
+use Rattle.history.specs.Step.{Step, Told, decoded, macroblock, opened, opening}
 
--- what a call is told and what it finds in its samples
-pub record Outcome : Type 0 where
-  pub answer : PictureDecoded
-  pub samples : List ℤ
+-- size, depth and method as opened, and what was accepted since
+pub record Ideal : Type 0 where
+  pub width : ℕ
+  pub height : ℕ
+  pub depth : ℕ
+  pub method : Bool
+  pub accepted : List Remembered
+
+abbrev pub blankIdeal : ℕ → ℕ → ℕ → Bool → Ideal
+blankIdeal w h depth method = record { width = w; height = h; depth = depth; method = method; accepted = [] }
+
+-- the picture that it stands for
+abbrev pub pictureNow : Ideal → Picture
+pictureNow i = pictureOf (i .width) (i .height) (i .depth) (i .method) (length (i .accepted))
 
 -- the macroblock of a column and a row
-abbrev pub cellOf : ℕ → List (List ℤ) → ℕ → ℕ → List ℤ
-cellOf w mbs column row = getD mbs (row * w + column) []
+abbrev pub cellOf : Ideal → ℕ → ℕ → Remembered
+cellOf i column row = getD (i .accepted) (row * i .width + column) (record { dcs = []; levels = []; quantiser = 0 })
 
--- the three around the macroblock of a column and a row
-abbrev pub aroundAt : ℕ → List (List ℤ) → ℕ → ℕ → Around
-aroundAt w mbs column row =
+-- the three around the macroblock of a column and a row: missing only outside the picture
+abbrev pub aroundAt : Ideal → ℕ → ℕ → Neighbourhood
+aroundAt i column row =
     record {
-      left = found (ltb 0 column) (cellOf w mbs (column - 1) row);
-      aboveLeft = found (cond (ltb 0 column) (ltb 0 row) false) (cellOf w mbs (column - 1) (row - 1));
-      above = found (ltb 0 row) (cellOf w mbs column (row - 1));
+      left = found (ltb 0 column) (cellOf i (column - 1) row);
+      aboveLeft = found (cond (ltb 0 column) (ltb 0 row) false) (cellOf i (column - 1) (row - 1));
+      above = found (ltb 0 row) (cellOf i column (row - 1));
     }
 
--- the macroblock that is due
-abbrev pub aroundIn : ℕ → List (List ℤ) → Around
-aroundIn w mbs = aroundAt w mbs (length mbs % w) (length mbs / w)
+-- around the macroblock that is due
+abbrev pub aroundIn : Ideal → Neighbourhood
+aroundIn i = aroundAt i (length (i .accepted) % i .width) (length (i .accepted) / i .width)
 
-module _ (w h depth : ℕ) (method : Bool) (mbs : List (List ℤ)) (x : Input) where
-  abbrev pub pictureNow : Picture
-  pictureNow = pictureOf w h depth method (length mbs)
+-- ---- a call, on a store of `room` numbers
 
+module _ (room : ℕ) (i : Ideal) (x : Input) where
   -- 11, 12, 14, 15, 9, 10
   abbrev pub idealTests : List (Bool × BlockAssemblyError)
   idealTests =
       (inData (length (x .bytes)) (x .start), OutOfRange)
-      ∷ (contextFine (contextHere pictureNow x) (x .matrix), Context)
+      ∷ (contextFine (contextHere (pictureNow i) x) (x .matrix), Context)
       ∷ (leb 384 (length (x .samples)), TooShort)
-      ∷ (ltb (length mbs) (w * h), Complete)
+      ∷ (leb (192 * i .width) room, TooShort)
+      ∷ (ltb (length (i .accepted)) (i .width * i .height), Complete)
       ∷ headerTests (x .header)
 
   unfoldable pub idealState : Checked
   idealState = firstBad idealTests
 
-  -- one call
-  unfoldable pub ideal : Outcome
-  ideal = record { answer = answerWith pictureNow x idealState; samples = samplesWith pictureNow x idealState (aroundIn w mbs) }
+  -- the 64 places of each block of a sentence
+  abbrev pub rowsHere : List Parts → List (List ℤ)
+  rowsHere s = rowsOf (x .context .«use_intra_dc_vlc») (patternBy (x .header)) s
+
+  abbrev pub samplesIdeal : Res (List Parts) → List ℤ
+  samplesIdeal (ok s r) = samplesAfter (samplesOfSix (contextHere (pictureNow i) x) (valuesOfAll (contextHere (pictureNow i) x) (x .matrix) (aroundIn i) (rowsHere s))) (x .samples)
+  samplesIdeal (no e) = x .samples
+
+  -- what it is told, and what its samples hold
+  unfoldable pub ideal : Told
+  ideal = decoded (answerWith (pictureNow i) x idealState) (keptBy idealState (samplesIdeal (sentenceHere (pictureNow i) x)) (x .samples))
 
   -- what was accepted after it
-  abbrev pub addedTo : Checked → Res (List Parts) → List (List ℤ)
-  addedTo (Bad e) y = mbs
-  addedTo Fine (no e) = mbs
-  addedTo Fine (ok s r) = mbs ++ (recordHere (x .header) (x .context .«use_intra_dc_vlc») (contextHere pictureNow x) (x .matrix) (aroundIn w mbs) s ∷ [])
+  abbrev pub addedTo : Checked → Res (List Parts) → List Remembered
+  addedTo (Bad e) y = i .accepted
+  addedTo Fine (no e) = i .accepted
+  addedTo Fine (ok s r) = i .accepted ++ (remembered (contextHere (pictureNow i) x) (x .matrix) (aroundIn i) (rowsHere s) ∷ [])
 
-  unfoldable pub listAfter : List (List ℤ)
-  listAfter = addedTo idealState (sentenceHere pictureNow x)
+  unfoldable pub onwardFrom : Ideal
+  onwardFrom = record { width = i .width; height = i .height; depth = i .depth; method = i .method; accepted = addedTo idealState (sentenceHere (pictureNow i) x) }
 
--- a run of calls
-unfoldable pub runIdeal : ℕ → ℕ → ℕ → Bool → List (List ℤ) → List Input → List Outcome
-runIdeal w h depth method mbs [] = []
-runIdeal w h depth method mbs (x ∷ xs) = ideal w h depth method mbs x ∷ runIdeal w h depth method (listAfter w h depth method mbs x) xs
+-- ---- a step
+
+-- an accepted opening begins a picture anew; a refused one leaves the open picture
+abbrev pub reopened : Ideal → ℕ → ℕ → ℕ → Bool → PictureOpened → Ideal
+reopened i w h depth method (Opened p) = blankIdeal w h depth method
+reopened i w h depth method (Unopened e) = i
+
+module _ (room : ℕ) where
+  abbrev pub idealTold : Ideal → Step → Told
+  idealTold i (opening w h depth method) = opened (openOf w h depth method)
+  idealTold i (macroblock x) = ideal room i x
+
+  abbrev pub idealNext : Ideal → Step → Ideal
+  idealNext i (opening w h depth method) = reopened i w h depth method (openOf w h depth method)
+  idealNext i (macroblock x) = onwardFrom room i x

@@ -22,7 +22,7 @@ use Rattle.macroblock.specs.Answer.{keptBy, sentenceOf}
 use Rattle.macroblock.specs.Header.{patternBy}
 use Rattle.neighbours.proofs.RecordLaws.{read-back}
 use Rattle.neighbours.specs.Record.{knownOf, recordAt, storedAt}
-use Rattle.picture.proofs.RingLaws.{earlier-kept, slot-in}
+use Rattle.picture.proofs.RingLaws.{earlier-kept, offset-on, slot-in}
 use Rattle.picture.proofs.SerialLaws.{kept-is, turn-fine, up-sound}
 use Rattle.picture.proofs.StateLaws.{FirstFine, state-first}
 use Rattle.picture.specs.Call.{Input, answerBy, answerOut, answerTold, aroundHere, contextHere, recordHere, samplesOut, samplesTold, sentenceHere, stateHere, storeOut, storeTold, valuesHere}
@@ -94,18 +94,23 @@ module _ (p : Picture) (x : Input) (store : List ℤ) where
     unfolding sentenceOf
     stored-is s b = g ∙ ap storeRead (read-of (x .bytes) (x .start) dcCoded rev (patternBy (x .header)) s b)
 
-    own-is : (s : List Parts) → Begun p x store s → (i : ℕ) → i < 6 → knownOf (recordAt st (offset (p .width) (p .accepted) 0)) i ≡ kept p x store s i
-    own-is s b i l =
+    own-is : (s : List Parts) → Begun p x store s → (on : ℕ) → 1 ≤ on → on ≤ p .width + 1 → (i : ℕ) → i < 6
+        → knownOf (recordAt st (offset (p .width) (p .accepted + on) on)) i ≡ kept p x store s i
+    own-is s b on m n i l =
         let a = slot-in (p .width) (p .accepted + 2 * p .width - 0) (length store) (fine .size .w-low) (fine .long) in
-        ap (λ (y : List ℤ). knownOf (recordAt y (offset (p .width) (p .accepted) 0)) i) (stored-is s b)
+        ap (λ (k : ℕ). knownOf (recordAt st k) i) (offset-on (p .width) (p .accepted) on on 0 (omega arith))
+        ∙ ap (λ (y : List ℤ). knownOf (recordAt y (offset (p .width) (p .accepted) 0)) i) (stored-is s b)
         ∙ ap (λ (y : List ℤ). knownOf y i) (read-back store (offset (p .width) (p .accepted) 0) (record-of s) (omega arith) (long s))
         ∙ kept-is (contextHere p x) (x .matrix) (aroundHere p x store) (rowsOf dcCoded (patternBy (x .header)) s) (fine .context) i l
 
-    earlier-is : (s : List Parts) → Begun p x store s → (back : ℕ) → 1 ≤ back → back < 2 * p .width
-        → recordAt st (offset (p .width) (p .accepted) back) ≡ recordAt store (offset (p .width) (p .accepted) back)
-    earlier-is s b back l h =
-        ap (λ (y : List ℤ). recordAt y (offset (p .width) (p .accepted) back)) (stored-is s b)
-        ∙ earlier-kept (p .width) (p .accepted) back store (record-of s) (fine .size .w-low) (fine .long) (long s) l h
+    earlier-is : (s : List Parts) → Begun p x store s → (on back : ℕ) → 1 ≤ on → on < back → back ≤ p .width + 1
+        → recordAt st (offset (p .width) (p .accepted + on) back) ≡ recordAt store (offset (p .width) (p .accepted + on) back)
+    earlier-is s b on back m l h =
+        let e = offset-on (p .width) (p .accepted) on back (back - on) (omega arith) in
+        ap (recordAt st) e
+        ∙ ap (λ (y : List ℤ). recordAt y (offset (p .width) (p .accepted) (back - on))) (stored-is s b)
+        ∙ earlier-kept (p .width) (p .accepted) (back - on) store (record-of s) (fine .size .w-low) (fine .long) (long s) (omega arith) (let k = fine .size .w-low in omega arith)
+        ∙ sym (ap (recordAt store) e)
 
     promise : Promise p x store r out st
     promise = record {

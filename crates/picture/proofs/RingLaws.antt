@@ -22,6 +22,10 @@ offset-is w n back h =
     let e : n + 2 * w - back ≡ n - back + 2 * w = omega arith in
     ap (λ (k : ℕ). k % (2 * w) * 96) e ∙ ap (λ (k : ℕ). k * 96) (add-mod-right (n - back) (2 * w))
 
+-- a macroblock `on` further on that looks back `on + rest` looks where this one does that looks back `rest`
+pub offset-on : (w n on back rest : ℕ) → back ≡ on + rest → offset w (n + on) back ≡ offset w n rest
+offset-on w n on back rest h = let e : n + on + 2 * w - back ≡ n + 2 * w - rest = omega arith in ap (λ (k : ℕ). k % (2 * w) * 96) e
+
 pub slot-in : (w j n : ℕ) → 1 ≤ w → 192 * w ≤ n → slot w j * 96 + 96 ≤ n
 slot-in w j n h k = let m = mod-lt j {m = 2 * w} (omega arith) in omega arith
 

@@ -85,7 +85,7 @@ module _ (x : MacroblockTextureContext) (w : List (List ℕ)) (ar : Around) (row
 
     -- ---- what the record gives
 
-    up-quantiser : (i : ℕ) → i ≤ 6 → getD (upTo i) 90 (pos 0) ≡ pos q
+    pub up-quantiser : (i : ℕ) → i ≤ 6 → getD (upTo i) 90 (pos 0) ≡ pos q
     unfolding recordUpTo blank
     up-quantiser zero l = ap (λ (t : Bool). pos (cond t q 0)) (le-leb q 31 (quantiser-range q (quantiser-fine x w h) .1))
     up-quantiser (suc i) l = quantiser-at (upTo i) i _ _ (up-sound i (omega arith) .long) l ∙ up-quantiser i (omega arith)

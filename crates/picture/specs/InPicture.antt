@@ -1,7 +1,7 @@
 -- Demand 3 of a macroblock in a picture. Definitions only.
 use mathlib.Core.List.{List}
 use mathlib.Core.Path.{_≡_}
-use Prim.Native.Nat.{ℕ, _+_, _*_, _<_, _≤_}
+use Prim.Native.Nat.{ℕ, _+_, _<_, _≤_}
 use lib.IntN.{ℤ}
 use Rattle.bits.specs.Cursor.{cursorAt}
 use Rattle.texture.specs.Macroblock.{Parts}
@@ -39,11 +39,12 @@ module _ (p : Picture) (x : Input) (before : List ℤ) where
   pub record Promise (r : PictureDecoded) (samples store : List ℤ) : Type 0 where
     pub macroblock : Demand3 (x .bytes) (x .start) (x .context .«use_intra_dc_vlc») (x .context .«reversible_vlc») (patternBy (x .header)) (contextHere p x)
         (valuesHere (x .header) (x .context .«use_intra_dc_vlc») (contextHere p x) (x .matrix) (aroundHere p x before)) (Accepted r) (Told p (x .start) r) (x .samples) samples
-    -- the store then gives later macroblocks what was worked out here
-    pub own : (s : List Parts) → Begun s → (i : ℕ) → i < 6 → knownOf (recordAt store (offset (p .width) (p .accepted) 0)) i ≡ kept s i
-    -- and of the 2 w - 1 macroblocks before this one what it gave
-    pub earlier : (s : List Parts) → Begun s → (back : ℕ) → 1 ≤ back → back < 2 * p .width
-        → recordAt store (offset (p .width) (p .accepted) back) ≡ recordAt before (offset (p .width) (p .accepted) back)
+    -- each later macroblock that looks at this one, 1 to width + 1 further on, then finds in the store what was worked out here
+    pub own : (s : List Parts) → Begun s → (on : ℕ) → 1 ≤ on → on ≤ p .width + 1 → (i : ℕ) → i < 6
+        → knownOf (recordAt store (offset (p .width) (p .accepted + on) on)) i ≡ kept s i
+    -- and where it looks at a macroblock before this one, what stood there before the call
+    pub earlier : (s : List Parts) → Begun s → (on back : ℕ) → 1 ≤ on → on < back → back ≤ p .width + 1
+        → recordAt store (offset (p .width) (p .accepted + on) back) ≡ recordAt before (offset (p .width) (p .accepted + on) back)
 
   -- where none of 9 to 15 holds
   abbrev pub DemandInPicture : PictureDecoded → List ℤ → List ℤ → Type 0

@@ -8,7 +8,7 @@ use Rattle.neighbours.specs.Neighbours.{Around, aroundBy}
 use Rattle.neighbours.specs.declared.place.Place.{Place}
 use Rattle.picture.specs.declared.picture.Picture.{Picture}
 
--- where the record of the macroblock lies that came `back` before macroblock n
+-- where macroblock n looks for the record of the macroblock that came `back` before it
 abbrev pub offset : ℕ → ℕ → ℕ → ℕ
 offset w n back = (n + 2 * w - back) % (2 * w) * 96
 

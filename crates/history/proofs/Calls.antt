@@ -1,0 +1,183 @@
+-- A call on the picture and the store that an ideal picture stands for is told what the ideal is told, and leaves what the ideal then stands for. Assumes nothing.
+use mathlib.Core.Bool.{Bool, cond, false, true}
+use mathlib.Core.List.{List, [], _++_, _∷_}
+use mathlib.Core.Path.{_≡_, ap, ap₂, refl, subst, sym, _∙_}
+use Prim.Native.Nat.{ℕ, _*_, _-_, _≤_}
+use native.Mathlib.Omega.{arith}
+use lib.Dec.{leb, ltb}
+use lib.IntN.{ℤ}
+use lib.ListN.{length}
+use borrow.Author.Tests.{leb-true}
+use Rattle.bits.specs.Cursor.{inData}
+use Rattle.samples.specs.Samples.{samplesAfter}
+use Rattle.texture.specs.Macroblock.{Parts}
+use Rattle.texture.specs.Reader.{Res, no, ok}
+use Rattle.block.proofs.TestLaws.{all-pass}
+use Rattle.block.proofs.ValueLaws.{quantiser-fine}
+use Rattle.block.specs.Values.{contextFine}
+use Rattle.block.specs.declared.context.MacroblockTextureContext.{MacroblockTextureContext}
+use Rattle.block.specs.declared.error.BlockAssemblyError.the-variants.{Complete, Context, OutOfRange, Predictor, TooShort}
+use Rattle.block.specs.declared.error.Checked.{Checked}
+use Rattle.block.specs.declared.error.Checked.the-variants.{Bad, Fine}
+use Rattle.macroblock.specs.Answer.{keptBy}
+use Rattle.macroblock.specs.Header.{headerCheck}
+use Rattle.macroblock.specs.Six.{samplesOfSix}
+use Rattle.neighbours.proofs.RecordLaws.{stored-length}
+use Rattle.neighbours.proofs.SoundLaws.{around-fine, blank-sound}
+use Rattle.neighbours.specs.Neighbours.{Around, neighboursFine}
+use Rattle.neighbours.specs.Record.{blank, storedAt}
+use Rattle.picture.proofs.RingLaws.{offset-is, slot}
+use Rattle.picture.proofs.StateLaws.{sized}
+use Rattle.picture.specs.Call.{Input, answerBy, answerOut, answerTold, answerWith, aroundHere, contextHere, recordHere, samplesOut, samplesTold, samplesWith, sentenceHere, stateHere, storeOut, storeTold, storeWith}
+use Rattle.picture.specs.Picture.{onward, pictureOf, sizeFine}
+use Rattle.picture.specs.Ring.{offset}
+use Rattle.picture.specs.State.{stateBy}
+use Rattle.picture.specs.declared.call.PictureDecoded.{PictureDecoded}
+use Rattle.picture.specs.declared.picture.Picture.{Picture}
+use Rattle.history.proofs.Blocks.{Agrees, Gives, agrees-sound, record-gives, values-same}
+use Rattle.history.proofs.Longer.{longer}
+use Rattle.history.proofs.Places.{Kept, around-agrees, kept-more}
+use Rattle.history.specs.History.{State, next, pictureAfter, told}
+use Rattle.history.specs.Ideal.{Ideal, addedTo, aroundIn, ideal, idealState, idealTests, onwardFrom, pictureNow, rowsHere, samplesIdeal}
+use Rattle.history.specs.Remembered.{Remembered, remembered}
+use Rattle.history.specs.Step.{decoded, macroblock}
+
+-- a state and the ideal picture that it stands for, on a store of `room` numbers
+pub record Stands (room : ℕ) (s : State) (i : Ideal) : Type 0 where
+  pub picture : s .picture ≡ pictureNow i
+  pub size : sizeFine (i .width) (i .height) ≡ true
+  pub long : length (s .store) ≡ room
+  pub kept : 192 * i .width ≤ room → Kept (i .width) (s .store) (i .accepted)
+
+module _ (i : Ideal) (s : List ℤ) (size : sizeFine (i .width) (i .height) ≡ true) (kept : 192 * i .width ≤ length s → Kept (i .width) s (i .accepted)) (x : Input) where
+  abbrev p : Picture
+  p = pictureNow i
+
+  abbrev q : ℕ
+  q = x .context .«quantiser_scale»
+
+  abbrev n : ℕ
+  n = length (i .accepted)
+
+  abbrev context : MacroblockTextureContext
+  context = contextHere p x
+
+  abbrev ar : Around
+  ar = aroundHere p x s
+
+  wide : 1 ≤ i .width
+  wide = sized (i .width) (i .height) size .w-low
+
+  agrees : 192 * i .width ≤ length s → Agrees ar (aroundIn i)
+  agrees l = around-agrees i s wide (kept l) q
+
+  -- ---- the checks
+
+  -- refusal 13 does not arise
+  neighbours : contextFine context (x .matrix) ≡ true → leb (192 * i .width) (length s) ≡ true → neighboursFine (i .depth) q ar (blank q) ≡ true
+  neighbours c l =
+      let f = quantiser-fine context (x .matrix) c in
+      around-fine (i .depth) q ar (blank q) f (agrees-sound (agrees (leb-true (192 * i .width) (length s) l))) (blank-sound q f)
+
+  abbrev full : Bool → Bool → Bool → Bool → Bool → Bool → Bool → Checked
+  full a b c e f g t =
+      cond a (cond b (cond c (cond e (cond f (cond g (cond t (headerCheck (x .header)) (Bad Predictor)) (Bad Complete)) (Bad TooShort)) (Bad TooShort)) (Bad Context)) (Bad OutOfRange)) (Bad OutOfRange)
+
+  passes : (b c e f g t : Bool) → (c ≡ true → f ≡ true → t ≡ true) → full true b c e f g t ≡ full true b c e f g true
+  passes b true e true g t k = ap (full true b true e true g) (k refl refl)
+  passes b true e false g t k = refl
+  passes b false e f g t k = refl
+
+  state-is : stateHere p x s ≡ idealState (length s) i x
+  unfolding stateBy idealState
+  state-is =
+      let b = inData (length (x .bytes)) (x .start) in
+      let c = contextFine context (x .matrix) in
+      let e = leb 384 (length (x .samples)) in
+      let f = leb (192 * i .width) (length s) in
+      let g = ltb n (i .width * i .height) in
+      let t = neighboursFine (i .depth) q ar (blank q) in
+      ap (λ (a : Bool). full a b c e f g t) size ∙ passes b c e f g t neighbours
+
+  -- where all pass, what is taken of the store agrees with the list
+  record Passed : Type 0 where
+    fine : contextFine context (x .matrix) ≡ true
+    agree : Agrees ar (aroundIn i)
+
+  passed : idealState (length s) i x ≡ Fine → Passed
+  unfolding idealState
+  passed e =
+      let t = all-pass (idealTests (length s) i x) e in
+      record { fine = t .1 .0; agree = agrees (leb-true (192 * i .width) (length s) (t .1 .1 .1 .0)) }
+
+  -- ---- what it is told
+
+  abbrev samplesBy : Checked → Res (List Parts) → List ℤ
+  samplesBy st y = keptBy st (samplesTold (x .header) (x .context .«use_intra_dc_vlc») context (x .matrix) ar y (x .samples)) (x .samples)
+
+  samples-by : (st : Checked) (y : Res (List Parts)) → idealState (length s) i x ≡ st → samplesBy st y ≡ keptBy st (samplesIdeal (length s) i x y) (x .samples)
+  samples-by (Bad e) y f = refl
+  samples-by Fine (no e) f = refl
+  samples-by Fine (ok t r) f =
+      let g = passed f in
+      ap (λ (v : List (List (List ℤ))). samplesAfter (samplesOfSix context v) (x .samples)) (values-same context (x .matrix) ar (aroundIn i) (rowsHere (length s) i x t) (g .fine) (g .agree))
+
+  answer-is : answerOut p x s ≡ answerWith p x (idealState (length s) i x)
+  unfolding answerOut
+  answer-is = ap (answerWith p x) state-is
+
+  samples-is : samplesOut p x s ≡ keptBy (idealState (length s) i x) (samplesIdeal (length s) i x (sentenceHere p x)) (x .samples)
+  unfolding samplesOut
+  samples-is = ap (λ (st : Checked). samplesWith p x st ar) state-is ∙ samples-by (idealState (length s) i x) (sentenceHere p x) refl
+
+  pub told-is : told (record { picture = p; store = s }) (macroblock x) ≡ ideal (length s) i x
+  unfolding ideal
+  told-is = ap₂ decoded answer-is samples-is
+
+  -- ---- what it leaves
+
+  abbrev recorded : List Parts → List ℤ
+  recorded y = recordHere (x .header) (x .context .«use_intra_dc_vlc») context (x .matrix) ar y
+
+  -- the ideal picture with a list
+  abbrev withList : List Remembered → Ideal
+  withList ms = record { width = i .width; height = i .height; depth = i .depth; method = i .method; accepted = ms }
+
+  added : (t : List Parts) (m : Remembered) → Gives (recorded t) m
+      → Stands (length s) (record { picture = onward p; store = storedAt s (offset (i .width) n 0) (recorded t) }) (withList (i .accepted ++ (m ∷ [])))
+  added t m g =
+      let z : n - 0 ≡ n = omega arith in
+      let o : offset (i .width) n 0 ≡ slot (i .width) n * 96 = offset-is (i .width) n 0 (omega arith) ∙ ap (λ (j : ℕ). slot (i .width) j * 96) z in
+      record {
+        picture = ap (pictureOf (i .width) (i .height) (i .depth) (i .method)) (sym (longer (i .accepted) m));
+        size = size;
+        long = stored-length s (offset (i .width) n 0) (recorded t) (g .sound .long);
+        kept = λ l. subst (λ (k : ℕ). Kept (i .width) (storedAt s k (recorded t)) (i .accepted ++ (m ∷ []))) (sym o)
+            (kept-more (i .accepted) m (recorded t) g (i .width) s wide l (kept l));
+      }
+
+  stays : Stands (length s) (record { picture = p; store = s }) i
+  stays = record { picture = refl; size = size; long = refl; kept = kept }
+
+  abbrev storeBy : Checked → Res (List Parts) → List ℤ
+  storeBy st y = keptBy st (storeTold p (x .header) (x .context .«use_intra_dc_vlc») context (x .matrix) ar y s) s
+
+  by-state : (st : Checked) (y : Res (List Parts)) → idealState (length s) i x ≡ st
+      → Stands (length s) (record { picture = pictureAfter p (answerBy st (answerTold p (x .bytes) (x .start) y)); store = storeBy st y }) (withList (addedTo (length s) i x st y))
+  by-state (Bad e) y f = stays
+  by-state Fine (no e) f = stays
+  by-state Fine (ok t r) f =
+      let g = passed f in
+      added t (remembered context (x .matrix) (aroundIn i) (rowsHere (length s) i x t)) (record-gives context (x .matrix) ar (aroundIn i) (rowsHere (length s) i x t) (g .fine) (g .agree))
+
+  store-is : storeOut p x s ≡ storeWith p x (idealState (length s) i x) ar s
+  unfolding storeOut
+  store-is = ap (λ (st : Checked). storeWith p x st ar s) state-is
+
+  pub stands-on : Stands (length s) (next (record { picture = p; store = s }) (macroblock x)) (onwardFrom (length s) i x)
+  unfolding onwardFrom
+  stands-on =
+      let j = onwardFrom (length s) i x in
+      subst (λ (a : PictureDecoded). Stands (length s) (record { picture = pictureAfter p a; store = storeOut p x s }) j) (sym answer-is)
+      (subst (λ (t : List ℤ). Stands (length s) (record { picture = pictureAfter p (answerWith p x (idealState (length s) i x)); store = t }) j) (sym store-is)
+      (by-state (idealState (length s) i x) (sentenceHere p x) refl))
