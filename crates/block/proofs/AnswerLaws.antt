@@ -12,14 +12,15 @@ use Rattle.coefficients.proofs.BlockTests.{test-all}
 use Rattle.inverse_quant.proofs.LimitLaws.{Limited, dequantised1-limited, dequantised1-small, dequantised1-square, dequantised2-limited, dequantised2-small, dequantised2-square}
 use Rattle.inverse_quant.specs.Dequantised.{dequantised1, dequantised2}
 use Rattle.coefficients.specs.Level.{placesFine}
-use Rattle.idct.proofs.Refusals.{depth-least}
 use Rattle.idct.proofs.Refusals as Refusals
 use Rattle.idct.specs.Limits.{inBounds, valuesFine}
 use Rattle.numbers.specs.Grid.{cell}
+use Rattle.ranges.proofs.DepthLaws.{depth-most}
 use Rattle.ranges.specs.Range.{depthFine}
 use Rattle.texture.proofs.Sentences.{block-sentences}
 use Rattle.texture.specs.Answer.{after}
-use Rattle.texture.specs.Macroblock.{Parts, readBlock}
+use Rattle.texture.specs.Macroblock.{Parts}
+use Rattle.texture.specs.MacroblockReader.{readBlock}
 use Rattle.texture.specs.Reader.{Res, ok, no}
 use Rattle.texture.specs.declared.error.TextureParseError.{TextureParseError}
 use Rattle.texture.specs.declared.list.EventsRead.the-variants.{Read as EventsAre, Refused as EventsRefused}
@@ -92,7 +93,7 @@ module _ (c : DcComponent) (x : MacroblockTextureContext) (w : List (List ℕ)) 
   values-small h = go (x .«quant_type»)
     where
       most : d ≤ 12
-      most = let l = depth-least d h in omega arith
+      most = depth-most d h
 
       go : (t : Bool) → natAbs (cell (cond t (dequantised1 (not (x .«intra_mismatch_exempt»)) (quantOf c x) w qf) (dequantised2 (quantOf c x) qf)) 0 0) ≤ 32768
       go true = dequantised1-small (not (x .«intra_mismatch_exempt»)) (quantOf c x) w qf most 0 0

@@ -15,7 +15,8 @@ use Rattle.idct.specs.Exact.{Near, exact}
 use Rattle.idct.specs.Transform.{whole}
 use Rattle.texture.proofs.Sentences.{block-sentences}
 use Rattle.texture.specs.Event.{_▸_}
-use Rattle.texture.specs.Macroblock.{GoodBlock, Parts, blockBits, readBlock}
+use Rattle.texture.specs.Macroblock.{GoodBlock, Parts, blockBits}
+use Rattle.texture.specs.MacroblockReader.{readBlock}
 use Rattle.texture.specs.Reader.{Res, ok, no}
 use Rattle.block.proofs.AnswerLaws.{values-fine}
 use Rattle.block.proofs.ValueLaws.{depth-fine}

@@ -4,6 +4,8 @@ pub mod SampleLaws
 pub mod PlaceLaws
 pub mod ReadingLaws
 pub mod TestLaws
+pub mod RebuildLaws
+pub mod OutcomeLaws
 pub mod StateLaws
 pub mod AnswerLaws
 pub mod RowLaws

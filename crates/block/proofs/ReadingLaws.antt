@@ -19,11 +19,14 @@ use Rattle.texture.proofs.ChainLaws.{place-is}
 use Rattle.texture.proofs.DcLaws.{dc-reads}
 use Rattle.texture.proofs.Sentences.{dc-sentences}
 use Rattle.texture.proofs.StepLaws.{from-on}
-use Rattle.texture.specs.Answer.{Readable, after, dcAnswer, dcTold, dcValue, listAnswer, listTold, placesAfter, placesTold}
-use Rattle.texture.specs.Compose.{readOpt}
-use Rattle.texture.specs.Dc.{Dc, dc, dcBits, readDc}
+use Rattle.texture.specs.Answer.{after, dcAnswer, dcTold, dcValue, listAnswer, listTold, placesAfter, placesTold}
+use Rattle.texture.specs.Inside.{Readable}
+use Rattle.texture.specs.ComposeReader.{readOpt}
+use Rattle.texture.specs.Dc.{Dc, dc, dcBits}
+use Rattle.texture.specs.DcReader.{readDc}
 use Rattle.texture.specs.Event.{_▸_}
-use Rattle.texture.specs.Events.{Events, firstPlace, list}
+use Rattle.texture.specs.Events.{Events, firstPlace}
+use Rattle.texture.specs.EventsReader.{list}
 use Rattle.texture.specs.Macroblock.{Parts}
 use Rattle.texture.specs.Places.{zeros}
 use Rattle.texture.specs.Reader.{Res, ok, no, bind, mapped}

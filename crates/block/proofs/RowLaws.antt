@@ -19,7 +19,8 @@ use Rattle.texture.proofs.EachLaws.{each-holds, each-mapped}
 use Rattle.texture.proofs.Sentences.{block-sentences, macroblock-sentences}
 use Rattle.texture.proofs.StepLaws.{from-on}
 use Rattle.texture.specs.Answer.{after}
-use Rattle.texture.specs.Macroblock.{GoodBlock, GoodMacroblock, Parts, Place, macroblockBits, placesOfPattern, readBlock, readMacroblock}
+use Rattle.texture.specs.Macroblock.{GoodBlock, GoodMacroblock, Parts, Place, macroblockBits, placesOfPattern}
+use Rattle.texture.specs.MacroblockReader.{readBlock, readMacroblock}
 use Rattle.texture.specs.Reader.{Res, mapped, no, ok}
 use Rattle.texture.specs.Sentences.{Sentences}
 use Rattle.texture.specs.declared.error.TextureParseError.{TextureParseError}
@@ -29,7 +30,8 @@ use Rattle.texture.specs.declared.list.EventsRead.the-variants.{Read as EventsA
 use Rattle.block.proofs.AnswerLaws.{none, sentence}
 use Rattle.block.proofs.PlaceLaws.{good-places}
 use Rattle.block.specs.Reading.{partsAt}
-use Rattle.block.specs.Rows.{InsideRows, RowsSay, blocksAnswer, blocksTold, componentAt, readRow, readRows, rowOf, rowsAfter, rowsOf, rowsTold, saidRows}
+use Rattle.codes.specs.Component.{componentAt}
+use Rattle.block.specs.Rows.{InsideRows, RowsSay, blocksAnswer, blocksTold, readRow, readRows, rowOf, rowsAfter, rowsOf, rowsTold, saidRows}
 use Rattle.block.specs.declared.read.PlacesRead.{PlacesRead}
 
 -- block i of a pattern

@@ -14,7 +14,8 @@ use Rattle.coefficients.specs.Level.{predictorsFine}
 use Rattle.coefficients.specs.declared.predictor.BlockPredictors.{BlockPredictors}
 use Rattle.numbers.specs.Grid.{cell}
 use Rattle.texture.specs.Answer.{after}
-use Rattle.texture.specs.Macroblock.{Parts, readBlock}
+use Rattle.texture.specs.Macroblock.{Parts}
+use Rattle.texture.specs.MacroblockReader.{readBlock}
 use Rattle.texture.specs.Reader.{Res, ok, no}
 use Rattle.texture.specs.Refusal as T
 use Rattle.block.specs.Reading.{qfsOf}

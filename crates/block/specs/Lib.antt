@@ -3,5 +3,7 @@ pub mod Values
 pub mod Reading
 pub mod Rows
 pub mod Answer
+pub mod Rebuilt
+pub mod Outcomes
 pub mod Pattern
 pub mod Matrix

@@ -9,10 +9,12 @@ use Rattle.bits.specs.Bits.{bitsFrom}
 use Rattle.codes.specs.declared.dc_size.DcComponent.{DcComponent}
 use Rattle.codes.specs.declared.tcoef_tables.TcoefTable.the-variants.{Intra}
 use Rattle.texture.specs.Answer.{after}
-use Rattle.texture.specs.Compose.{readOpt}
+use Rattle.texture.specs.ComposeReader.{readOpt}
 use Rattle.texture.specs.Dc.{Dc, differenceOf}
-use Rattle.texture.specs.Events.{Events, firstPlace, list}
-use Rattle.texture.specs.Macroblock.{Parts, readBlock}
+use Rattle.texture.specs.Events.{Events, firstPlace}
+use Rattle.texture.specs.EventsReader.{list}
+use Rattle.texture.specs.Macroblock.{Parts}
+use Rattle.texture.specs.MacroblockReader.{readBlock}
 use Rattle.texture.specs.Places.{placesOf, zeros}
 use Rattle.texture.specs.Reader.{Res, ok, no}
 use Rattle.texture.specs.declared.error.TextureParseError.{TextureParseError}

@@ -3,25 +3,20 @@ use mathlib.Core.Bool.{Bool, cond}
 use mathlib.Core.List.{List}
 use mathlib.Core.Path.{_≡_}
 use Prim.Native.Nat.{ℕ, _*_, _≤_}
-use lib.Dec.{ltb}
 use lib.IntN.{ℤ}
 use lib.ListN.{length}
 use Rattle.bits.specs.Bits.{Bits, bitsFrom}
 use Rattle.bits.specs.Cursor.{inData}
-use Rattle.codes.specs.declared.dc_size.DcComponent.{DcComponent}
-use Rattle.codes.specs.declared.dc_size.DcComponent.the-variants.{Chrominance, Luminance}
 use Rattle.texture.specs.Answer.{after}
-use Rattle.texture.specs.Compose.{eachWith, readEach}
-use Rattle.texture.specs.Macroblock.{Parts, Place, placesOfPattern, readBlock, readMacroblock}
+use Rattle.texture.specs.Compose.{eachWith}
+use Rattle.texture.specs.ComposeReader.{readEach}
+use Rattle.texture.specs.Macroblock.{Parts, Place, placesOfPattern}
+use Rattle.texture.specs.MacroblockReader.{readBlock, readMacroblock}
 use Rattle.texture.specs.Reader.{Res, mapped, no, ok}
 use Rattle.texture.specs.declared.error.TextureParseError.the-variants.{OutOfRange}
 use Rattle.texture.specs.declared.list.EventsRead.{EventsRead}
 use Rattle.texture.specs.declared.list.EventsRead.the-variants.{Read as EventsAre, Refused as EventsRefused}
 use Rattle.block.specs.Reading.{qfsOf}
-
--- blocks 0 to 3 are luminance, 4 and 5 chrominance
-abbrev pub componentAt : ℕ → DcComponent
-componentAt i = cond (ltb i 4) Luminance Chrominance
 
 -- the places of the parts of a block
 abbrev pub rowOf : Bool → Place → Parts → List ℤ

@@ -1,21 +1,17 @@
 -- From the 64 places of a block to its levels, dequantised values and samples (7.4.2 to 7.4.5). Definitions only.
-use mathlib.Core.Bool.{Bool, true, false, cond, not, _&&_}
+use mathlib.Core.Bool.{Bool, cond, false, not, true, _&&_}
 use mathlib.Core.List.{List}
 use Prim.Native.Nat.{ℕ}
 use lib.IntN.{ℤ, pos}
-use lib.ListN.{replicate}
 use Rattle.numbers.specs.Every.{every}
 use Rattle.numbers.specs.Grid.{block}
 use Rattle.numbers.specs.Limit.{clampZ}
-use Rattle.ranges.specs.Range.{depthFine, quantiserFine}
+use Rattle.ranges.specs.Range.{depthFine, highest, quantiserFine}
 use Rattle.codes.specs.declared.dc_size.DcComponent.{DcComponent}
 use Rattle.inverse_quant.specs.declared.context.InverseQuantContext.{InverseQuantContext}
 use Rattle.coefficients.specs.declared.predictor.BlockPredictors.{BlockPredictors}
-use Rattle.inverse_quant.specs.Dequantised.{answer1, answer2, dequantised1, dequantised2, nonZero}
-use Rattle.coefficients.specs.Level.{levels, levelsAnswer}
-use Rattle.coefficients.specs.Refusal.{after}
-use Rattle.coefficients.specs.declared.refusal.Stage.{Stage}
-use Rattle.idct.specs.Limits.{highest, valuesFine}
+use Rattle.inverse_quant.specs.Dequantised.{dequantised1, dequantised2, nonZero}
+use Rattle.coefficients.specs.Level.{levels}
 use Rattle.idct.specs.Transform.{whole}
 use Rattle.block.specs.declared.context.MacroblockTextureContext.{MacroblockTextureContext}
 
@@ -41,23 +37,6 @@ valuesOf c x w qf = cond (x .«quant_type») (dequantised1 (not (x .«intra_mism
 -- the samples of the values: whole numbers limited to 0 .. 2 ^ depth - 1
 abbrev pub samplesOf : MacroblockTextureContext → List (List ℤ) → List (List ℤ)
 samplesOf x f = block (λ (y u : ℕ). clampZ (whole (x .«idct_rounding») f y u) (pos 0) (highest (x .«bits_per_pixel»)))
-
--- ---- what the stages leave in a fresh block, also where one refuses: zeros
-
-abbrev pub zeros8 : List (List ℤ)
-zeros8 = replicate 8 (replicate 8 (pos 0))
-
-unfoldable pub levelsLeft : DcComponent → MacroblockTextureContext → BlockPredictors → List ℤ → List (List ℤ)
-levelsLeft c x p qfs = after (levelsAnswer (x .«quantiser_scale») p qfs) (levelsOf c x p qfs) zeros8
-
-abbrev pub quantAnswer : DcComponent → MacroblockTextureContext → List (List ℕ) → List (List ℤ) → Stage
-quantAnswer c x w qf = cond (x .«quant_type») (answer1 (quantOf c x) w qf) (answer2 (quantOf c x) qf)
-
-unfoldable pub valuesLeft : DcComponent → MacroblockTextureContext → List (List ℕ) → List (List ℤ) → List (List ℤ)
-valuesLeft c x w qf = after (quantAnswer c x w qf) (valuesOf c x w qf) zeros8
-
-unfoldable pub samplesLeft : MacroblockTextureContext → List (List ℤ) → List (List ℤ)
-samplesLeft x f = cond (depthFine (x .«bits_per_pixel») && valuesFine (x .«bits_per_pixel») f) (samplesOf x f) zeros8
 
 -- what 12 asks of the context: a quantiser and a depth in range, and under method 1 no zero in the matrix
 abbrev pub contextFine : MacroblockTextureContext → List (List ℕ) → Bool

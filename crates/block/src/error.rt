@@ -1,6 +1,7 @@
 // Why a block, or a macroblock, is refused.
 ghost use mathlib.Core.Path.{_≡_};
 ghost use Rattle.block.specs.Answer.{checkOf, figureOf, numberOf};
+ghost use Rattle.block.specs.Outcomes.{checkDue, checkedOutcome};
 ghost use Rattle.block.specs.Values.{contextFine};
 use crate::context::MacroblockTextureContext;
 use bits::BitCount;
@@ -92,6 +93,7 @@ pub fn check(
     w: [[u8; 8]; 8],
 ) -> Checked
     ensures { λ r. ⌜ r ≡ checkOf (now («data» .entry)) (c .«bit_pos») ctx predictors w ⌝ }
+    ensures outcome { λ r. ⌜ checkedOutcome r ≡ checkDue (now («data» .entry)) (c .«bit_pos») ctx predictors w ⌝ }
 {
     let left = c.remaining_bits(data);
     match left {

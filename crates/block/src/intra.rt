@@ -3,13 +3,15 @@ ghost use mathlib.Core.Path.{_≡_};
 ghost use mathlib.Core.Bool.{true};
 ghost use Rattle.bits.specs.Bits.{bitsFrom};
 ghost use Rattle.coefficients.specs.Level.{predictorsFine};
-ghost use Rattle.texture.specs.Answer.{Readable};
-ghost use Rattle.texture.specs.Macroblock.{readBlock};
+ghost use Rattle.texture.specs.Inside.{Readable};
+ghost use Rattle.texture.specs.MacroblockReader.{readBlock};
 ghost use Rattle.block.specs.Answer.{blockAnswer, levelsAfter, levelsTold, samplesAfter, samplesTold, told};
+ghost use Rattle.block.specs.Outcomes.{blockDue, blockOutcome};
 ghost use Rattle.block.specs.Values.{contextFine};
 use crate::context::MacroblockTextureContext;
 use crate::error::BlockAssemblyError;
 use crate::error::Checked;
+use crate::reconstruct::BlockRebuilt;
 use bits::Cursor;
 use codes::BlockComponent;
 use codes::DcComponent;
@@ -47,12 +49,13 @@ fn decode_checked(
         EventsRead::Refused(e) => BlockDecoded::Refused(BlockAssemblyError::Texture(e)),
         EventsRead::Read(next) => {
             let places = one.qfs;
-            let levels = crate::reconstruct::levels_of(places, component, ctx, predictors);
-            let values = crate::reconstruct::values_of(levels, component, ctx, w);
-            let samples = crate::reconstruct::samples_of(values, ctx);
-            *spatial = samples;
-            *qf = levels;
-            BlockDecoded::Decoded(values[0][0], next)
+            let rebuilt = crate::reconstruct::rebuild(
+                component, places, ctx, predictors, w, spatial, qf,
+            );
+            match rebuilt {
+                BlockRebuilt::Refused(e) => BlockDecoded::Refused(e),
+                BlockRebuilt::Rebuilt(dc) => BlockDecoded::Decoded(dc, next),
+            }
         }
     }
 }
@@ -74,6 +77,7 @@ pub fn decode_intra_block_full(
     ensures { λ r. ⌜ r ≡ blockAnswer (now («data» .entry)) (c .«bit_pos») coded «use_intra_dc_vlc» «reversible_vlc» ctx predictors «quant_matrix» i ⌝ }
     ensures samples { λ r. ⌜ now (spatial .exit) ≡ samplesAfter (now («data» .entry)) (c .«bit_pos») coded «use_intra_dc_vlc» «reversible_vlc» ctx predictors «quant_matrix» i (now (spatial .entry)) ⌝ }
     ensures levels { λ r. ⌜ now (qf .exit) ≡ levelsAfter (now («data» .entry)) (c .«bit_pos») coded «use_intra_dc_vlc» «reversible_vlc» ctx predictors «quant_matrix» i (now (qf .entry)) ⌝ }
+    ensures outcome { λ r. ⌜ blockOutcome r ≡ blockDue (now («data» .entry)) (c .«bit_pos») ctx predictors «quant_matrix» i coded «use_intra_dc_vlc» «reversible_vlc» ⌝ }
 {
     let component = DcComponent::from_block_index(i);
     match component {

@@ -3,9 +3,12 @@ ghost use mathlib.Core.Path.{_≡_};
 ghost use mathlib.Core.Bool.{false, true};
 ghost use lib.ListN.{length};
 ghost use Rattle.bits.specs.Bits.{bitsFrom};
-ghost use Rattle.texture.specs.Answer.{Readable};
+ghost use Rattle.texture.specs.Inside.{Readable};
 ghost use Rattle.block.specs.Reading.{listAt, partsAt, refusedBy, withDifference};
-ghost use Rattle.block.specs.Rows.{RowsSay, blocksAnswer, componentAt, readRows, rowsAfter};
+ghost use Rattle.codes.specs.Component.{componentAt};
+ghost use Rattle.texture.specs.Outcomes.{listOutcome};
+ghost use Rattle.block.specs.Outcomes.{blocksDue};
+ghost use Rattle.block.specs.Rows.{RowsSay, blocksAnswer, readRows, rowsAfter};
 use bits::BitCount;
 use bits::Cursor;
 use codes::DcComponent;
@@ -94,7 +97,7 @@ pub(crate) fn read_block(
 }
 
 // The component of block i of six.
-pub fn component(i: usize) -> DcComponent
+fn component(i: usize) -> DcComponent
     ensures { λ r. ⌜ r ≡ componentAt i ⌝ }
 {
     if i < 4 {
@@ -144,6 +147,7 @@ pub fn read_blocks(
 ) -> EventsRead
     ensures { λ r. ⌜ r ≡ blocksAnswer (now («data» .entry)) (c .«bit_pos») pattern «use_intra_dc_vlc» «reversible_vlc» ⌝ }
     ensures rows { λ r. ⌜ now (rows .exit) ≡ rowsAfter (now («data» .entry)) (c .«bit_pos») pattern «use_intra_dc_vlc» «reversible_vlc» (now (rows .entry)) ⌝ }
+    ensures outcome { λ r. ⌜ listOutcome r ≡ blocksDue (now («data» .entry)) (c .«bit_pos») pattern «use_intra_dc_vlc» «reversible_vlc» ⌝ }
 {
     let left = c.remaining_bits(data);
     match left {

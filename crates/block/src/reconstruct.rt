@@ -1,40 +1,34 @@
-// From the 64 places of a block to its samples. A stage that refuses leaves zeros; where the state is
-// fine and the places are a sentence's, none does.
+// From the 64 places of a block to its levels and samples.
 ghost use mathlib.Core.Path.{_≡_};
 ghost use lib.IntN.{pos};
 ghost use Rattle.numbers.specs.Grid.{block, cell};
 ghost use Rattle.numbers.specs.Limit.{clampZ};
-ghost use Rattle.block.specs.Values.{levelsLeft, samplesLeft, valuesLeft};
+ghost use mathlib.Core.Bool.{true};
+ghost use Rattle.ranges.specs.Range.{depthFine};
+ghost use Rattle.coefficients.specs.Level.{blockFine};
+ghost use Rattle.idct.specs.Limits.{valuesFine};
+ghost use Rattle.block.specs.Answer.{firstBad};
+ghost use Rattle.block.specs.Rebuilt.{dcHere, handedTests, keptBy, levelsHere, rebuiltAnswer, rebuiltBy, rebuiltDue, rebuiltLevels, rebuiltOutcome, rebuiltSamples, valuesHere};
+ghost use Rattle.block.specs.Values.{contextFine, samplesOf, valuesOf};
 use crate::context::MacroblockTextureContext;
+use crate::error::BlockAssemblyError;
+use codes::BlockComponent;
 use codes::DcComponent;
 use coefficients::BlockPredictors;
+use coefficients::Stage;
 use inverse_quant::InverseQuantContext;
-
-// QF.
-pub fn levels_of(
-    qfs: [i32; 64],
-    component: DcComponent,
-    ctx: MacroblockTextureContext,
-    predictors: BlockPredictors,
-) -> [[i32; 8]; 8]
-    ensures { λ r. ⌜ r ≡ levelsLeft component ctx predictors qfs ⌝ }
-{
-    let mut qf = [[0i32; 8]; 8];
-    let q = ctx.quantiser_scale;
-    let ac_pred = ctx.ac_pred_flag;
-    let alternate = ctx.alternate_vertical_scan;
-    coefficients::intra_levels(qfs, component, q, ac_pred, alternate, predictors, &mut qf);
-    qf
-}
+use ranges::Depth;
+use ranges::DepthLimits;
 
 // F.
-pub fn values_of(
+fn values_of(
     qf: [[i32; 8]; 8],
     component: DcComponent,
     ctx: MacroblockTextureContext,
     w: [[u8; 8]; 8],
 ) -> [[i32; 8]; 8]
-    ensures { λ r. ⌜ r ≡ valuesLeft component ctx w qf ⌝ }
+    requires { ⌜ (contextFine ctx w ≡ true) × (blockFine qf ≡ true) ⌝ }
+    ensures { λ r. ⌜ r ≡ valuesOf component ctx w qf ⌝ }
 {
     let mut f = [[0i32; 8]; 8];
     let quant = InverseQuantContext {
@@ -69,14 +63,91 @@ fn clip_block(b: [[i32; 8]; 8], hi: i32) -> [[i32; 8]; 8]
     out
 }
 
-// The samples.
-pub fn samples_of(f: [[i32; 8]; 8], ctx: MacroblockTextureContext) -> [[i32; 8]; 8]
-    ensures { λ r. ⌜ r ≡ samplesLeft ctx f ⌝ }
+// The samples of values within the depth's limits.
+fn samples_of(f: [[i32; 8]; 8], ctx: MacroblockTextureContext) -> [[i32; 8]; 8]
+    requires { ⌜ (depthFine (ctx .«bits_per_pixel») ≡ true) × (valuesFine (ctx .«bits_per_pixel») f ≡ true) ⌝ }
+    ensures { λ r. ⌜ r ≡ samplesOf ctx f ⌝ }
 {
     let mut out = [[0i32; 8]; 8];
     let depth = ctx.bits_per_pixel;
     let rounding = ctx.idct_rounding;
     idct::idct_8x8_rounded(f, depth, rounding, &mut out);
-    let bounds = idct::idct_saturation_bounds(depth);
-    clip_block(out, bounds.hi)
+    let limits = Depth::saturation_limits(depth);
+    match limits {
+        DepthLimits::OutOfRange => out,
+        DepthLimits::Are(_, hi) => clip_block(out, hi),
+    }
+}
+
+// The dequantised DC of a block that was reconstructed, or a refusal.
+pub enum BlockRebuilt {
+    Rebuilt(i32),
+    Refused(BlockAssemblyError),
+}
+
+// Once the context is fine: levels into `qf`, samples into `spatial`; or 13, and both as they were.
+pub(crate) fn rebuild(
+    component: DcComponent,
+    qfs: [i32; 64],
+    ctx: MacroblockTextureContext,
+    predictors: BlockPredictors,
+    w: [[u8; 8]; 8],
+    spatial: &mut [[i32; 8]; 8],
+    qf: &mut [[i32; 8]; 8],
+) -> BlockRebuilt
+    requires { ⌜ contextFine ctx w ≡ true ⌝ }
+    ensures { λ r. ⌜ r ≡ rebuiltBy (firstBad (handedTests component ctx predictors w qfs)) (dcHere component ctx predictors w qfs) ⌝ }
+    ensures samples { λ r. ⌜ now (spatial .exit) ≡ keptBy (firstBad (handedTests component ctx predictors w qfs)) (samplesOf ctx (valuesHere component ctx predictors w qfs)) (now (spatial .entry)) ⌝ }
+    ensures levels { λ r. ⌜ now (qf .exit) ≡ keptBy (firstBad (handedTests component ctx predictors w qfs)) (levelsHere component ctx predictors w qfs) (now (qf .entry)) ⌝ }
+{
+    let mut levels = [[0i32; 8]; 8];
+    let q = ctx.quantiser_scale;
+    let ac_pred = ctx.ac_pred_flag;
+    let alternate = ctx.alternate_vertical_scan;
+    let stage = coefficients::intra_levels(
+        qfs,
+        component,
+        q,
+        ac_pred,
+        alternate,
+        predictors,
+        &mut levels,
+    );
+    match stage {
+        Stage::Refused(_) => BlockRebuilt::Refused(BlockAssemblyError::Predictor),
+        Stage::Done => {
+            let values = values_of(levels, component, ctx, w);
+            let samples = samples_of(values, ctx);
+            *spatial = samples;
+            *qf = levels;
+            BlockRebuilt::Rebuilt(values[0][0])
+        }
+    }
+}
+
+// Block `i` out of its 64 places: 11, 12, 13, or its samples, its levels and its dequantised DC.
+pub fn reconstruct_block(
+    i: usize,
+    qfs: [i32; 64],
+    ctx: MacroblockTextureContext,
+    predictors: BlockPredictors,
+    w: [[u8; 8]; 8],
+    spatial: &mut [[i32; 8]; 8],
+    qf: &mut [[i32; 8]; 8],
+) -> BlockRebuilt
+    ensures { λ r. ⌜ r ≡ rebuiltAnswer i ctx predictors w qfs ⌝ }
+    ensures samples { λ r. ⌜ now (spatial .exit) ≡ rebuiltSamples i ctx predictors w qfs (now (spatial .entry)) ⌝ }
+    ensures levels { λ r. ⌜ now (qf .exit) ≡ rebuiltLevels i ctx predictors w qfs (now (qf .entry)) ⌝ }
+    ensures outcome { λ r. ⌜ rebuiltOutcome r ≡ rebuiltDue i ctx predictors w qfs ⌝ }
+{
+    let component = DcComponent::from_block_index(i);
+    match component {
+        BlockComponent::OutOfRange => BlockRebuilt::Refused(BlockAssemblyError::OutOfRange),
+        BlockComponent::Component(m) => {
+            if !crate::error::context_fine(ctx, w) {
+                return BlockRebuilt::Refused(BlockAssemblyError::Context);
+            }
+            rebuild(m, qfs, ctx, predictors, w, spatial, qf)
+        }
+    }
 }

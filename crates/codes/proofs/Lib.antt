@@ -1,5 +1,6 @@
--- The laws of tables and of the search, and the tables' tests.
+-- The laws of tables and of the search, the tables' tests, and the component of a block by number.
 pub mod SearchLaws
 pub mod TableLaws
-pub mod Fair
+pub mod PrefixFree
 pub mod Maxima
+pub mod ComponentLaws

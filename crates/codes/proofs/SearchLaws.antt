@@ -8,7 +8,6 @@ use native.Mathlib.Numerals.{add-one}
 use native.Mathlib.Omega.{arith}
 use lib.Dec.{T}
 use Rattle.codes.specs.Table.{seek}
-use Rattle.numbers.proofs.Fill.{rows}
 use Rattle.numbers.proofs.Tests.{F-false, T-true}
 
 pub seek-hit : (f : ℕ → Bool) (n i : ℕ) → seek f n i < i + n → T (f (seek f n i))

@@ -1,4 +1,4 @@
--- A fair table: at most one row's code begins the bits, and `rowAt` finds it. Assumes nothing.
+-- A prefix-free table: at most one row's code begins the bits, and `rowAt` finds it. Assumes nothing.
 use mathlib.Core.Bool.{Bool, _&&_, false, not, true}
 use mathlib.Core.List.{List, [], _++_, _∷_, append-assoc}
 use mathlib.Core.Path.{_≡_, _∙_, ap, ap₂, refl, subst, sym}
@@ -6,7 +6,6 @@ use Prim.Native.Nat.{_+_, _-_, _/_, _<_, _^_, _≤_, suc, zero, zero-le, ℕ}
 use native.Mathlib.Nat.{le-of-suc-le-suc, not-suc-le-zero}
 use native.Mathlib.Omega.{arith}
 use lib.Dec.{T, T-not, eqb, eqb-refl, eqb→eq, leb, leb→le, le→leb, ltb, ltb→lt}
-use lib.Ieee.{eq}
 use lib.ListN.{drop, getD, length, length-append, length-drop, take, take-append-drop}
 use lib.Pow.{high, shr-shr}
 use lib.Seq.{length-take-le, take-append-add}
@@ -15,9 +14,7 @@ use borrow.Author.Tests.{ltb-false, ltb-true}
 use Rattle.bits.proofs.BitLaws.{bin-val, length-bin, val-append, val-bin, val-lt}
 use Rattle.bits.specs.Bits.{Bits, bin, val}
 use Rattle.codes.proofs.SearchLaws.{seek-hit, seek-none, seek-at}
-use Rattle.codes.specs.Table.{Found, hit, fair, agree, apartFrom, codeBits, fairRow, rowAt, rowIn}
-use Rattle.numbers.proofs.Expressions.{within}
-use Rattle.numbers.proofs.Fill.{rows}
+use Rattle.codes.specs.Table.{Found, hit, prefixFree, agree, apartFrom, codeBits, soundRow, rowAt, rowIn}
 use Rattle.numbers.proofs.Tests.{F-false, T-true, and-left, and-right}
 
 -- ---- a code at the front of a window
@@ -57,7 +54,7 @@ hit-short w n d m l = F-false (hit w n d m) (λ t. let h = leb→le m n (and-lef
 pub hit-other : (w n d m : ℕ) → (w / 2 ^ (n - m) ≡ d → ⊥) → hit w n d m ≡ false
 hit-other w n d m u = F-false (hit w n d m) (λ t. u (eqb→eq (w / 2 ^ (n - m)) d (and-right (leb m n) (eqb (w / 2 ^ (n - m)) d) t)))
 
--- ---- a fair table
+-- ---- a prefix-free table
 
 -- two codes at the front of one window agree
 both-hit : (w n c l d m : ℕ) → T (hit w n c l) → T (hit w n d m) → T (agree c l d m)
@@ -85,35 +82,35 @@ apart-at c l (d ∷ ds) [] t j h = absurd t
 apart-at c l (d ∷ ds) (m ∷ ms) t zero h = T-not (agree c l d m) (and-left (not (agree c l d m)) _ t)
 apart-at c l (d ∷ ds) (m ∷ ms) t (suc j) h = apart-at c l ds ms (and-right (not (agree c l d m)) _ t) j (le-of-suc-le-suc h)
 
-pub record FairRow (width c l : ℕ) : Type 0 where
+pub record SoundRow (width c l : ℕ) : Type 0 where
   pub pos : 0 < l
   pub fits : l ≤ width
   pub code : c < 2 ^ l
 
-pub fair-row : (width : ℕ) (cs ls : List ℕ) → T (fair width cs ls) → (i : ℕ) → i < length cs → FairRow width (getD cs i 0) (getD ls i 0)
-fair-row width [] ls t i h = absurd (not-suc-le-zero h)
-fair-row width (c ∷ cs) [] t i h = absurd t
-fair-row width (c ∷ cs) (l ∷ ls) t zero h =
-    let row = and-left (fairRow width c l) _ t in
+pub sound-row : (width : ℕ) (cs ls : List ℕ) → T (prefixFree width cs ls) → (i : ℕ) → i < length cs → SoundRow width (getD cs i 0) (getD ls i 0)
+sound-row width [] ls t i h = absurd (not-suc-le-zero h)
+sound-row width (c ∷ cs) [] t i h = absurd t
+sound-row width (c ∷ cs) (l ∷ ls) t zero h =
+    let row = and-left (soundRow width c l) _ t in
     let rest = and-right (ltb 0 l) _ row in
     record {
       pos = ltb→lt 0 l (and-left (ltb 0 l) _ row);
       fits = leb→le l width (and-left (leb l width) _ rest);
       code = ltb→lt c (2 ^ l) (and-right (leb l width) _ rest);
     }
-fair-row width (c ∷ cs) (l ∷ ls) t (suc i) h =
-    fair-row width cs ls (and-right (apartFrom c l cs ls) _ (and-right (fairRow width c l) _ t)) i (le-of-suc-le-suc h)
+sound-row width (c ∷ cs) (l ∷ ls) t (suc i) h =
+    sound-row width cs ls (and-right (apartFrom c l cs ls) _ (and-right (soundRow width c l) _ t)) i (le-of-suc-le-suc h)
 
 -- no two rows agree
-pub fair-apart : (width : ℕ) (cs ls : List ℕ) → T (fair width cs ls) → (i j : ℕ) → i < j → j < length cs
+pub prefix-free-apart : (width : ℕ) (cs ls : List ℕ) → T (prefixFree width cs ls) → (i j : ℕ) → i < j → j < length cs
     → T (agree (getD cs i 0) (getD ls i 0) (getD cs j 0) (getD ls j 0)) → ⊥
-fair-apart width [] ls t i j a h = absurd (not-suc-le-zero h)
-fair-apart width (c ∷ cs) [] t i j a h = absurd t
-fair-apart width (c ∷ cs) (l ∷ ls) t i zero a h = absurd (not-suc-le-zero a)
-fair-apart width (c ∷ cs) (l ∷ ls) t zero (suc j) a h =
-    apart-at c l cs ls (and-left (apartFrom c l cs ls) _ (and-right (fairRow width c l) _ t)) j (le-of-suc-le-suc h)
-fair-apart width (c ∷ cs) (l ∷ ls) t (suc i) (suc j) a h =
-    fair-apart width cs ls (and-right (apartFrom c l cs ls) _ (and-right (fairRow width c l) _ t)) i j
+prefix-free-apart width [] ls t i j a h = absurd (not-suc-le-zero h)
+prefix-free-apart width (c ∷ cs) [] t i j a h = absurd t
+prefix-free-apart width (c ∷ cs) (l ∷ ls) t i zero a h = absurd (not-suc-le-zero a)
+prefix-free-apart width (c ∷ cs) (l ∷ ls) t zero (suc j) a h =
+    apart-at c l cs ls (and-left (apartFrom c l cs ls) _ (and-right (soundRow width c l) _ t)) j (le-of-suc-le-suc h)
+prefix-free-apart width (c ∷ cs) (l ∷ ls) t (suc i) (suc j) a h =
+    prefix-free-apart width cs ls (and-right (apartFrom c l cs ls) _ (and-right (soundRow width c l) _ t)) i j
     (le-of-suc-le-suc a) (le-of-suc-le-suc h)
 
 -- the window of bits that begin with a code begins with it too
@@ -136,12 +133,12 @@ module _ (width : ℕ) (cs ls : List ℕ) where
       )
 
   -- the row whose code begins the bits is found
-  pub row-complete : T (fair width cs ls) → (rows : ℕ) → rows ≤ length cs → (i : ℕ) → i < rows → (r : Bits)
+  pub row-complete : T (prefixFree width cs ls) → (rows : ℕ) → rows ≤ length cs → (i : ℕ) → i < rows → (r : Bits)
       → rowAt cs ls width rows (codeBits cs ls i ++ r) ≡ i
   row-complete ok rows within i h r =
       let c = getD cs i 0 in
       let l = getD ls i 0 in
-      let row = fair-row width cs ls ok i (omega arith) in
+      let row = sound-row width cs ls ok i (omega arith) in
       let b : Bits = codeBits cs ls i ++ r in
       let u : Bits = take width b in
       let f : ℕ → Bool = λ j. hit (val u) (length u) (getD cs j 0) (getD ls j 0) in
@@ -149,16 +146,16 @@ module _ (width : ℕ) (cs ls : List ℕ) where
       let t : T (f i) =
       subst (λ (x : Bits). T (hit (val x) (length x) c l)) (sym e) (hit-complete c l (take (width - length (bin l c)) r) (row .code)) in
       seek-at f rows 0 i zero-le (omega arith) t
-      (λ j a q. fair-apart width cs ls ok j i a (omega arith) (both-hit (val u) (length u) (getD cs j 0) (getD ls j 0) c l q t))
+      (λ j a q. prefix-free-apart width cs ls ok j i a (omega arith) (both-hit (val u) (length u) (getD cs j 0) (getD ls j 0) c l q t))
 
 -- ---- what a faster search has to show
 
-module _ (width : ℕ) (cs ls : List ℕ) (ok : T (fair width cs ls)) (rows : ℕ) (within : rows ≤ length cs) (w n : ℕ) where
+module _ (width : ℕ) (cs ls : List ℕ) (ok : T (prefixFree width cs ls)) (rows : ℕ) (within : rows ≤ length cs) (w n : ℕ) where
   -- a row that begins the window, however it was found, is the row
   pub row-by-hit : (k : ℕ) → k < rows → T (hit w n (getD cs k 0) (getD ls k 0)) → rowIn cs ls rows w n ≡ k
   row-by-hit k h t =
       seek-at (λ j. hit w n (getD cs j 0) (getD ls j 0)) rows 0 k zero-le (omega arith) t
-      (λ j a q. fair-apart width cs ls ok j k a (omega arith) (both-hit w n (getD cs j 0) (getD ls j 0) (getD cs k 0) (getD ls k 0) q t))
+      (λ j a q. prefix-free-apart width cs ls ok j k a (omega arith) (both-hit w n (getD cs j 0) (getD ls j 0) (getD cs k 0) (getD ls k 0) q t))
 
   -- no row begins the window
   pub row-by-none : ((j : ℕ) → j < rows → T (hit w n (getD cs j 0) (getD ls j 0)) → ⊥) → rowIn cs ls rows w n ≡ rows
@@ -172,20 +169,20 @@ module _ (width : ℕ) (cs ls : List ℕ) (ok : T (fair width cs ls)) (rows : �
       go true e = let h = ltb-true r rows e in sym (row-by-hit r h (f .0 h))
       go false e = sym (f .1 (ltb-false r rows e))
 
--- a table that equals a fair one is fair
-pub fair-as : (width : ℕ) (cs ls ds ms : List ℕ) → ds ≡ cs → ms ≡ ls → T (fair width cs ls) → T (fair width ds ms)
-fair-as width cs ls ds ms e f t = subst (λ (b : Bool). T b) (sym (ap₂ (fair width) e f)) t
+-- a table that equals a prefix-free one is prefix-free
+pub prefix-free-as : (width : ℕ) (cs ls ds ms : List ℕ) → ds ≡ cs → ms ≡ ls → T (prefixFree width cs ls) → T (prefixFree width ds ms)
+prefix-free-as width cs ls ds ms e f t = subst (λ (b : Bool). T b) (sym (ap₂ (prefixFree width) e f)) t
 
 -- a refused code: no row's code begins the bits
-pub row-lost : (width : ℕ) (cs ls : List ℕ) → T (fair width cs ls) → (rows : ℕ) → rows ≤ length cs → (b : Bits) → rows ≤ rowAt cs ls width rows b
+pub row-lost : (width : ℕ) (cs ls : List ℕ) → T (prefixFree width cs ls) → (rows : ℕ) → rows ≤ length cs → (b : Bits) → rows ≤ rowAt cs ls width rows b
     → (i : ℕ) → i < rows → (r : Bits) → b ≡ codeBits cs ls i ++ r → ⊥
 row-lost width cs ls ok rows within b h i l r e =
     let q : rowAt cs ls width rows b ≡ i = ap (rowAt cs ls width rows) e ∙ row-complete width cs ls ok rows within i l r in
     omega arith
 
--- ---- what a search in a fair table says
+-- ---- what a search in a prefix-free table says
 
-module _ (width : ℕ) (cs ls : List ℕ) (ok : T (fair width cs ls)) (rows : ℕ) (within : rows ≤ length cs) where
+module _ (width : ℕ) (cs ls : List ℕ) (ok : T (prefixFree width cs ls)) (rows : ℕ) (within : rows ≤ length cs) where
   -- row i is found exactly when the bits begin with row i's code
   pub found-exactly : (b : Bits) (i : ℕ) → i < rows
       → (rowAt cs ls width rows b ≡ i → (r : Bits) × (b ≡ codeBits cs ls i ++ r)) × ((r : Bits) → b ≡ codeBits cs ls i ++ r → rowAt cs ls width rows b ≡ i)

@@ -28,7 +28,7 @@ hitAt cs ls w n i = hit w n (getD cs i 0) (getD ls i 0)
 abbrev pub rowIn : List ℕ → List ℕ → ℕ → ℕ → ℕ → ℕ
 rowIn cs ls rows w n = seek (λ i. hit w n (getD cs i 0) (getD ls i 0)) rows 0
 
--- r is such a row, or `rows` where there is none: in a fair table r is `rowIn`'s, since there is one at most
+-- r is such a row, or `rows` where there is none: in a prefix-free table r is `rowIn`'s, since there is one at most
 abbrev pub Found : List ℕ → List ℕ → ℕ → ℕ → ℕ → ℕ → Type 0
 Found cs ls rows w n r = (r < rows → T (hitAt cs ls w n r)) × (rows ≤ r → rowIn cs ls rows w n ≡ r)
 
@@ -47,11 +47,11 @@ apartFrom c l [] ls = true
 apartFrom c l (d ∷ ds) [] = false
 apartFrom c l (d ∷ ds) (m ∷ ms) = not (agree c l d m) && apartFrom c l ds ms
 
-abbrev pub fairRow : ℕ → ℕ → ℕ → Bool
-fairRow width c l = ltb 0 l && (leb l width && ltb c (2 ^ l))
+abbrev pub soundRow : ℕ → ℕ → ℕ → Bool
+soundRow width c l = ltb 0 l && (leb l width && ltb c (2 ^ l))
 
-abbrev pub fair : ℕ → List ℕ → List ℕ → Bool
-fair width [] [] = true
-fair width [] (m ∷ ms) = false
-fair width (c ∷ cs) [] = false
-fair width (c ∷ cs) (l ∷ ls) = fairRow width c l && (apartFrom c l cs ls && fair width cs ls)
+abbrev pub prefixFree : ℕ → List ℕ → List ℕ → Bool
+prefixFree width [] [] = true
+prefixFree width [] (m ∷ ms) = false
+prefixFree width (c ∷ cs) [] = false
+prefixFree width (c ∷ cs) (l ∷ ls) = soundRow width c l && (apartFrom c l cs ls && prefixFree width cs ls)

@@ -1,5 +1,5 @@
 -- The codes of transform coefficients: Tables B.16 and B.17, and LMAX and RMAX as these tables give them. Definitions only.
-use mathlib.Core.Bool.{Bool, true, false, cond, _&&_}
+use mathlib.Core.Bool.{cond, _&&_}
 use mathlib.Core.List.{List, [], _∷_, _++_, map}
 use mathlib.Core.Option.{Option, none, some}
 use Prim.Native.Nat.{ℕ, max}

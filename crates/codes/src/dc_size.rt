@@ -1,7 +1,7 @@
 // The tables of DC sizes (the two of texture.rs; Tables B.13 and B.14), and the component of a block,
 // which chooses between them.
 ghost use mathlib.Core.Path.{_≡_};
-ghost use Rattle.codes.specs.Component.{componentOf};
+ghost use Rattle.codes.specs.Component.{componentDue, componentOf, componentOutcome};
 ghost use Rattle.codes.specs.DcSize.{dcCodes, dcLens};
 
 // Luminance or chrominance (6.2.7).
@@ -20,6 +20,7 @@ impl DcComponent {
     // Blocks 0 to 3 are luminance, 4 and 5 chrominance (Figure 6-8).
     pub fn from_block_index(i: usize) -> BlockComponent
         ensures { λ r. ⌜ r ≡ componentOf i ⌝ }
+        ensures outcome { λ r. ⌜ componentOutcome r ≡ componentDue i ⌝ }
     {
         if i < 4 {
             return BlockComponent::Component(DcComponent::Luminance);

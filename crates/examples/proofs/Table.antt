@@ -4,7 +4,8 @@ use Rattle.bits.specs.Bits.{bin, val}
 use Rattle.codes.specs.DcSize.{dcCodes, dcLens, dcSizes, sizeLuminance}
 use Rattle.codes.specs.Table.{seek}
 use Rattle.codes.specs.Tcoef.{lmaxOf, rmaxOf, tcoefIntra, vlcCodes, vlcLens}
-use Rattle.texture.specs.Dc.{dcTail, differenceOf, readDc}
+use Rattle.texture.specs.Dc.{differenceOf}
+use Rattle.texture.specs.DcReader.{dcTail, readDc}
 use Rattle.texture.specs.Event.{lastNumber, levelOf, runOf}
 use Rattle.texture.specs.EventReader.{escaped, event, fixed, level, longer, plainEvent, runAndLevel, sign, signed}
 use Rattle.texture.specs.Reader.{code, field, marker}

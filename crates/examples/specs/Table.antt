@@ -10,7 +10,8 @@ use Rattle.codes.specs.declared.dc_size.DcComponent.the-variants.{Luminance, Ch
 use Rattle.codes.specs.declared.tcoef_tables.TcoefTable.the-variants.{Intra}
 use Rattle.texture.specs.Refusal.{numberOf}
 use Rattle.texture.specs.Reader.{Res, ok, no, mapped}
-use Rattle.texture.specs.Dc.{differenceOf, readDc}
+use Rattle.texture.specs.Dc.{differenceOf}
+use Rattle.texture.specs.DcReader.{readDc}
 use Rattle.texture.specs.Event.{Event, _▸_, lastNumber, runOf, levelOf}
 use Rattle.texture.specs.EventReader.{event}
 use Rattle.coefficients.specs.declared.scan.DcPredictionDirection.{DcPredictionDirection}

@@ -14,7 +14,8 @@ use lib.Pow.{pow-add, pow-lt}
 use Rattle.numbers.proofs.Integers.{dn, up}
 use Rattle.f64_error.proofs.Operations.{Close, Times, add-val, mul-val, neg-val, val-of}
 use Rattle.f64_error.proofs.Order.{Le, Lt, lt-holds, lt-no, lt-yes}
-use Rattle.f64_error.specs.Units.{Is, grain, mesh, one, sgn}
+use Rattle.f64_error.proofs.Grains.{grain, mesh}
+use Rattle.f64_error.specs.Units.{Is, one, sgn}
 
 pub one-is : one ≡ 2 ^ 60 * grain
 unfolding one grain

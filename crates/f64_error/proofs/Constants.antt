@@ -11,7 +11,7 @@ use lib.Ieee.Fits.{and-l, and-r}
 use lib.IntN.{ℤ, pos, negℤ, natAbs, negsuc}
 use Rattle.numbers.proofs.Integers.{eq-in, neg-dn, neg-up, up}
 use Rattle.f64_error.proofs.Binary64.{neg-is}
-use Rattle.f64_error.specs.Approx.{Const}
+use Rattle.f64_error.proofs.Approx.{Const}
 use Rattle.f64_error.specs.Units.{Is, one, sgn}
 
 -- 2 ^ 55 of these are 1.0

@@ -8,7 +8,7 @@ use lib.IntN.{ℤ, pos, negℤ, negsuc, _-ℤ_, natAbs}
 use Rattle.numbers.proofs.Integers.{add-is, dn, up}
 use Rattle.f64_error.proofs.Binary64.{Part}
 use Rattle.f64_error.specs.Units.{Is, one}
-use Rattle.f64_error.specs.Wholes.{FloorOf}
+use Rattle.f64_error.proofs.Distances.{FloorOf}
 
 pub part-size : (v t : ℤ) (B : ℕ) → Part v t → up v + dn v ≤ B * one → natAbs t ≤ B
 part-size v (pos n) B p h = cancel (omega (arith, p .under))

@@ -8,7 +8,7 @@ use lib.Ieee.{binary64, ofInt, inFloat, size}
 use lib.IntN.{ℤ, pos, negsuc, natAbs, _*ℤ_}
 use Rattle.numbers.proofs.Integers.{abs-is, dn, mul-dn, mul-up, up}
 use Rattle.f64_error.proofs.Binary64.{int-is}
-use Rattle.f64_error.specs.Approx.{Approx}
+use Rattle.f64_error.proofs.Approx.{Approx}
 use Rattle.f64_error.specs.Units.{one}
 
 pub in-float : (z : ℤ) → natAbs z ≤ 2 ^ 53 → T (inFloat binary64 z)

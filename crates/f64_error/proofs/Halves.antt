@@ -15,8 +15,10 @@ use Rattle.f64_error.proofs.Nearest.{floor-is, nearest-is, nearest-of, 
 use Rattle.f64_error.proofs.Operations.{Close}
 use Rattle.f64_error.proofs.Sizes.{size-one}
 use Rattle.f64_error.specs.Series.{half}
-use Rattle.f64_error.specs.Units.{Is, grain, one}
-use Rattle.f64_error.specs.Wholes.{FloorOf, RoundOf, atHalf, floorZ, gapOf, nearestZ, tolerance}
+use Rattle.f64_error.proofs.Grains.{grain}
+use Rattle.f64_error.specs.Units.{Is, one}
+use Rattle.f64_error.proofs.Distances.{FloorOf, RoundOf}
+use Rattle.f64_error.specs.Wholes.{atHalf, floorZ, gapOf, nearestZ, tolerance}
 
 -- the tolerance, in units
 unfoldable pub limit : ℕ

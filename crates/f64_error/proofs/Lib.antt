@@ -1,4 +1,7 @@
 -- The laws, from one rounding to two passes of a transform.
+pub mod Grains
+pub mod Approx
+pub mod Distances
 pub mod Sizes
 pub mod Rounded
 pub mod Operations

@@ -10,7 +10,7 @@ use Rattle.numbers.proofs.Integers.{abs-is, add-is, dn, mul-dn, mul-up, up}
 use Rattle.f64_error.proofs.Binary64.{add-off, below, mul-off, off, one-pos, zero-is}
 use Rattle.f64_error.proofs.Operations.{Close}
 use Rattle.f64_error.proofs.Sizes.{size-one}
-use Rattle.f64_error.specs.Approx.{Const, Approx}
+use Rattle.f64_error.proofs.Approx.{Const, Approx}
 use Rattle.f64_error.specs.Units.{Is, one}
 
 -- v is within h of X - Y, in units of 1 / P

@@ -10,9 +10,13 @@ use Rattle.numbers.proofs.Integers.{*ℤ-+ℤ, *ℤ-assoc, +ℤ-*ℤ}
 use Rattle.f64_error.proofs.Binary64.{below, off}
 use Rattle.f64_error.proofs.Nearness.{approx-add, approx-half, approx-mul, approx-weaken, approx-zero}
 use Rattle.f64_error.proofs.Operations.{mul-swap}
-use Rattle.f64_error.specs.Approx.{Const, Approx}
-use Rattle.f64_error.specs.Series.{blockF, blockZ, half, pass, passZ, seriesF, seriesZ}
+use Rattle.f64_error.proofs.Approx.{Const, Approx}
+use Rattle.f64_error.specs.Series.{blockF, blockZ, half, pass, seriesF, seriesZ}
 use Rattle.f64_error.specs.Units.{Is, one}
+
+-- the sum over i of c(i) * x(i) * k(i)
+abbrev pub passZ : (ℕ → ℤ) → (ℕ → ℤ) → (ℕ → ℤ) → ℤ
+passZ c x k = seriesZ (λ i. c i *ℤ x i *ℤ k i) 8
 
 -- the constant on the left
 pub approx-mul-left : (j : ℕ) (x y : Float) (S P : ℕ) (a c : ℤ) (e m : ℕ) → j ≤ 900 → Approx x (S * P) a e m → Const y P c → m < below j

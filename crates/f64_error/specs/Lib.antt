@@ -2,4 +2,3 @@
 pub mod Units
 pub mod Series
 pub mod Wholes
-pub mod Approx

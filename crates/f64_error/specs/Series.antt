@@ -22,10 +22,6 @@ half = fin false 1 (negsuc 0)
 abbrev pub pass : (ℕ → Float) → (ℕ → Float) → (ℕ → Float) → Float
 pass c x k = mul binary64 half (seriesF (λ i. mul binary64 (mul binary64 (c i) (x i)) (k i)) 8)
 
--- the sum over i of c(i) * x(i) * k(i)
-abbrev pub passZ : (ℕ → ℤ) → (ℕ → ℤ) → (ℕ → ℤ) → ℤ
-passZ c x k = seriesZ (λ i. c i *ℤ x i *ℤ k i) 8
-
 -- rows, then columns: F v u is the coefficient, c the factors C(u), k u x the cosine
 abbrev pub blockF : (ℕ → Float) → (ℕ → ℕ → Float) → (ℕ → ℕ → Float) → ℕ → ℕ → Float
 blockF c k F y x = pass c (λ v. pass c (F v) (λ u. k u x)) (λ v. k v y)

@@ -1,4 +1,4 @@
--- An f64 as a whole number of units of 2 ^ -1074, the least that binary64 holds; powers of two stay shut behind a name. Definitions only.
+-- An f64 as a whole number of units of 2 ^ -1074, the least that binary64 holds; 1.0 stays shut behind a name. Definitions only.
 use mathlib.Core.Bool.{Bool, true, false}
 use mathlib.Core.Path.{_≡_}
 use Prim.Native.Nat.{ℕ, _*_, _^_, _≤_}
@@ -16,21 +16,13 @@ Val f nan v = ⊥
 Val f (inf s) v = ⊥
 Val f (fin s m e) v = (n : ℕ) × (m * numer e * 2 ^ low f ≡ n * denom e) × (v ≡ sgn s n)
 
--- 1.0, in units
-unfoldable pub one : ℕ
-one = 2 ^ 1074
-
--- 2 ^ -60, in which errors are counted
-unfoldable pub grain : ℕ
-grain = 2 ^ 1014
-
--- 2 ^ -222, of which the exact double sum is a whole number
-unfoldable pub mesh : ℕ
-mesh = 2 ^ 852
-
 -- the same at binary64
 unfoldable pub Is : Float → ℤ → Type 0
 Is x v = Val binary64 x v
+
+-- 1.0, in units
+unfoldable pub one : ℕ
+one = 2 ^ 1074
 
 -- x is finite and at most b units in size
 pub record Bounded (x : Float) (b : ℕ) : Type 0 where

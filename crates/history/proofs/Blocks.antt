@@ -17,7 +17,7 @@ use Rattle.numbers.specs.Grid.{build, cell}
 use Rattle.coefficients.proofs.RangeLaws.{depth-range}
 use Rattle.coefficients.specs.declared.predictor.BlockPredictors.{BlockPredictors}
 use Rattle.block.proofs.ValueLaws.{depth-fine}
-use Rattle.block.specs.Rows.{componentAt}
+use Rattle.codes.specs.Component.{componentAt}
 use Rattle.block.specs.Values.{contextFine, levelsOf, valuesOf}
 use Rattle.block.specs.declared.context.MacroblockTextureContext.{MacroblockTextureContext}
 use Rattle.neighbours.proofs.RecordLaws.{known-other, known-own}

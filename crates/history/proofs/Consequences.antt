@@ -18,7 +18,7 @@ use Rattle.numbers.proofs.Fill.{getD-build}
 use Rattle.texture.specs.Macroblock.{Parts}
 use Rattle.texture.specs.Reader.{Res, no, ok}
 use Rattle.block.proofs.TestLaws.{all-pass}
-use Rattle.block.specs.Rows.{componentAt}
+use Rattle.codes.specs.Component.{componentAt}
 use Rattle.block.specs.Values.{contextFine, levelsOf, valuesOf}
 use Rattle.block.specs.declared.context.MacroblockTextureContext.{MacroblockTextureContext}
 use Rattle.block.specs.declared.error.BlockAssemblyError.{BlockAssemblyError}

@@ -8,7 +8,7 @@ use lib.ListN.{getD, replicate}
 use Rattle.numbers.specs.Grid.{build, cell}
 use Rattle.coefficients.specs.Prediction.{defaultDc}
 use Rattle.coefficients.specs.declared.predictor.BlockPredictors.{BlockPredictors}
-use Rattle.block.specs.Rows.{componentAt}
+use Rattle.codes.specs.Component.{componentAt}
 use Rattle.block.specs.Values.{levelsOf, valuesOf}
 use Rattle.block.specs.declared.context.MacroblockTextureContext.{MacroblockTextureContext}
 use Rattle.neighbours.specs.Neighbours.{aBlock, aSource, bBlock, bSource, cBlock, cSource, joined}

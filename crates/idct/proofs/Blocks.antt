@@ -16,13 +16,14 @@ use Rattle.numbers.specs.Every.{every}
 use Rattle.numbers.proofs.Fill.{block-eq, build-eq, getD-build}
 use Rattle.numbers.proofs.Magnitudes.{zero-of-abs}
 use Rattle.numbers.specs.Grid.{block, build, cell}
+use Rattle.numbers.specs.Limit.{clampZ}
 use Rattle.f64_error.proofs.Zeros.{Nought, nought-left, nought-right, series-none, series-rest}
 use Rattle.f64_error.specs.Series.{half, pass, seriesF}
 use Rattle.idct.specs.Cosines.{cosF, cF}
 use Rattle.idct.specs.Exact.{Modest}
-use Rattle.idct.specs.Limits.{saturated}
-use Rattle.idct.specs.Rounding.{wholeOf, Roundable}
-use Rattle.idct.specs.Transform.{cellF, computed, idct1d, isZero, rowAt, rowIn, rowTerms, sumOfRows, whole, idct8x8}
+use Rattle.idct.specs.Rounding.{wholeOf}
+use Rattle.idct.specs.ShortWays.{Roundable, cellF, idct1d, isZero, rowAt, rowIn, rowTerms, samplesIn, sumOfRows}
+use Rattle.idct.specs.Transform.{computed, whole}
 use Rattle.idct.specs.declared.rounding.HalfIntegerRounding.{HalfIntegerRounding}
 use Rattle.idct.proofs.Bounds.{bounded}
 use Rattle.idct.proofs.Loops.{zero-bits}
@@ -128,8 +129,10 @@ module _ (l : List (List ℤ)) where
     pub sums-bounded : Modest l → (y x : ℕ) → y < 8 → x < 8 → Roundable (mul binary64 half (cellF sums y x))
     sums-bounded m y x p q = subst Roundable (sym (halves-are y x p q)) (bounded l m y x p q)
 
-    pub samples-are : (depth : ℕ) (rounding : HalfIntegerRounding) → block (λ (y x : ℕ). saturated depth (wholeOf rounding (mul binary64 half (cellF sums y x)))) ≡ idct8x8 rounding depth l
+    pub samples-are : (rounding : HalfIntegerRounding) (lo hi a b : ℤ) (r : List (List ℤ)) → a ≡ lo → b ≡ hi → r ≡ block (λ (y x : ℕ). clampZ (wholeOf rounding (mul binary64 half (cellF sums y x))) a b) → r ≡ samplesIn rounding lo hi l
     unfolding whole
-    samples-are depth rounding =
-        block-eq (λ (y x : ℕ). saturated depth (wholeOf rounding (mul binary64 half (cellF sums y x)))) (λ (y x : ℕ). saturated depth (wholeOf rounding (computed l y x)))
-        (λ (y x : ℕ) (p : y < 8) (q : x < 8). ap (λ (z : Float). saturated depth (wholeOf rounding z)) (halves-are y x p q))
+    samples-are rounding lo hi a b r e g k =
+        k
+        ∙ block-eq (λ (y x : ℕ). clampZ (wholeOf rounding (mul binary64 half (cellF sums y x))) a b) (λ (y x : ℕ). clampZ (wholeOf rounding (computed l y x)) a b)
+        (λ (y x : ℕ) (p : y < 8) (q : x < 8). ap (λ (z : Float). clampZ (wholeOf rounding z) a b) (halves-are y x p q))
+        ∙ (λ i. samplesIn rounding (e i) (g i) l)

@@ -13,16 +13,23 @@ use Rattle.f64_error.proofs.Binary64.{one-is, grain-pos, mesh-pos, one-factors,
 use Rattle.f64_error.proofs.FromIntegers.{approx-int, times-up, times-dn}
 use Rattle.f64_error.proofs.Nearness.{approx-weaken}
 use Rattle.f64_error.proofs.Passes.{approx-block, after}
-use Rattle.f64_error.specs.Approx.{Approx}
-use Rattle.f64_error.specs.Units.{one, grain, mesh, Is}
-use Rattle.f64_error.specs.Wholes.{RoundOf, floorZ}
+use Rattle.f64_error.proofs.Approx.{Approx}
+use Rattle.f64_error.proofs.Grains.{grain, mesh}
+use Rattle.f64_error.specs.Units.{one, Is}
+use Rattle.f64_error.proofs.Distances.{RoundOf}
+use Rattle.f64_error.specs.Wholes.{floorZ}
 use Rattle.idct.specs.Cosines.{cF, cZ, cosF, cosZ}
-use Rattle.idct.specs.Exact.{exact, Within, Modest, Near, transformError}
-use Rattle.idct.specs.Rounding.{wholeOf, Roundable}
+use Rattle.idct.specs.Exact.{exact, Within, Modest, Near}
+use Rattle.idct.specs.Rounding.{wholeOf}
+use Rattle.idct.specs.ShortWays.{Roundable}
 use Rattle.idct.specs.Transform.{computed, whole}
 use Rattle.idct.specs.declared.rounding.HalfIntegerRounding.{HalfIntegerRounding}
 use Rattle.idct.proofs.Rounds.{rounded-near}
 use Rattle.idct.proofs.Tables.{cos-const, c-const}
+
+-- how far the f64 transform may be from the exact one: 3 / 2 ^ 31, in units of 2 ^ -1074
+abbrev pub transformError : ℕ
+transformError = 1610612736 * grain
 
 -- rows: products below 2 ^ 16, sums below 2 ^ 19; columns: below 2 ^ 18 and 2 ^ 21
 row-products : 32768 * one + off 16 < below 16

@@ -1,14 +1,15 @@
 -- A number that is saturated to a depth and then limited to the samples of that depth is the number limited. Assumes nothing.
 use mathlib.Core.Bool.{Bool, true, false, cond}
-use mathlib.Core.Path.{_≡_, refl, ap, _∙_}
-use Prim.Native.Nat.{ℕ, _^_, _≤_, min}
+use mathlib.Core.Path.{_≡_, refl}
+use Prim.Native.Nat.{ℕ, _^_}
 use native.Mathlib.Omega.{arith}
 use lib.IntN.{ℤ, pos}
 use lib.Pow.{pow-pos}
 use lib.Signed.{ltZ, _<ℤ_, _≤ℤ_}
 use Rattle.numbers.proofs.Integers.{diff-is, le-in, le-ltZ, lt-in, lt-ltZ, lt-true, neg-dn, neg-up, zarith}
 use Rattle.numbers.specs.Limit.{clampZ}
-use Rattle.idct.specs.Limits.{highest, lowest, saturated}
+use Rattle.ranges.specs.Range.{highest, lowest}
+use Rattle.idct.specs.Limits.{saturated}
 
 module _ (d : ℕ) (z : ℤ) where
   below : lowest d <ℤ pos 0
@@ -27,8 +28,6 @@ module _ (d : ℕ) (z : ℤ) where
           simp (le-ltZ (highest d) (pos 0) above, le-ltZ (highest d) (highest d) (le-in (omega arith)), le-ltZ z (pos 0) h, g)
       go false false e g = refl
 
-  pub clipped : d ≤ 30 → clampZ (saturated d z) (pos 0) (highest d) ≡ clampZ z (pos 0) (highest d)
+  pub clipped : clampZ (saturated d z) (pos 0) (highest d) ≡ clampZ z (pos 0) (highest d)
   unfolding saturated
-  clipped h =
-      let e : min d 30 ≡ d = omega arith in
-      ap (λ (b : ℕ). clampZ (clampZ z (lowest b) (highest b)) (pos 0) (highest d)) e ∙ limited
+  clipped = limited

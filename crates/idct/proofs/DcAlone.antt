@@ -14,13 +14,14 @@ use Rattle.numbers.proofs.Fill.{block-eq}
 use Rattle.numbers.proofs.Magnitudes.{zero-of-abs}
 use Rattle.numbers.specs.Every.{every}
 use Rattle.numbers.specs.Grid.{block, cell}
+use Rattle.numbers.specs.Limit.{clampZ}
 use Rattle.f64_error.proofs.Zeros.{Nought}
 use Rattle.f64_error.specs.Series.{half, pass, seriesF}
 use Rattle.idct.specs.Cosines.{byTurnF, cosF, cF}
 use Rattle.idct.specs.Exact.{Modest}
-use Rattle.idct.specs.Limits.{saturated}
-use Rattle.idct.specs.Rounding.{Roundable, wholeOf}
-use Rattle.idct.specs.Transform.{computed, dcPass, idct8x8, isZero, whole, withoutDc}
+use Rattle.idct.specs.Rounding.{wholeOf}
+use Rattle.idct.specs.ShortWays.{Roundable, dcPass, isZero, samplesIn, withoutDc}
+use Rattle.idct.specs.Transform.{computed, whole}
 use Rattle.idct.specs.declared.rounding.HalfIntegerRounding.{HalfIntegerRounding}
 use Rattle.idct.proofs.Blocks.{int-nought, pass-rest, zero-pass}
 use Rattle.idct.proofs.Bounds.{bounded}
@@ -81,8 +82,8 @@ module _ (l : List (List ℤ)) (alone : every (every isZero) (withoutDc l) ≡ t
   pub dc-bounded : (value : Float) → Modest l → value ≡ dcValue l → Roundable value
   dc-bounded value m e = subst Roundable (dc-computed 0 0 ∙ sym e) (bounded l m 0 0 (omega arith) (omega arith))
 
-  pub dc-samples-are : (depth : ℕ) (rounding : HalfIntegerRounding) (value : Float) (sample : ℤ) → value ≡ dcValue l → sample ≡ saturated depth (wholeOf rounding value) → block (λ (y x : ℕ). sample) ≡ idct8x8 rounding depth l
+  pub dc-samples-are : (lo hi : ℤ) (rounding : HalfIntegerRounding) (value : Float) (sample : ℤ) → value ≡ dcValue l → sample ≡ clampZ (wholeOf rounding value) lo hi → block (λ (y x : ℕ). sample) ≡ samplesIn rounding lo hi l
   unfolding whole
-  dc-samples-are depth rounding value sample e h =
-      block-eq (λ (y x : ℕ). sample) (λ (y x : ℕ). saturated depth (wholeOf rounding (computed l y x)))
-      (λ (y x : ℕ) (p : y < 8) (q : x < 8). h ∙ ap (λ (z : Float). saturated depth (wholeOf rounding z)) (e ∙ sym (dc-computed y x)))
+  dc-samples-are lo hi rounding value sample e h =
+      block-eq (λ (y x : ℕ). sample) (λ (y x : ℕ). clampZ (wholeOf rounding (computed l y x)) lo hi)
+      (λ (y x : ℕ) (p : y < 8) (q : x < 8). h ∙ ap (λ (z : Float). clampZ (wholeOf rounding z) lo hi) (e ∙ sym (dc-computed y x)))

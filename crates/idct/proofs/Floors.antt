@@ -20,7 +20,7 @@ use Rattle.f64_error.proofs.Nearest.{floor-is}
 use Rattle.f64_error.proofs.Shifted.{Shifted, shifted}
 use Rattle.f64_error.specs.Units.{one, Is}
 use Rattle.f64_error.specs.Wholes.{floorZ}
-use Rattle.idct.specs.Rounding.{Roundable, nearF, nearZ}
+use Rattle.idct.specs.ShortWays.{Roundable, nearF, nearZ}
 
 cast-back : (t : ℤ) → natAbs t ≤ 1048576 → T (inSigned binary64 31 (ofInt binary64 t)) × (toSigned 31 (ofInt binary64 t) ≡ t)
 cast-back (pos n) l = positive-back binary64 31 n (in-float (pos n) (le-trans l (lit≤ tt))) (lt-of-le-of-lt l (lit< tt))

@@ -15,7 +15,7 @@ use Rattle.numbers.specs.Grid.{build}
 use Rattle.f64_error.proofs.Zeros.{Nought, nought-left, series-none, zero-of-eq}
 use Rattle.f64_error.specs.Series.{half, seriesF}
 use Rattle.idct.specs.Cosines.{cF, cosF}
-use Rattle.idct.specs.Transform.{idct1d}
+use Rattle.idct.specs.ShortWays.{idct1d}
 use Rattle.idct.proofs.Tables.{cos-const}
 
 pub zero-bits : ofBits binary64 0 ≡ fin false 0 (pos 0)

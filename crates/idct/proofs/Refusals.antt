@@ -1,18 +1,17 @@
--- Which values are refused: what the tests tell of sizes, which number is due, and what a caller shows of values that are taken. Assumes nothing.
-use mathlib.Core.Bool.{Bool, true, false, cond, _&&_}
-use mathlib.Core.List.{List, []}
-use mathlib.Core.Path.{_≡_, refl, sym, ap, _∙_}
+-- Which values are refused: what the tests tell of sizes, what is due, and what a caller shows of values that are taken. Assumes nothing.
+use mathlib.Core.Bool.{Bool, true, false, _&&_}
+use mathlib.Core.List.{List, [], _∷_}
+use mathlib.Core.Path.{_≡_, refl, ap, _∙_}
 use Prim.Native.Nat.{ℕ, zero, suc, _+_, _^_, _≤_, _<_}
 use native.Mathlib.Nat.{le-trans}
 use native.Mathlib.Omega.{arith}
-use lib.Dec.{T, leb, lit≤}
+use lib.Dec.{T, lit≤}
 use lib.Ieee.Bits.{is-true}
 use lib.IntN.{ℤ, pos, natAbs}
 use lib.ListN.{getD}
 use lib.Pow.{pow-mono, pow-pos}
 use lib.Signed.{leZ, _≤ℤ_}
 use mir.Facts.{and-yes}
-use borrow.Author.Tests.{leb-true}
 use Rattle.numbers.proofs.Every.{every-at}
 use Rattle.numbers.specs.Every.{every}
 use Rattle.numbers.proofs.Integers.{diff-is, le-in, le-leZ, le-out, le-true, neg-dn, neg-up, zarith}
@@ -20,11 +19,12 @@ use Rattle.numbers.proofs.Limits.{clamp-high, clamp-low}
 use Rattle.numbers.proofs.Magnitudes.{abs-within}
 use Rattle.numbers.specs.Grid.{block, build, cell}
 use Rattle.numbers.specs.Limit.{clampZ}
-use Rattle.ranges.specs.Range.{depthFine}
+use Rattle.numbers.specs.Outcome.{Outcome, accepted, checked}
+use Rattle.ranges.proofs.DepthLaws.{depth-most}
+use Rattle.ranges.specs.Range.{depthFine, highest, lowest}
 use Rattle.idct.specs.Exact.{Modest, Near, exact}
-use Rattle.idct.specs.Limits.{highest, inBounds, lowest, numberDue, valuesFine, numberOf}
+use Rattle.idct.specs.Limits.{idctOutcome, inBounds, valuesFine}
 use Rattle.idct.specs.Transform.{whole}
-use Rattle.idct.specs.declared.limits.IdctAnswer.{IdctAnswer}
 use Rattle.idct.specs.declared.limits.IdctAnswer.the-variants.{DepthOutOfRange, Transformed, ValueOutOfLimits}
 use Rattle.idct.specs.declared.rounding.HalfIntegerRounding.{HalfIntegerRounding}
 use Rattle.idct.proofs.Bounds.{whole-near}
@@ -52,32 +52,27 @@ size b z t =
 
 -- ---- a block
 
-pub depth-least : (d : ℕ) → depthFine d ≡ true → d < 13
-depth-least d e = let l = leb-true d 12 (is-true (leb d 12) (and-yes (leb 4 d) (leb d 12) (is-T (depthFine d) e) .1)) in omega arith
-
-pub modest : (d : ℕ) (l : List (List ℤ)) → d < 13 → valuesFine d l ≡ true → Modest l
+pub modest : (d : ℕ) (l : List (List ℤ)) → depthFine d ≡ true → valuesFine d l ≡ true → Modest l
 modest d l h e v u i j =
     let p = inBounds (d + 3) in
-    let g : d + 3 ≤ 15 = omega arith in
+    let g : d + 3 ≤ 15 = omega (arith, depth-most d h) in
     le-trans (size (d + 3) (cell l v u) (every-at p (pos 0) (getD l v []) (zero-inside (d + 3)) (every-at (every p) [] l tt (is-T (valuesFine d l) e) v) u)) (le-trans (pow-mono g) (lit≤ tt))
 
--- ---- the number that is due
+-- ---- what is due
 
 module _ (d : ℕ) (l : List (List ℤ)) where
-  pub due-12 : depthFine d ≡ false → 12 ≡ numberDue d l
-  due-12 e = sym (ap (λ (b : Bool). cond b (cond (valuesFine d l) 0 13) 12) e)
+  -- by the depth first, then by the values
+  abbrev pub due : Outcome (Unit {0})
+  due = checked ((depthFine d, 12) ∷ (valuesFine d l, 13) ∷ []) (accepted tt)
 
-  pub due-13 : depthFine d ≡ true → valuesFine d l ≡ false → 13 ≡ numberDue d l
-  due-13 e g = sym (ap (λ (b : Bool). cond b (cond (valuesFine d l) 0 13) 12) e ∙ ap (λ (b : Bool). cond b 0 13) g)
+  pub depth-refused : depthFine d ≡ false → idctOutcome DepthOutOfRange ≡ due
+  depth-refused e = simp e
 
-  pub due-0 : depthFine d ≡ true → valuesFine d l ≡ true → 0 ≡ numberDue d l
-  due-0 e g = sym (ap (λ (b : Bool). cond b (cond (valuesFine d l) 0 13) 12) e ∙ ap (λ (b : Bool). cond b 0 13) g)
+  pub value-refused : depthFine d ≡ true → valuesFine d l ≡ false → idctOutcome ValueOutOfLimits ≡ due
+  value-refused e g = simp (e, g)
 
--- the number tells the answer
-pub transformed : (r : IdctAnswer) → numberOf r ≡ 0 → r ≡ Transformed
-transformed Transformed e = refl
-transformed DepthOutOfRange e = absurd (omega arith)
-transformed ValueOutOfLimits e = absurd (omega arith)
+  pub transformed : depthFine d ≡ true → valuesFine d l ≡ true → idctOutcome Transformed ≡ due
+  transformed e g = simp (e, g)
 
 -- ---- for callers: a block whose cells are within a depth's limits is taken
 
@@ -91,9 +86,6 @@ values-taken d f h =
     every-build (every (inBounds (d + 3))) 8 (λ (v : ℕ). build 8 (f v))
     (λ (v : ℕ) (p : v < 8). every-build (inBounds (d + 3)) 8 (f v) (λ (u : ℕ) (q : u < 8). h v u p q))
 
-pub taken : (d : ℕ) (f : ℕ → ℕ → ℤ) → depthFine d ≡ true → ((v u : ℕ) → v < 8 → u < 8 → inBounds (d + 3) (f v u) ≡ true) → numberDue d (block f) ≡ 0
-taken d f e h = sym (due-0 d (block f) e (values-taken d f h))
-
 -- a limited value is within
 pub limited-inside : (b : ℕ) (z : ℤ) → inBounds b (clampZ z (lowest b) (highest b)) ≡ true
 limited-inside b z = inside b (clampZ z (lowest b) (highest b)) (clamp-low z (lowest b) (highest b) (ends b)) (clamp-high z (lowest b) (highest b) (ends b))
@@ -101,4 +93,4 @@ limited-inside b z = inside b (clampZ z (lowest b) (highest b)) (clamp-low z (lo
 -- ---- what is taken stays near the exact transform
 
 pub taken-near : (d : ℕ) (l : List (List ℤ)) → depthFine d ≡ true → valuesFine d l ≡ true → (m : HalfIntegerRounding) (y x : ℕ) → y < 8 → x < 8 → Near (whole m l y x) (exact l y x)
-taken-near d l e g m y x p q = whole-near l (modest d l (depth-least d e) g) y x p q m
+taken-near d l e g m y x p q = whole-near l (modest d l e g) y x p q m

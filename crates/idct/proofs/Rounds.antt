@@ -14,8 +14,10 @@ use Rattle.f64_error.proofs.Binary64.{is-unique}
 use Rattle.f64_error.proofs.Halves.{floor-size, down-nearest, up-nearest, half-down, half-up, nearest-near}
 use Rattle.f64_error.proofs.Nearest.{floor-of}
 use Rattle.f64_error.specs.Units.{one}
-use Rattle.f64_error.specs.Wholes.{FloorOf, RoundOf, floorZ, nearestZ, magF, gapOf, atHalf}
-use Rattle.idct.specs.Rounding.{tied, wholeOf, Roundable}
+use Rattle.f64_error.proofs.Distances.{FloorOf, RoundOf}
+use Rattle.f64_error.specs.Wholes.{floorZ, nearestZ, magF, gapOf, atHalf}
+use Rattle.idct.specs.Rounding.{tied, wholeOf}
+use Rattle.idct.specs.ShortWays.{Roundable}
 use Rattle.idct.specs.declared.rounding.HalfIntegerRounding.{HalfIntegerRounding}
 use Rattle.idct.proofs.Loops.{zero-bits, half-bits}
 use Rattle.idct.proofs.TieRules.{back, add-fits, next-back, tied-either}

@@ -1,18 +1,20 @@
 -- A whole number that is well within a half of x is the whole number of x, under either rule. Assumes nothing.
 use mathlib.Core.Bool.{Bool, true, false, cond}
 use mathlib.Core.Path.{_≡_, refl, sym, subst}
-use Prim.Native.Nat.{ℕ, _+_, _-_, _*_, _^_, _≤_, _<_}
+use Prim.Native.Nat.{_+_, _*_, _^_, _≤_, _<_}
 use native.Mathlib.Nat.{le-of-eq, le-trans, lt-of-mul-lt-mul-right, mul-le-mul-right}
 use native.Mathlib.Omega.{arith}
 use lib.Ieee.{Float, binary64, fin, lt, neg, ofBits, sub}
 use lib.IntN.{ℤ, pos, natAbs, negℤ, _+ℤ_, _*ℤ_}
 use Rattle.numbers.proofs.Integers.{abs-is, add-is, dn, eq-in, neg-dn, neg-up, up}
-use Rattle.f64_error.proofs.Binary64.{below, grain-pos, is-unique, lt-is, neg-is, nlt-is, off, one-is, one-pos, sub-off, zero-is}
+use Rattle.f64_error.proofs.Binary64.{below, grain-pos, is-unique, lt-is, neg-is, nlt-is, off, one-is, sub-off, zero-is}
 use Rattle.f64_error.proofs.FromIntegers.{times-dn, times-up}
 use Rattle.f64_error.proofs.Operations.{Close}
-use Rattle.f64_error.specs.Units.{Is, grain, one}
-use Rattle.f64_error.specs.Wholes.{RoundOf, floorZ, magF}
-use Rattle.idct.specs.Rounding.{Roundable, nearF, nearZ, wholeOf}
+use Rattle.f64_error.proofs.Grains.{grain}
+use Rattle.f64_error.specs.Units.{Is, one}
+use Rattle.f64_error.specs.Wholes.{floorZ, magF}
+use Rattle.idct.specs.Rounding.{wholeOf}
+use Rattle.idct.specs.ShortWays.{Roundable, nearF, nearZ}
 use Rattle.idct.specs.declared.rounding.HalfIntegerRounding.{HalfIntegerRounding}
 use Rattle.idct.proofs.Floors.{near-exactly, near-size}
 use Rattle.idct.proofs.Rounds.{rounded-near}

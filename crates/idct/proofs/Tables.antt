@@ -8,7 +8,7 @@ use lib.Ieee.{nan, binary64, ofBits, neg}
 use lib.IntN.{pos, negℤ}
 use lib.ListN.{getD}
 use Rattle.f64_error.proofs.Constants.{const-of, const-neg}
-use Rattle.f64_error.specs.Approx.{Const}
+use Rattle.f64_error.proofs.Approx.{Const}
 use Rattle.idct.specs.Cosines.{cosines, numerators, turn, byTurnF, byTurnZ, cosF, cosZ, cF, cZ}
 
 entry : (k : ℕ) → k < 9 → Const (getD cosines k nan) (2 ^ 55) (pos (getD numerators k 0))

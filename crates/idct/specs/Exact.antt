@@ -1,19 +1,14 @@
 -- The exact transform: the double sum of Annex A.1 over the constants as the f64s have them, and how near a whole number is to it. Definitions only.
 use mathlib.Core.List.{List}
-use Prim.Native.Nat.{ℕ, _+_, _*_, _^_, _≤_, _<_}
+use Prim.Native.Nat.{ℕ, _+_, _^_, _≤_, _<_}
 use lib.IntN.{ℤ, pos, natAbs, _-ℤ_, _*ℤ_}
 use Rattle.numbers.specs.Grid.{cell}
 use Rattle.f64_error.specs.Series.{blockZ}
-use Rattle.f64_error.specs.Units.{grain}
 use Rattle.idct.specs.Cosines.{cZ, cosZ}
 
 -- 2 ^ 222 times 1/4 of the sum over v and u of C(u) C(v) F(v, u) cos((2x + 1) u pi / 16) cos((2y + 1) v pi / 16): four factors of 2 ^ -55, and 1/4
 abbrev pub exact : List (List ℤ) → ℕ → ℕ → ℤ
 exact l y x = blockZ cZ cosZ (cell l) y x
-
--- how far the f64 transform may be from it: 3 / 2 ^ 31, in units of 2 ^ -1074
-abbrev pub transformError : ℕ
-transformError = 1610612736 * grain
 
 -- n is within 1/2 + 1/2 ^ 24 of z / 2 ^ 222, as document 01 asks
 abbrev pub Near : ℤ → ℤ → Type 0

@@ -1,35 +1,36 @@
--- The limits of a depth (7.4.4.4, 7.4.5), and what the transform refuses: a depth out of range (12), then a value outside the depth's limits (13). Definitions only.
-use mathlib.Core.Bool.{Bool, cond}
+-- What the transform takes (7.4.4.4), gives (7.4.5) and refuses: a depth out of range (12), then a value outside the depth's limits (13). Definitions only.
+use mathlib.Core.Bool.{Bool}
 use mathlib.Core.List.{List}
-use Prim.Native.Nat.{ℕ, _+_, _^_, min}
-use lib.IntN.{ℤ, pos, negℤ, _-ℤ_}
+use Prim.Native.Nat.{ℕ, _+_}
+use lib.IntN.{ℤ}
 use Rattle.numbers.specs.Every.{every}
 use Rattle.numbers.specs.Limit.{clampZ}
-use Rattle.ranges.specs.Range.{within, depthFine}
+use Rattle.numbers.specs.Outcome.{Outcome, accepted, refused}
+use Rattle.ranges.specs.Range.{highest, lowest, within}
 use Rattle.idct.specs.declared.limits.IdctAnswer.{IdctAnswer}
 use Rattle.idct.specs.declared.limits.IdctAnswer.the-variants.{Transformed, DepthOutOfRange, ValueOutOfLimits}
-use Rattle.idct.specs.declared.limits.SaturationBounds.{SaturationBounds}
+use Rattle.idct.specs.declared.limits.IdctSample.{IdctSample}
+use Rattle.idct.specs.declared.limits.IdctSample.the-variants as sample
 
--- -2 ^ b and 2 ^ b - 1
-abbrev pub lowest : ℕ → ℤ
-lowest b = negℤ (pos (2 ^ b))
-
-abbrev pub highest : ℕ → ℤ
-highest b = pos (2 ^ b) -ℤ pos 1
-
-abbrev pub boundsOf : ℕ → SaturationBounds
-boundsOf b = record { lo = lowest b; hi = highest b }
-
--- z brought into the bounds of b bits, from 30 on those of 30, so that they are i32s
+-- z brought into -2 ^ b .. 2 ^ b - 1
 unfoldable pub saturated : ℕ → ℤ → ℤ
-saturated b z = clampZ z (lowest (min b 30)) (highest (min b 30))
+saturated b z = clampZ z (lowest b) (highest b)
 
+-- z is within them
 abbrev pub inBounds : ℕ → ℤ → Bool
 inBounds b z = within (lowest b) (highest b) z
 
--- each value is one of a depth's limits, which are the bounds of three bits more
+-- each value is within a depth's limits, which are those of three bits more
 abbrev pub valuesFine : ℕ → List (List ℤ) → Bool
 valuesFine depth l = every (every (inBounds (depth + 3))) l
+
+-- ---- answers
+
+-- what an answer tells: a block, which stands beside it, or a refusal
+abbrev pub idctOutcome : IdctAnswer → Outcome (Unit {0})
+idctOutcome Transformed = accepted tt
+idctOutcome DepthOutOfRange = refused 12 0
+idctOutcome ValueOutOfLimits = refused 13 0
 
 -- document 01's number of an answer; 0 where nothing was refused
 abbrev pub numberOf : IdctAnswer → ℕ
@@ -37,12 +38,13 @@ numberOf Transformed = 0
 numberOf DepthOutOfRange = 12
 numberOf ValueOutOfLimits = 13
 
--- the number that a call is due, by the depth first
-abbrev pub numberDue : ℕ → List (List ℤ) → ℕ
-numberDue depth l = cond (depthFine depth) (cond (valuesFine depth l) 0 13) 12
-
 -- what the lent block holds afterwards: a refusal leaves it as it was
 abbrev pub blockAfter : IdctAnswer → List (List ℤ) → List (List ℤ) → List (List ℤ)
 blockAfter Transformed new old = new
 blockAfter DepthOutOfRange new old = old
 blockAfter ValueOutOfLimits new old = old
+
+-- the whole number that an answer tells, or 12
+abbrev pub sampleOutcome : IdctSample → Outcome ℤ
+sampleOutcome (sample.Is z) = accepted z
+sampleOutcome sample.DepthOutOfRange = refused 12 0

@@ -1,51 +1,14 @@
 -- The transform of Annex A.1 in f64, each operation rounded once: rows, then columns; and the whole numbers and samples of a block (7.4.5). Definitions only.
-use mathlib.Core.Bool.{Bool, false}
-use mathlib.Core.List.{List, []}
+use mathlib.Core.List.{List}
 use Prim.Native.Nat.{ℕ}
-use lib.Dec.{eqb}
-use lib.Ieee.{Float, fin, nan, binary64, add, mul, ofInt}
-use lib.IntN.{ℤ, pos, natAbs}
-use lib.ListN.{getD, set}
-use Rattle.numbers.proofs.Fill.{rows}
-use Rattle.numbers.specs.Grid.{build, block, cell}
-use Rattle.f64_error.specs.Series.{half, pass, blockF, seriesF}
+use lib.Ieee.{Float, binary64, ofInt}
+use lib.IntN.{ℤ}
+use Rattle.numbers.specs.Grid.{block, cell}
+use Rattle.f64_error.specs.Series.{blockF}
 use Rattle.idct.specs.Cosines.{cF, cosF}
 use Rattle.idct.specs.Limits.{saturated}
 use Rattle.idct.specs.Rounding.{wholeOf}
 use Rattle.idct.specs.declared.rounding.HalfIntegerRounding.{HalfIntegerRounding}
-
-abbrev pub cellF : List (List Float) → ℕ → ℕ → Float
-cellF b v u = getD (getD b v []) u nan
-
--- the 1-D transform: at x half the sum over u of C(u) F(u) cos((2x + 1) u pi / 16)
-abbrev pub idct1d : List Float → List Float
-idct1d input = build 8 (λ (x : ℕ). pass cF (λ (u : ℕ). getD input u nan) (λ (u : ℕ). cosF u x))
-
--- a row of coefficients
-abbrev pub rowIn : List ℤ → List Float
-rowIn row = build 8 (λ (u : ℕ). ofInt binary64 (getD row u (pos 0)))
-
-abbrev pub isZero : ℤ → Bool
-isZero z = eqb (natAbs z) 0
-
--- a block with 0 for its DC
-abbrev pub withoutDc : List (List ℤ) → List (List ℤ)
-withoutDc l = set l 0 (set (getD l 0 []) 0 (pos 0))
-
--- the 1-D transform of v and seven zeros, which is the same at every x
-abbrev pub dcPass : Float → Float
-dcPass v = mul binary64 half (add binary64 (fin false 0 (pos 0)) (mul binary64 (mul binary64 (cF 0) v) (cosF 0 0)))
-
--- row v transformed, at x; and a row with its factor C(v)
-abbrev pub rowAt : List (List ℤ) → ℕ → ℕ → Float
-rowAt l v x = pass cF (λ (u : ℕ). ofInt binary64 (cell l v u)) (λ (u : ℕ). cosF u x)
-
-abbrev pub rowTerms : List ℤ → ℕ → List Float
-rowTerms row v = build 8 (λ (x : ℕ). mul binary64 (cF v) (pass cF (λ (u : ℕ). ofInt binary64 (getD row u (pos 0))) (λ (u : ℕ). cosF u x)))
-
--- at row y and column x the sum of the terms of the first n rows: half of it, for 8 rows, is `computed`
-abbrev pub sumOfRows : List (List ℤ) → ℕ → ℕ → ℕ → Float
-sumOfRows l n y x = seriesF (λ (v : ℕ). mul binary64 (mul binary64 (cF v) (rowAt l v x)) (cosF v y)) n
 
 -- the f64 at row y and column x
 abbrev pub computed : List (List ℤ) → ℕ → ℕ → Float
@@ -55,9 +18,6 @@ computed l y x = blockF cF cosF (λ (v u : ℕ). ofInt binary64 (cell l v u)) y 
 unfoldable pub whole : HalfIntegerRounding → List (List ℤ) → ℕ → ℕ → ℤ
 whole m l y x = wholeOf m (computed l y x)
 
--- the whole numbers of a block, and the same saturated to a depth
-abbrev pub wholes : HalfIntegerRounding → List (List ℤ) → List (List ℤ)
-wholes m l = block (whole m l)
-
+-- the whole numbers of a block, saturated to a depth
 abbrev pub idct8x8 : HalfIntegerRounding → ℕ → List (List ℤ) → List (List ℤ)
 idct8x8 m depth l = block (λ (y x : ℕ). saturated depth (whole m l y x))

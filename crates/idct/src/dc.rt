@@ -3,9 +3,8 @@ ghost use mathlib.Core.Bool.{true};
 ghost use mathlib.Core.Path.{_≡_};
 ghost use Rattle.numbers.specs.Every.{every};
 ghost use Rattle.idct.specs.Exact.{Modest};
-ghost use Rattle.idct.specs.Transform.{dcPass, idct8x8, isZero, withoutDc};
+ghost use Rattle.idct.specs.ShortWays.{dcPass, isZero, samplesIn, withoutDc};
 use crate::cosines::c;
-use crate::limits::saturate_idct_sample;
 use crate::rounding::HalfIntegerRounding;
 use crate::rounding::round_to_integer;
 use crate::transform::all_zero;
@@ -32,18 +31,19 @@ fn dc_pass(value: f64) -> f64
     0.5 * (0.0 + c(0) * value * 1.0)
 }
 
-// The samples of such a block.
+// The samples of such a block, brought into lo..=hi.
 pub(crate) fn dc_samples(
     coefficients: [[i32; 8]; 8],
-    bits_per_pixel: u32,
+    lo: i32,
+    hi: i32,
     rounding: HalfIntegerRounding,
 ) -> [[i32; 8]; 8]
     requires { ⌜ Modest coefficients × (every (every isZero) (withoutDc coefficients) ≡ true) ⌝ }
-    ensures { λ r. ⌜ r ≡ idct8x8 rounding «bits_per_pixel» coefficients ⌝ }
+    ensures { λ r. ⌜ r ≡ samplesIn rounding lo hi coefficients ⌝ }
 {
     let value = dc_pass(dc_pass(coefficients[0][0] as f64));
     let n = round_to_integer(value, rounding);
-    let sample = saturate_idct_sample(n, bits_per_pixel);
+    let sample = numbers::clamp(n, lo, hi);
     let row = [sample; 8];
     [row; 8]
 }

@@ -9,15 +9,18 @@ mod rounding;
 mod transform;
 
 pub use limits::IdctAnswer;
-pub use limits::SaturationBounds;
+pub use limits::IdctSample;
 pub use limits::idct_saturation_bounds;
 pub use limits::saturate_idct_sample;
 pub use rounding::HalfIntegerRounding;
+ghost use mathlib.Core.List.{[], _∷_};
 ghost use mathlib.Core.Path.{_≡_};
 ghost use Prim.Native.Nat.{ℕ, _<_};
+ghost use Rattle.numbers.specs.Outcome.{accepted, checked};
+ghost use Rattle.ranges.specs.Range.{depthFine};
+ghost use Rattle.idct.specs.Exact.{Near, exact};
+ghost use Rattle.idct.specs.Limits.{blockAfter, idctOutcome, valuesFine};
 ghost use Rattle.idct.specs.Transform.{idct8x8, whole};
-ghost use Rattle.idct.specs.Exact.{exact, Near};
-ghost use Rattle.idct.specs.Limits.{numberDue, numberOf, blockAfter};
 use ranges::Depth;
 
 // The transform of `coefficients` into `out`, each value saturated to -2^bits_per_pixel ..=
@@ -29,9 +32,9 @@ pub fn idct_8x8_rounded(
     rounding: HalfIntegerRounding,
     out: &mut [[i32; 8]; 8],
 ) -> IdctAnswer
-    ensures { λ r. ⌜ numberOf r ≡ numberDue «bits_per_pixel» coefficients ⌝ }
+    ensures { λ r. ⌜ idctOutcome r ≡ checked ((depthFine «bits_per_pixel», 12) ∷ (valuesFine «bits_per_pixel» coefficients, 13) ∷ []) (accepted tt) ⌝ }
     ensures block { λ r. ⌜ now (out .exit) ≡ blockAfter r (idct8x8 rounding «bits_per_pixel» coefficients) (now (out .entry)) ⌝ }
-    ensures near { λ r. ⌜ (numberOf r ≡ 0 → (y x : ℕ) → y < 8 → x < 8 → Near (whole rounding coefficients y x) (exact coefficients y x)) ⌝ }
+    ensures near { λ r. ⌜ (r ≡ IdctAnswer.Transformed → (y x : ℕ) → y < 8 → x < 8 → Near (whole rounding coefficients y x) (exact coefficients y x)) ⌝ }
 {
     if Depth::fine(bits_per_pixel) {
         if limits::values_fine(coefficients, bits_per_pixel) {
@@ -51,14 +54,14 @@ pub fn idct_8x8(
     bits_per_pixel: u32,
     out: &mut [[i32; 8]; 8],
 ) -> IdctAnswer
-    ensures { λ r. ⌜ numberOf r ≡ numberDue «bits_per_pixel» coefficients ⌝ }
+    ensures { λ r. ⌜ idctOutcome r ≡ checked ((depthFine «bits_per_pixel», 12) ∷ (valuesFine «bits_per_pixel» coefficients, 13) ∷ []) (accepted tt) ⌝ }
     ensures block { λ r. ⌜ now (out .exit) ≡ blockAfter r (idct8x8 HalfIntegerRounding.AwayFromZero «bits_per_pixel» coefficients) (now (out .entry)) ⌝ }
-    ensures near { λ r. ⌜ (numberOf r ≡ 0 → (y x : ℕ) → y < 8 → x < 8 → Near (whole HalfIntegerRounding.AwayFromZero coefficients y x) (exact coefficients y x)) ⌝ }
+    ensures near { λ r. ⌜ (r ≡ IdctAnswer.Transformed → (y x : ℕ) → y < 8 → x < 8 → Near (whole HalfIntegerRounding.AwayFromZero coefficients y x) (exact coefficients y x)) ⌝ }
 {
     idct_8x8_rounded(
         coefficients,
         bits_per_pixel,
-        HalfIntegerRounding::DEFAULT,
+        HalfIntegerRounding::AWAY_FROM_ZERO,
         out,
     )
 }

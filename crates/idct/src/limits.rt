@@ -1,8 +1,13 @@
 // What the transform takes and gives: the limits of a depth, and what is refused.
+ghost use mathlib.Core.Bool.{true};
+ghost use mathlib.Core.List.{[], _∷_};
 ghost use mathlib.Core.Path.{_≡_};
-ghost use Prim.Native.Nat.{_<_, min};
 ghost use Rattle.numbers.specs.Every.{every};
-ghost use Rattle.idct.specs.Limits.{boundsOf, saturated, inBounds, valuesFine, numberOf};
+ghost use Rattle.numbers.specs.Outcome.{accepted, checked};
+ghost use Rattle.ranges.specs.Range.{depthFine, limitsOutcome, saturationLimits, within};
+ghost use Rattle.idct.specs.Limits.{numberOf, sampleOutcome, saturated, valuesFine};
+use ranges::Depth;
+use ranges::DepthLimits;
 
 // The answer of a transform, whose block stands beside it.
 pub enum IdctAnswer {
@@ -24,78 +29,62 @@ impl IdctAnswer {
     }
 }
 
-// The least and the greatest number.
-pub struct SaturationBounds {
-    pub lo: i32,
-    pub hi: i32,
+// A whole number saturated to a depth, or 12: no depth.
+pub enum IdctSample {
+    Is(i32),
+    DepthOutOfRange,
 }
 
-// -2^bits ..= 2^bits - 1
-fn bounds_of(bits: u32) -> SaturationBounds
-    requires { ⌜ bits < 31 ⌝ }
-    ensures { λ r. ⌜ r ≡ boundsOf bits ⌝ }
+// -2^bits_per_pixel and 2^bits_per_pixel - 1 (7.4.5), or 12.
+pub fn idct_saturation_bounds(bits_per_pixel: u32) -> DepthLimits
+    ensures { λ r. ⌜ limitsOutcome r ≡ saturationLimits «bits_per_pixel» ⌝ }
 {
-    let mag = (1u32 << bits) as i32;
-    SaturationBounds {
-        lo: -mag,
-        hi: mag - 1,
+    Depth::saturation_limits(bits_per_pixel)
+}
+
+// `value` brought into them, or 12.
+pub fn saturate_idct_sample(value: i32, bits_per_pixel: u32) -> IdctSample
+    ensures { λ r. ⌜ sampleOutcome r ≡ checked ((depthFine «bits_per_pixel», 12) ∷ []) (accepted (saturated «bits_per_pixel» value)) ⌝ }
+{
+    match idct_saturation_bounds(bits_per_pixel) {
+        DepthLimits::Are(lo, hi) => IdctSample::Is(numbers::clamp(value, lo, hi)),
+        DepthLimits::OutOfRange => IdctSample::DepthOutOfRange,
     }
 }
 
-// -2^bits_per_pixel ..= 2^bits_per_pixel - 1 (7.4.5). From 30 bits on they are those of 30, the widest
-// that an i32 has.
-pub fn idct_saturation_bounds(bits_per_pixel: u32) -> SaturationBounds
-    ensures { λ r. ⌜ r ≡ boundsOf (min «bits_per_pixel» 30) ⌝ }
-{
-    if bits_per_pixel < 30 {
-        bounds_of(bits_per_pixel)
-    } else {
-        bounds_of(30)
-    }
-}
-
-// `value` brought into the saturation bounds.
-pub fn saturate_idct_sample(value: i32, bits_per_pixel: u32) -> i32
-    ensures { λ r. ⌜ r ≡ saturated «bits_per_pixel» value ⌝ }
-{
-    let bounds = idct_saturation_bounds(bits_per_pixel);
-    numbers::clamp(value, bounds.lo, bounds.hi)
-}
-
-// Whether a value is one of -2^bits ..= 2^bits - 1.
-fn value_within(value: i32, bits: u32) -> bool
-    requires { ⌜ bits < 31 ⌝ }
-    ensures { λ r. ⌜ r ≡ inBounds bits value ⌝ }
-{
-    let bounds = bounds_of(bits);
-    ranges::inside(value, bounds.lo, bounds.hi)
-}
-
-// The same of each value of a row.
-fn row_within(row: [i32; 8], bits: u32) -> bool
-    requires { ⌜ bits < 31 ⌝ }
-    ensures { λ r. ⌜ r ≡ every (inBounds bits) row ⌝ }
+// Whether each value of a row is within lo..=hi.
+fn row_within(row: [i32; 8], lo: i32, hi: i32) -> bool
+    ensures { λ r. ⌜ r ≡ every (within lo hi) row ⌝ }
 {
     let mut fine = true;
     for u in 0..8 {
-        let within = value_within(row[u], bits);
+        let within = ranges::inside(row[u], lo, hi);
         fine = fine & within;
     }
     fine
 }
 
-// Whether each value is one of a depth's limits, -2^(bits_per_pixel + 3) ..= 2^(bits_per_pixel + 3) - 1
-// (7.4.4.4).
-pub(crate) fn values_fine(coefficients: [[i32; 8]; 8], bits_per_pixel: u32) -> bool
-    requires { ⌜ «bits_per_pixel» < 13 ⌝ }
-    ensures { λ r. ⌜ r ≡ valuesFine «bits_per_pixel» coefficients ⌝ }
+// The same of each value of a block.
+fn block_within(coefficients: [[i32; 8]; 8], lo: i32, hi: i32) -> bool
+    ensures { λ r. ⌜ r ≡ every (every (within lo hi)) coefficients ⌝ }
 {
-    let bits = bits_per_pixel + 3;
     for v in 0..8 {
         let row = coefficients[v];
-        if !row_within(row, bits) {
+        if !row_within(row, lo, hi) {
             return false;
         }
     }
     true
+}
+
+// Whether each value is within a depth's limits (7.4.4.4). A depth that is fine has them, so the second
+// arm does not arise.
+pub(crate) fn values_fine(coefficients: [[i32; 8]; 8], bits_per_pixel: u32) -> bool
+    requires { ⌜ depthFine «bits_per_pixel» ≡ true ⌝ }
+    ensures { λ r. ⌜ r ≡ valuesFine «bits_per_pixel» coefficients ⌝ }
+{
+    match Depth::value_limits(bits_per_pixel) {
+        DepthLimits::Are(lo, hi) => block_within(coefficients, lo, hi),
+        DepthLimits::OutOfRange => false,
+    }
 }

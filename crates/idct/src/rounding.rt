@@ -3,7 +3,8 @@ ghost use mathlib.Core.Path.{_≡_};
 ghost use Prim.Native.Nat.{_≤_};
 ghost use lib.IntN.{natAbs};
 ghost use Rattle.f64_error.specs.Wholes.{floorZ, magF};
-ghost use Rattle.idct.specs.Rounding.{Roundable, nearZ, tied, wholeOf};
+ghost use Rattle.idct.specs.Rounding.{tied, wholeOf};
+ghost use Rattle.idct.specs.ShortWays.{Roundable, nearZ};
 ghost use Rattle.idct.specs.declared.rounding.HalfIntegerRounding.{HalfIntegerRounding};
 
 // How a value half-way between two whole numbers is rounded.
@@ -14,6 +15,10 @@ pub enum HalfIntegerRounding {
 
 impl HalfIntegerRounding {
     pub const DEFAULT: HalfIntegerRounding = HalfIntegerRounding::AwayFromZero;
+
+    pub const AWAY_FROM_ZERO: HalfIntegerRounding = HalfIntegerRounding::AwayFromZero;
+
+    pub const TO_EVEN: HalfIntegerRounding = HalfIntegerRounding::ToEven;
 }
 
 // The distance from one half below which a value counts as half-way.

@@ -1,25 +1,29 @@
 // The transform of Annex A.1: rows first, then columns, each operation rounded once.
+ghost use mathlib.Core.Bool.{true};
 ghost use mathlib.Core.Path.{_≡_};
 ghost use Prim.Native.Nat.{ℕ, _<_};
 ghost use lib.Ieee.{nan, binary64, add, mul};
 ghost use lib.ListN.{getD};
 ghost use Rattle.numbers.specs.Grid.{build, block};
 ghost use Rattle.numbers.specs.Every.{every};
+ghost use Rattle.numbers.specs.Limit.{clampZ};
+ghost use Rattle.ranges.specs.Range.{depthFine};
 ghost use Rattle.f64_error.specs.Series.{half};
 ghost use Rattle.idct.specs.Cosines.{cosF};
-ghost use Rattle.idct.specs.Rounding.{Roundable, wholeOf};
-ghost use Rattle.idct.specs.Limits.{saturated};
-ghost use Rattle.idct.specs.Transform.{cellF, idct1d, rowIn, rowTerms, sumOfRows, idct8x8, isZero};
 ghost use Rattle.idct.specs.Exact.{Modest};
+ghost use Rattle.idct.specs.Rounding.{wholeOf};
+ghost use Rattle.idct.specs.ShortWays.{Roundable, cellF, idct1d, isZero, rowIn, rowTerms, samplesIn, sumOfRows};
+ghost use Rattle.idct.specs.Transform.{idct8x8};
 use crate::cosines::c;
 use crate::cosines::cos_table;
 use crate::dc::dc_alone;
 use crate::dc::dc_samples;
-use crate::limits::saturate_idct_sample;
 use crate::rounding::HalfIntegerRounding;
 use crate::rounding::nearest_of;
 use crate::rounding::round_to_integer;
 use crate::rounding::unsettled;
+use ranges::Depth;
+use ranges::DepthLimits;
 
 // Half of each sum.
 fn halves(sums: [f64; 8]) -> [f64; 8]
@@ -148,71 +152,83 @@ fn column_sums(coefficients: [[i32; 8]; 8], cos: &[[f64; 8]; 8]) -> [[f64; 8]; 8
     sums
 }
 
-// Each sum of a row halved, rounded by the rule and saturated.
-fn ruled_row(sums: [f64; 8], bits_per_pixel: u32, rounding: HalfIntegerRounding) -> [i32; 8]
+// Each sum of a row halved, rounded by the rule and brought into lo..=hi.
+fn ruled_row(sums: [f64; 8], lo: i32, hi: i32, rounding: HalfIntegerRounding) -> [i32; 8]
     requires { ⌜ ((x : ℕ) → x < 8 → Roundable (mul binary64 half (getD sums x nan))) ⌝ }
-    ensures { λ r. ⌜ r ≡ build 8 (λ (x : ℕ). saturated «bits_per_pixel» (wholeOf rounding (mul binary64 half (getD sums x nan)))) ⌝ }
+    ensures { λ r. ⌜ r ≡ build 8 (λ (x : ℕ). clampZ (wholeOf rounding (mul binary64 half (getD sums x nan))) lo hi) ⌝ }
 {
     let mut out = [0i32; 8];
     for x in 0..8 {
         let value = 0.5 * sums[x];
         let n = round_to_integer(value, rounding);
-        out[x] = saturate_idct_sample(n, bits_per_pixel);
+        out[x] = numbers::clamp(n, lo, hi);
     }
     out
 }
 
 // The same. Where every value is well within a half of a whole number, no rule is asked.
-fn sample_row(sums: [f64; 8], bits_per_pixel: u32, rounding: HalfIntegerRounding) -> [i32; 8]
+fn sample_row(sums: [f64; 8], lo: i32, hi: i32, rounding: HalfIntegerRounding) -> [i32; 8]
     requires { ⌜ ((x : ℕ) → x < 8 → Roundable (mul binary64 half (getD sums x nan))) ⌝ }
-    ensures { λ r. ⌜ r ≡ build 8 (λ (x : ℕ). saturated «bits_per_pixel» (wholeOf rounding (mul binary64 half (getD sums x nan)))) ⌝ }
+    ensures { λ r. ⌜ r ≡ build 8 (λ (x : ℕ). clampZ (wholeOf rounding (mul binary64 half (getD sums x nan))) lo hi) ⌝ }
 {
     let mut out = [0i32; 8];
     let mut doubts: u32 = 0;
     for x in 0..8 {
         let value = 0.5 * sums[x];
         let n = nearest_of(value);
-        out[x] = saturate_idct_sample(n, bits_per_pixel);
+        out[x] = numbers::clamp(n, lo, hi);
         doubts += unsettled(value);
     }
     if doubts == 0 {
         return out;
     }
-    ruled_row(sums, bits_per_pixel, rounding)
+    ruled_row(sums, lo, hi, rounding)
 }
 
 // The same of each row.
-fn to_samples(
-    sums: [[f64; 8]; 8],
-    bits_per_pixel: u32,
-    rounding: HalfIntegerRounding,
-) -> [[i32; 8]; 8]
+fn to_samples(sums: [[f64; 8]; 8], lo: i32, hi: i32, rounding: HalfIntegerRounding) -> [[i32; 8]; 8]
     requires { ⌜ ((y x : ℕ) → y < 8 → x < 8 → Roundable (mul binary64 half (cellF sums y x))) ⌝ }
-    ensures { λ r. ⌜ r ≡ block (λ (y x : ℕ). saturated «bits_per_pixel» (wholeOf rounding (mul binary64 half (cellF sums y x)))) ⌝ }
+    ensures { λ r. ⌜ r ≡ block (λ (y x : ℕ). clampZ (wholeOf rounding (mul binary64 half (cellF sums y x))) lo hi) ⌝ }
 {
     let mut out = [[0i32; 8]; 8];
     for y in 0..8 {
         let row = sums[y];
-        out[y] = sample_row(row, bits_per_pixel, rounding);
+        out[y] = sample_row(row, lo, hi, rounding);
     }
     out
 }
 
-// The samples of values within 2^15. The cosines are made once, and lent to both passes. A
-// DC alone needs none.
+// The samples of values within 2^15, brought into lo..=hi. The cosines are made once, and lent to both
+// passes. A DC alone needs none.
+fn samples_within(
+    coefficients: [[i32; 8]; 8],
+    lo: i32,
+    hi: i32,
+    rounding: HalfIntegerRounding,
+) -> [[i32; 8]; 8]
+    requires { ⌜ Modest coefficients ⌝ }
+    ensures { λ r. ⌜ r ≡ samplesIn rounding lo hi coefficients ⌝ }
+{
+    if dc_alone(coefficients) {
+        return dc_samples(coefficients, lo, hi, rounding);
+    }
+    let table = cos_table();
+    let cos = &table;
+    let sums = column_sums(coefficients, cos);
+    to_samples(sums, lo, hi, rounding)
+}
+
+// The same at a depth. One that is fine has limits, so the second arm does not arise.
 pub(crate) fn samples(
     coefficients: [[i32; 8]; 8],
     bits_per_pixel: u32,
     rounding: HalfIntegerRounding,
 ) -> [[i32; 8]; 8]
-    requires { ⌜ Modest coefficients ⌝ }
+    requires { ⌜ Modest coefficients × (depthFine «bits_per_pixel» ≡ true) ⌝ }
     ensures { λ r. ⌜ r ≡ idct8x8 rounding «bits_per_pixel» coefficients ⌝ }
 {
-    if dc_alone(coefficients) {
-        return dc_samples(coefficients, bits_per_pixel, rounding);
+    match Depth::saturation_limits(bits_per_pixel) {
+        DepthLimits::Are(lo, hi) => samples_within(coefficients, lo, hi, rounding),
+        DepthLimits::OutOfRange => coefficients,
     }
-    let table = cos_table();
-    let cos = &table;
-    let sums = column_sums(coefficients, cos);
-    to_samples(sums, bits_per_pixel, rounding)
 }

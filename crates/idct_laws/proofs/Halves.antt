@@ -10,7 +10,8 @@ use Rattle.numbers.proofs.Integers.{up, dn, neg-up, neg-dn, abs-is, add-is}
 use Rattle.f64_error.proofs.Binary64.{one-mesh, grain-mesh}
 use Rattle.f64_error.proofs.FromIntegers.{times-up, times-dn}
 use Rattle.f64_error.proofs.Halves.{tie-at}
-use Rattle.f64_error.specs.Units.{one, grain, mesh}
+use Rattle.f64_error.proofs.Grains.{grain, mesh}
+use Rattle.f64_error.specs.Units.{one}
 use Rattle.idct.proofs.Bounds.{transform-near, bounded}
 use Rattle.idct.proofs.Rounds.{by-test}
 use Rattle.idct.specs.Exact.{exact, Modest}

@@ -3,3 +3,6 @@ pub mod Distances
 pub mod Nearest
 pub mod Halves
 pub mod Settled
+pub mod Between
+pub mod DcHalves
+pub mod ChromaGrey

@@ -5,7 +5,8 @@ use lib.Ieee.{Float}
 use lib.IntN.{ℤ}
 use Rattle.f64_error.proofs.Nearest.{nearest-of, nearest-within}
 use Rattle.f64_error.specs.Units.{Is}
-use Rattle.f64_error.specs.Wholes.{floorZ, nearestZ, NearestOf, WithinHalf, atHalf}
+use Rattle.f64_error.proofs.Distances.{NearestOf, WithinHalf}
+use Rattle.f64_error.specs.Wholes.{floorZ, nearestZ, atHalf}
 use Rattle.idct.specs.Rounding.{tied, wholeOf}
 use Rattle.idct.specs.declared.rounding.HalfIntegerRounding.{HalfIntegerRounding}
 

@@ -1,1 +1,2 @@
-// Laws only, no code: agreement with `round`, exact halves, and whole numbers away from halves.
+// Laws only, no code, of a transform's whole numbers before they are limited: outside the tolerance what
+// `round` gives; near a half of the exact transform, and away from every half; a DC alone.

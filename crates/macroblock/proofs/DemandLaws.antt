@@ -16,7 +16,8 @@ use Rattle.samples.proofs.LayoutLaws.{rest-kept, sample-at}
 use Rattle.samples.specs.Samples.{placeOf, samplesAfter}
 use Rattle.texture.proofs.Sentences.{macroblock-sentences}
 use Rattle.texture.specs.Answer.{after}
-use Rattle.texture.specs.Macroblock.{Parts, readMacroblock}
+use Rattle.texture.specs.Macroblock.{Parts}
+use Rattle.texture.specs.MacroblockReader.{readMacroblock}
 use Rattle.texture.specs.Reader.{Res, no, ok}
 use Rattle.texture.specs.declared.error.TextureParseError.{TextureParseError}
 use Rattle.block.specs.declared.context.MacroblockTextureContext.{MacroblockTextureContext}

@@ -12,13 +12,15 @@ use Rattle.coefficients.specs.declared.predictor.BlockPredictors.{BlockPredicto
 use Rattle.numbers.proofs.Fill.{getD-build}
 use Rattle.texture.proofs.Sentences.{block-sentences}
 use Rattle.texture.specs.Answer.{after}
-use Rattle.texture.specs.Compose.{readEach}
-use Rattle.texture.specs.Macroblock.{Parts, Place, placesOfPattern, readBlock, readMacroblock}
+use Rattle.texture.specs.ComposeReader.{readEach}
+use Rattle.texture.specs.Macroblock.{Parts, Place, placesOfPattern}
+use Rattle.texture.specs.MacroblockReader.{readBlock, readMacroblock}
 use Rattle.texture.specs.Reader.{Res, bind, no, ok}
 use Rattle.block.proofs.RowLaws.{rest-on}
 use Rattle.block.specs.Answer.{valuesIn}
 use Rattle.block.specs.Reading.{qfsOf}
-use Rattle.block.specs.Rows.{componentAt, rowsOf}
+use Rattle.codes.specs.Component.{componentAt}
+use Rattle.block.specs.Rows.{rowsOf}
 use Rattle.block.specs.Values.{levelsOf, valuesOf}
 use Rattle.block.specs.declared.context.MacroblockTextureContext.{MacroblockTextureContext}
 use Rattle.macroblock.specs.Answer.{valuesAlone}

@@ -14,7 +14,7 @@ use Rattle.ranges.specs.Range.{depthFine}
 use Rattle.block.proofs.AnswerLaws.{values-fine}
 use Rattle.block.proofs.SampleLaws.{samples-left}
 use Rattle.block.proofs.ValueLaws.{levels-left, quantiser-fine, values-left}
-use Rattle.block.specs.Rows.{componentAt}
+use Rattle.codes.specs.Component.{componentAt}
 use Rattle.block.specs.Values.{contextFine, samplesOf, valuesLeft}
 use Rattle.block.specs.declared.context.MacroblockTextureContext.{MacroblockTextureContext}
 use Rattle.macroblock.specs.Six.{blockAt, samplesLeftOfSix, samplesOfSix, valuesLeftOfSix, valuesOfSix}

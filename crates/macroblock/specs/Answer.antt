@@ -9,7 +9,8 @@ use Rattle.bits.specs.Bits.{bitsFrom}
 use Rattle.coefficients.specs.declared.predictor.BlockPredictors.{BlockPredictors}
 use Rattle.samples.specs.Samples.{samplesAfter}
 use Rattle.texture.specs.Answer.{after}
-use Rattle.texture.specs.Macroblock.{Parts, readMacroblock}
+use Rattle.texture.specs.Macroblock.{Parts}
+use Rattle.texture.specs.MacroblockReader.{readMacroblock}
 use Rattle.texture.specs.Reader.{Res, no, ok}
 use Rattle.block.specs.Answer.{firstBad, testsOf}
 use Rattle.block.specs.Rows.{rowsOf}

@@ -7,19 +7,19 @@ use Prim.Native.Nat.{ℕ, _<_}
 use lib.IntN.{ℤ, pos}
 use lib.ListN.{drop, getD, length}
 use Rattle.numbers.specs.Limit.{clampZ}
-use Rattle.bits.specs.Bits.{Bits, bitsFrom}
+use Rattle.bits.specs.Bits.{bitsFrom}
 use Rattle.idct.specs.Exact.{Near, exact}
-use Rattle.idct.specs.Limits.{highest}
+use Rattle.ranges.specs.Range.{highest}
 use Rattle.idct.specs.Transform.{whole}
 use Rattle.samples.specs.Samples.{placeOf}
-use Rattle.texture.specs.Event.{_▸_}
+use Rattle.texture.specs.Compose.{Begins}
 use Rattle.texture.specs.Macroblock.{GoodMacroblock, Parts, macroblockBits}
 use Rattle.block.specs.declared.context.MacroblockTextureContext.{MacroblockTextureContext}
 use Rattle.macroblock.specs.Six.{blockAt}
 
 -- the bits from the start to the end of the data begin with the sentence
-abbrev pub Begins : List ℕ → ℕ → Bool → Bool → List Bool → List Parts → Type 0
-Begins d at dcCoded rev pattern s = GoodMacroblock dcCoded rev pattern s × ((r : Bits) × (bitsFrom d at ≡ macroblockBits pattern s ▸ r))
+abbrev pub BeginsAt : List ℕ → ℕ → Bool → Bool → List Bool → List Parts → Type 0
+BeginsAt d at dcCoded rev pattern s = Begins (macroblockBits pattern) (GoodMacroblock dcCoded rev pattern) (bitsFrom d at) s
 
 -- the sample of row y, column u of block i: the limited whole number of the block's values, which is near the exact transform of the same values
 pub record Sample (x : MacroblockTextureContext) (f : List (List ℤ)) (after : List ℤ) (i y u : ℕ) : Type 0 where
@@ -29,12 +29,12 @@ pub record Sample (x : MacroblockTextureContext) (f : List (List ℤ)) (after : 
 -- `values` gives the six blocks' values of a sentence; `Accepted` says that the call was answered without a number, `Told n` that it reported n bits and the position n bits on; `before` and `after` are the lent samples
 pub record Demand3 (d : List ℕ) (at : ℕ) (dcCoded rev : Bool) (pattern : List Bool) (x : MacroblockTextureContext) (values : List Parts → List (List (List ℤ))) (Accepted : Type 0) (Told : ℕ → Type 0) (before after : List ℤ) : Type 0 where
   -- accepted exactly when the bits begin with a sentence for the pattern
-  pub exactly : Accepted ↔ ((s : List Parts) × Begins d at dcCoded rev pattern s)
+  pub exactly : Accepted ↔ ((s : List Parts) × BeginsAt d at dcCoded rev pattern s)
   -- never with two
-  pub never-two : (s t : List Parts) → Begins d at dcCoded rev pattern s → Begins d at dcCoded rev pattern t → s ≡ t
+  pub never-two : (s t : List Parts) → BeginsAt d at dcCoded rev pattern s → BeginsAt d at dcCoded rev pattern t → s ≡ t
   -- the length reported is the sentence's, and the position moves on by it
-  pub long : (s : List Parts) → Begins d at dcCoded rev pattern s → Told (length (macroblockBits pattern s))
+  pub long : (s : List Parts) → BeginsAt d at dcCoded rev pattern s → Told (length (macroblockBits pattern s))
   -- each of the 384 samples
-  pub samples : (s : List Parts) → Begins d at dcCoded rev pattern s → (i y u : ℕ) → i < 6 → y < 8 → u < 8 → Sample x (blockAt (values s) i) after i y u
+  pub samples : (s : List Parts) → BeginsAt d at dcCoded rev pattern s → (i y u : ℕ) → i < 6 → y < 8 → u < 8 → Sample x (blockAt (values s) i) after i y u
   -- a longer slice keeps its rest
-  pub rest : (s : List Parts) → Begins d at dcCoded rev pattern s → drop 384 after ≡ drop 384 before
+  pub rest : (s : List Parts) → BeginsAt d at dcCoded rev pattern s → drop 384 after ≡ drop 384 before

@@ -5,3 +5,4 @@ pub mod Demand
 pub mod Answer
 pub mod Alone
 pub mod InTurn
+pub mod Outcomes

@@ -4,9 +4,9 @@ use Prim.Native.Nat.{ℕ}
 use lib.IntN.{ℤ}
 use lib.ListN.{getD}
 use Rattle.numbers.specs.Grid.{build}
+use Rattle.codes.specs.Component.{componentAt}
 use Rattle.coefficients.specs.declared.predictor.BlockPredictors.{BlockPredictors}
-use Rattle.block.specs.Rows.{componentAt}
-use Rattle.block.specs.Values.{levelsLeft, levelsOf, samplesLeft, samplesOf, valuesLeft, valuesOf}
+use Rattle.block.specs.Values.{levelsOf, samplesOf, valuesOf}
 use Rattle.block.specs.declared.context.MacroblockTextureContext.{MacroblockTextureContext}
 
 -- block i of six
@@ -20,10 +20,3 @@ valuesOfSix x p w rows = build 6 (λ (i : ℕ). valuesOf (componentAt i) x w (le
 -- the samples of six blocks' values
 unfoldable pub samplesOfSix : MacroblockTextureContext → List (List (List ℤ)) → List (List (List ℤ))
 samplesOfSix x fs = build 6 (λ (i : ℕ). samplesOf x (blockAt fs i))
-
--- what the stages leave, also where one refuses
-unfoldable pub valuesLeftOfSix : MacroblockTextureContext → BlockPredictors → List (List ℕ) → List (List ℤ) → List (List (List ℤ))
-valuesLeftOfSix x p w rows = build 6 (λ (i : ℕ). valuesLeft (componentAt i) x w (levelsLeft (componentAt i) x p (getD rows i [])))
-
-unfoldable pub samplesLeftOfSix : MacroblockTextureContext → List (List (List ℤ)) → List (List (List ℤ))
-samplesLeftOfSix x fs = build 6 (λ (i : ℕ). samplesLeft x (blockAt fs i))

@@ -1,8 +1,11 @@
 // A macroblock out of bits into 384 samples.
 ghost use mathlib.Core.Path.{_≡_};
+ghost use Prim.Native.Nat.{_-_, _≤_};
 ghost use lib.ListN.{length};
+ghost use Rattle.samples.specs.Samples.{samplesAfter};
 ghost use Rattle.macroblock.specs.Answer.{macroblockAnswer, samplesOut, samplesTold, sentenceOf, stateOf, told};
 ghost use Rattle.macroblock.specs.Alone.{DemandAlone};
+ghost use Rattle.macroblock.specs.Outcomes.{macroblockDue, macroblockOutcome};
 ghost use Rattle.block.specs.declared.error.Checked.the-variants.{Fine};
 use crate::header::MacroblockHeader;
 use bits::Cursor;
@@ -10,6 +13,7 @@ use block::BlockAssemblyError;
 use block::Checked;
 use block::MacroblockTextureContext;
 use coefficients::BlockPredictors;
+use samples::Written;
 use texture::EventsRead;
 
 // The number of bits taken and the cursor after them, or a refusal.
@@ -38,6 +42,26 @@ fn check_state(
                 return Checked::Bad(BlockAssemblyError::TooShort);
             }
             crate::header::check_header(header)
+        }
+    }
+}
+
+// The samples of a macroblock that was read from `c` to `next`, and the bits between.
+fn written(
+    samples: &mut [i32],
+    blocks: [[[i32; 8]; 8]; 6],
+    c: Cursor,
+    next: Cursor,
+) -> MacroblockDecoded
+    requires { ⌜ (384 ≤ length (now samples)) × (c .«bit_pos» ≤ next .«bit_pos») ⌝ }
+    ensures { λ r. ⌜ (r ≡ MacroblockDecoded.Decoded (next .«bit_pos» - c .«bit_pos») next) × (now (samples .exit) ≡ samplesAfter blocks (now (samples .entry))) ⌝ }
+{
+    let answer = samples::write_macroblock(samples, blocks);
+    match answer {
+        Written::TooShort => MacroblockDecoded::Refused(BlockAssemblyError::TooShort),
+        Written::Done => {
+            let bits = next.bit_pos - c.bit_pos;
+            MacroblockDecoded::Decoded(bits, next)
         }
     }
 }
@@ -71,16 +95,17 @@ fn decode_checked(
     match answer {
         EventsRead::Refused(e) => MacroblockDecoded::Refused(BlockAssemblyError::Texture(e)),
         EventsRead::Read(next) => {
-            let values = crate::six::values_of_six(rows, ctx, predictors, w);
-            let blocks = crate::six::samples_of_six(values, ctx);
-            samples::write_macroblock(samples, blocks);
-            let bits = next.bit_pos - c.bit_pos;
-            MacroblockDecoded::Decoded(bits, next)
+            let mut blocks = [[[0i32; 8]; 8]; 6];
+            let rebuilt = crate::six::samples_of_six(rows, ctx, predictors, w, &mut blocks);
+            match rebuilt {
+                Checked::Bad(e) => MacroblockDecoded::Refused(e),
+                Checked::Fine => written(samples, blocks, c, next),
+            }
         }
     }
 }
 
-// A macroblock read alone. Demand 3 is the last clause.
+// A macroblock read alone: what is answered, what the samples hold, demand 3, and the answer by number.
 pub fn decode_intra_macroblock(
     data: &[u8],
     c: Cursor,
@@ -95,6 +120,7 @@ pub fn decode_intra_macroblock(
     ensures { λ r. ⌜ r ≡ macroblockAnswer (now («data» .entry)) (c .«bit_pos») header «use_intra_dc_vlc» «reversible_vlc» ctx predictors «quant_matrix» (now (samples .entry)) ⌝ }
     ensures samples { λ r. ⌜ now (samples .exit) ≡ samplesOut (now («data» .entry)) (c .«bit_pos») header «use_intra_dc_vlc» «reversible_vlc» ctx predictors «quant_matrix» (now (samples .entry)) ⌝ }
     ensures demand { λ r. ⌜ DemandAlone (now («data» .entry)) (c .«bit_pos») header «use_intra_dc_vlc» «reversible_vlc» ctx predictors «quant_matrix» (now (samples .entry)) r (now (samples .exit)) ⌝ }
+    ensures outcome { λ r. ⌜ macroblockOutcome r ≡ macroblockDue (now («data» .entry)) (c .«bit_pos») header «use_intra_dc_vlc» «reversible_vlc» ctx predictors «quant_matrix» (length (now (samples .entry))) ⌝ }
 {
     let room = samples.len();
     let checked = check_state(data, c, header, ctx, predictors, quant_matrix, room);

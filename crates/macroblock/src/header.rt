@@ -1,6 +1,8 @@
 // The header record of a macroblock (macroblock.rs).
 ghost use mathlib.Core.Path.{_≡_};
+ghost use Rattle.block.specs.Outcomes.{checkedOutcome};
 ghost use Rattle.macroblock.specs.Header.{headerCheck, isIntra};
+ghost use Rattle.macroblock.specs.Outcomes.{headerDue};
 use block::BlockAssemblyError;
 use block::Checked;
 
@@ -41,6 +43,7 @@ pub struct MacroblockHeader {
 // 9, then 10.
 pub fn check_header(header: MacroblockHeader) -> Checked
     ensures { λ r. ⌜ r ≡ headerCheck header ⌝ }
+    ensures outcome { λ r. ⌜ checkedOutcome r ≡ headerDue header ⌝ }
 {
     if header.not_coded {
         return Checked::Bad(BlockAssemblyError::NotCoded);

@@ -12,4 +12,3 @@ pub use decode::decode_intra_macroblock;
 pub use header::DerivedMbType;
 pub use header::MacroblockHeader;
 pub use header::check_header;
-pub use six::samples_of_six;

@@ -1,39 +1,43 @@
 // Six blocks from places to samples.
+ghost use mathlib.Core.Bool.{true};
+ghost use mathlib.Core.List.{[]};
 ghost use mathlib.Core.Path.{_≡_};
-ghost use Rattle.macroblock.specs.Six.{samplesLeftOfSix, valuesLeftOfSix};
+ghost use Prim.Native.Nat.{ℕ, _<_};
+ghost use lib.ListN.{getD, length};
+ghost use Rattle.coefficients.specs.Level.{placesFine, predictorsFine};
+ghost use Rattle.block.specs.Values.{contextFine};
+ghost use Rattle.block.specs.declared.error.Checked.the-variants.{Fine};
+ghost use Rattle.macroblock.specs.Six.{samplesOfSix, valuesOfSix};
+use block::BlockRebuilt;
+use block::Checked;
 use block::MacroblockTextureContext;
 use coefficients::BlockPredictors;
 
-// Levels and dequantised values of six blocks with the same predictors.
-pub(crate) fn values_of_six(
+// The samples of six blocks with the same predictors into `out`. The state is fine and the places are a sentence's, so
+// no block is refused.
+pub(crate) fn samples_of_six(
     rows: [[i32; 64]; 6],
     ctx: MacroblockTextureContext,
     predictors: BlockPredictors,
     w: [[u8; 8]; 8],
-) -> [[[i32; 8]; 8]; 6]
-    ensures { λ r. ⌜ r ≡ valuesLeftOfSix ctx predictors w rows ⌝ }
+    out: &mut [[[i32; 8]; 8]; 6],
+) -> Checked
+    requires { ⌜ (length (now out) ≡ 6) × (contextFine ctx w ≡ true) × (predictorsFine predictors ≡ true) × ((i : ℕ) → i < 6 → placesFine (getD rows i []) ≡ true) ⌝ }
+    ensures { λ r. ⌜ (r ≡ Fine) × (now (out .exit) ≡ samplesOfSix ctx (valuesOfSix ctx predictors w rows)) ⌝ }
 {
-    let mut out = [[[0i32; 8]; 8]; 6];
+    let mut spatial = [[0i32; 8]; 8];
+    let mut qf = [[0i32; 8]; 8];
     for i in 0..6 {
         let qfs = rows[i];
-        let component = block::component(i);
-        let qf = block::levels_of(qfs, component, ctx, predictors);
-        out[i] = block::values_of(qf, component, ctx, w);
+        let one = block::reconstruct_block(i, qfs, ctx, predictors, w, &mut spatial, &mut qf);
+        match one {
+            BlockRebuilt::Refused(e) => {
+                return Checked::Bad(e);
+            }
+            BlockRebuilt::Rebuilt(_) => {
+                out[i] = spatial;
+            }
+        }
     }
-    out
-}
-
-// The samples of six blocks' values; zeros where a value lies outside the depth's limits.
-pub fn samples_of_six(
-    values: [[[i32; 8]; 8]; 6],
-    ctx: MacroblockTextureContext,
-) -> [[[i32; 8]; 8]; 6]
-    ensures { λ r. ⌜ r ≡ samplesLeftOfSix ctx values ⌝ }
-{
-    let mut out = [[[0i32; 8]; 8]; 6];
-    for i in 0..6 {
-        let f = values[i];
-        out[i] = block::samples_of(f, ctx);
-    }
-    out
+    Checked::Fine
 }

@@ -1,4 +1,6 @@
 -- The laws of this crate, each file over those above it.
+pub mod OutcomeLaws
+pub mod RefusalLaws
 pub mod RecordLaws
 pub mod SideLaws
 pub mod SoundLaws

@@ -2,7 +2,7 @@
 use mathlib.Core.Bool.{Bool, true, false}
 use mathlib.Core.List.{List}
 use mathlib.Core.Path.{_≡_, refl, ap, sym, _∙_}
-use Prim.Native.Nat.{ℕ, _+_, _*_, _<_, _≤_}
+use Prim.Native.Nat.{ℕ, _+_, _*_, _<_}
 use native.Mathlib.Nat.{not-suc-le-zero}
 use native.Mathlib.Omega.{arith}
 use lib.Dec.{T, ltb}
@@ -11,15 +11,14 @@ use lib.ListN.{getD}
 use lib.Signed.{ltZ, nonNeg}
 use mir.Syntax.{w32}
 use mir.Val.{SFits, Fits}
-use borrow.Author.Tests.{ltb-true, lt-ltb, le-ltb}
+use borrow.Author.Tests.{ltb-true}
 use Rattle.numbers.specs.Every.{every}
 use Rattle.numbers.specs.Grid.{build}
 use Rattle.numbers.proofs.Every.{every-get, every-in, every-fails}
 use Rattle.numbers.proofs.Fill.{getD-build}
 use Rattle.numbers.proofs.Tests.{both-true}
-use Rattle.coefficients.specs.Prediction.{outsideOf}
 use Rattle.neighbours.specs.Record.{quantiserOf, recordAt, sevenFrom, knownOf}
-use Rattle.neighbours.specs.Neighbours.{Around, aSource, aBlock, bSource, bBlock, cSource, cBlock, sideOf, joinedBy, predictors, taken, sixBlocks}
+use Rattle.neighbours.specs.Neighbours.{Around, aSource, aBlock, bSource, bBlock, cSource, cBlock, sideOf, joinedBy, predictors, sixBlocks}
 use Rattle.neighbours.specs.declared.record.Side.{Side}
 use Rattle.neighbours.specs.declared.place.Source.{Source}
 use Rattle.neighbours.proofs.RecordLaws.{record-at, record-seven}
@@ -87,17 +86,10 @@ module _ (depth q : ℕ) (ar : Around) (own : List ℤ) where
   pub side-is : {s s′ : Source} {b b′ : ℕ} → s ≡ s′ → b ≡ b′ → sideOf depth q ar own s b ≡ sideOf depth q ar own s′ b′
   side-is e f = λ i. sideOf depth q ar own (e i) (f i)
 
-  pub taken-is : (i : ℕ) → i < 6 → taken depth q ar own i ≡ predictors depth q ar own i
-  taken-is i h = rw (lt-ltb i 6 h)
-
-  pub taken-of : (i : ℕ) {a c : Side} {b : ℤ}
-      → i < 6
+  pub predictors-of : (i : ℕ) {a c : Side} {b : ℤ}
       → a ≡ sideOf depth q ar own (aSource i) (aBlock i)
       → b ≡ sideOf depth q ar own (bSource i) (bBlock i) .dc
       → c ≡ sideOf depth q ar own (cSource i) (cBlock i)
-      → joinedBy a b c ≡ taken depth q ar own i
+      → joinedBy a b c ≡ predictors depth q ar own i
   unfolding predictors
-  taken-of i h e f g = (λ j. joinedBy (e j) (f j) (g j)) ∙ sym (taken-is i h)
-
-  pub none-taken : (i : ℕ) → 6 ≤ i → taken depth q ar own i ≡ outsideOf depth q
-  none-taken i h = rw (le-ltb i 6 h)
+  predictors-of i e f g = λ j. joinedBy (e j) (f j) (g j)

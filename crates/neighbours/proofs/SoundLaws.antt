@@ -10,7 +10,6 @@ use native.Mathlib.Omega.{arith}
 use lib.IntN.{ℤ, pos}
 use lib.ListN.{length, getD, replicate}
 use lib.Seq.{getD-set-other}
-use borrow.Author.Tests.{le-leb}
 use Rattle.numbers.specs.Every.{every}
 use Rattle.numbers.specs.Grid.{build, cell}
 use Rattle.numbers.proofs.Every.{every-in}
@@ -42,9 +41,9 @@ blank-zero q k h =
     getD-set-other (replicate 91 (pos 0)) 90 k _ (pos 0) (λ (e : k ≡ 90). omega arith)
     ∙ getD-build 91 (λ (j : ℕ). pos 0) k (pos 0) (omega arith)
 
-blank-quantiser : (q : ℕ) → q ≤ 31 → getD (blank q) 90 (pos 0) ≡ pos q
+blank-quantiser : (q : ℕ) → getD (blank q) 90 (pos 0) ≡ pos q
 unfolding blank
-blank-quantiser q h = rw (le-leb q 31 h)
+blank-quantiser q = refl
 
 pub blank-sound : (q : ℕ) → quantiserFine q ≡ true → Sound (blank q)
 blank-sound q e =
@@ -52,7 +51,7 @@ blank-sound q e =
       long = blank-length q;
       dcs = λ b h. ap dcFine (blank-zero q (15 * b) (omega arith));
       levels = λ b u h l k. ap levelFine (blank-zero q (15 * b + u) (omega arith));
-      quantiser = ap (λ (z : ℤ). quantiserFine (quantiserOf z)) (blank-quantiser q (quantiser-range q e .1)) ∙ e;
+      quantiser = ap (λ (z : ℤ). quantiserFine (quantiserOf z)) (blank-quantiser q) ∙ e;
     }
 
 -- ---- a record with a block put in

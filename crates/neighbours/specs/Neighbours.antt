@@ -1,14 +1,12 @@
 -- Which block of which macroblock is A, B and C of a block (Figure 7-5); what a block takes of them; and refusal 13. Definitions only.
-use mathlib.Core.Bool.{Bool, true, false, cond}
+use mathlib.Core.Bool.{Bool, false, true}
 use mathlib.Core.List.{List, [], _∷_}
 use mathlib.Core.Option.{Option, none, some}
 use Prim.Native.Nat.{ℕ}
-use lib.Dec.{ltb}
 use lib.ListN.{getD}
 use lib.IntN.{ℤ}
 use Rattle.numbers.specs.Every.{every}
 use Rattle.coefficients.specs.Level.{predictorsFine}
-use Rattle.coefficients.specs.Prediction.{outsideOf}
 use Rattle.coefficients.specs.declared.predictor.BlockPredictors.{BlockPredictors}
 use Rattle.neighbours.specs.Record.{recordAt, knownOf, missingOf}
 use Rattle.neighbours.specs.declared.record.Side.{Side}
@@ -83,10 +81,6 @@ predictors depth q ar own i =
     joined (sideOf depth q ar own (aSource i) (aBlock i))
     (sideOf depth q ar own (bSource i) (bBlock i))
     (sideOf depth q ar own (cSource i) (cBlock i))
-
--- the same for any index: from 6 on there is no block, and no neighbour
-abbrev pub taken : ℕ → ℕ → Around → List ℤ → ℕ → BlockPredictors
-taken depth q ar own i = cond (ltb i 6) (predictors depth q ar own i) (outsideOf depth q)
 
 -- the three records, out of the store
 abbrev pub aroundBy : Place → List ℤ → Around

@@ -38,9 +38,9 @@ knownOf r b =
 abbrev pub missingOf : ℕ → ℕ → Side
 missingOf depth q = record { has = false; dc = defaultDc (min depth 12); qp = q; row = replicate 7 (pos 0); column = replicate 7 (pos 0) }
 
--- the record before its first block: the present quantiser. One above 31, which 12 refuses, is kept as 0.
+-- the record before its first block: the present quantiser
 unfoldable pub blank : ℕ → List ℤ
-blank q = set (replicate 91 (pos 0)) 90 (pos (cond (leb q 31) q 0))
+blank q = set (replicate 91 (pos 0)) 90 (pos q)
 
 -- what is kept of a block: its dequantised DC, the first row of its levels from column 1 on, the first column from row 1 on
 abbrev pub keptOf : ℤ → List (List ℤ) → ℕ → ℤ

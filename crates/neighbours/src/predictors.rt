@@ -1,11 +1,19 @@
 // What each block takes of its neighbours, and refusal 13.
 ghost use mathlib.Core.Path.{_≡_};
+ghost use mathlib.Core.Bool.{cond, true, _&&_};
+ghost use mathlib.Core.List.{[], _∷_};
 ghost use Prim.Native.Nat.{_<_};
+ghost use lib.Dec.{ltb};
+ghost use Rattle.ranges.specs.Range.{depthFine, quantiserFine};
 ghost use Rattle.neighbours.specs.Record.{missingOf, recordAt};
-ghost use Rattle.neighbours.specs.Neighbours.{aroundBy, joinedBy, neighboursFine, sideOf, taken};
+ghost use Rattle.coefficients.specs.Prediction.{outsideOf};
+ghost use Rattle.neighbours.specs.Neighbours.{aroundBy, joinedBy, neighboursFine, predictors, sideOf};
+ghost use Rattle.neighbours.specs.Refusals.{firstBad, lies, placeLies, recordedOutcome, takenDue, takenTests, unless};
 use crate::place::Place;
 use crate::place::Source;
 use crate::record::Side;
+use crate::refusal::RecordError;
+use crate::refusal::Recorded;
 use coefficients::BlockPredictors;
 
 // Block `b` of a source.
@@ -98,35 +106,110 @@ fn join(a: Side, fb_dc: i32, c: Side) -> BlockPredictors
     }
 }
 
-// What block `i` takes, out of the store and the macroblock's own record so far. From 6 on there is no block, and nothing is taken.
-pub fn block_predictors(store: &[i32], own: &[i32], p: Place, i: usize) -> BlockPredictors
-    ensures { λ r. ⌜ r ≡ taken (p .«bits_per_pixel») (p .«quantiser_scale») (aroundBy p (now (store .entry))) (recordAt (now (own .entry)) 0) i ⌝ }
+// What block `i` of six takes, out of the store and the macroblock's own record so far.
+fn taken_by(store: &[i32], own: &[i32], p: Place, i: usize) -> BlockPredictors
+    requires { ⌜ i < 6 ⌝ }
+    ensures { λ r. ⌜ r ≡ predictors (p .«bits_per_pixel») (p .«quantiser_scale») (aroundBy p (now (store .entry))) (recordAt (now (own .entry)) 0) i ⌝ }
 {
-    if i < 6 {
-        let a = neighbour(
-            store,
-            own,
-            p,
-            crate::place::a_source(i),
-            crate::place::a_block(i),
-        );
-        let b = neighbour_dc(
-            store,
-            own,
-            p,
-            crate::place::b_source(i),
-            crate::place::b_block(i),
-        );
-        let c = neighbour(
-            store,
-            own,
-            p,
-            crate::place::c_source(i),
-            crate::place::c_block(i),
-        );
-        return join(a, b, c);
+    let a = neighbour(
+        store,
+        own,
+        p,
+        crate::place::a_source(i),
+        crate::place::a_block(i),
+    );
+    let b = neighbour_dc(
+        store,
+        own,
+        p,
+        crate::place::b_source(i),
+        crate::place::b_block(i),
+    );
+    let c = neighbour(
+        store,
+        own,
+        p,
+        crate::place::c_source(i),
+        crate::place::c_block(i),
+    );
+    join(a, b, c)
+}
+
+// Whether a record at a place, where it is there, lies in a store of `stored` numbers.
+fn lies_if(there: bool, stored: usize, at: u32) -> bool
+    ensures { λ r. ⌜ r ≡ cond there (lies stored at) true ⌝ }
+{
+    if !there {
+        return true;
     }
-    BlockPredictors::outside(p.bits_per_pixel, p.quantiser_scale)
+    at as usize + 91 <= stored
+}
+
+// Whether the records around the macroblock that is due do.
+fn place_lies(stored: usize, p: Place) -> bool
+    ensures { λ r. ⌜ r ≡ placeLies stored p ⌝ }
+{
+    if !lies_if(p.has_left, stored, p.left) {
+        return false;
+    }
+    if !lies_if(p.has_above_left, stored, p.above_left) {
+        return false;
+    }
+    lies_if(p.has_above, stored, p.above)
+}
+
+// 11, 12, 14.
+fn check_taken(stored: usize, owned: usize, p: Place, i: usize) -> Recorded
+    ensures { λ r. ⌜ r ≡ firstBad ((ltb i 6, RecordError.OutOfRange) ∷ (quantiserFine (p .«quantiser_scale») && depthFine (p .«bits_per_pixel»), RecordError.Context) ∷ (placeLies stored p && lies owned 0, RecordError.TooShort) ∷ []) ⌝ }
+{
+    if 6 <= i {
+        return Recorded::Refused(RecordError::OutOfRange);
+    }
+    if !ranges::Quantiser::fine(p.quantiser_scale) {
+        return Recorded::Refused(RecordError::Context);
+    }
+    if !ranges::Depth::fine(p.bits_per_pixel) {
+        return Recorded::Refused(RecordError::Context);
+    }
+    if !place_lies(stored, p) {
+        return Recorded::Refused(RecordError::TooShort);
+    }
+    if owned < 91 {
+        return Recorded::Refused(RecordError::TooShort);
+    }
+    Recorded::Done
+}
+
+// What a block takes; beside a refusal, what it would take with all neighbours missing.
+pub struct Taken {
+    pub answer: Recorded,
+    pub predictors: BlockPredictors,
+}
+
+// What block `i` takes, out of the store and the macroblock's own record so far; or 11, 12, 14.
+pub fn block_predictors(store: &[i32], own: &[i32], p: Place, i: usize) -> Taken
+    ensures { λ r. ⌜ (r .answer ≡ firstBad (takenTests (now (store .entry)) (now (own .entry)) p i)) × (r .predictors ≡ unless (firstBad (takenTests (now (store .entry)) (now (own .entry)) p i)) (predictors (p .«bits_per_pixel») (p .«quantiser_scale») (aroundBy p (now (store .entry))) (recordAt (now (own .entry)) 0) i) (outsideOf (p .«bits_per_pixel») (p .«quantiser_scale»))) ⌝ }
+    ensures outcome { λ r. ⌜ recordedOutcome (r .answer) ≡ takenDue (now (store .entry)) (now (own .entry)) p i ⌝ }
+{
+    let answer = check_taken(store.len(), own.len(), p, i);
+    match answer {
+        Recorded::Refused(e) => {
+            let predictors = BlockPredictors::outside(p.bits_per_pixel, p.quantiser_scale);
+            let why = Recorded::Refused(e);
+            Taken {
+                answer: why,
+                predictors,
+            }
+        }
+        Recorded::Done => {
+            let predictors = taken_by(store, own, p, i);
+            let fine = Recorded::Done;
+            Taken {
+                answer: fine,
+                predictors,
+            }
+        }
+    }
 }
 
 // Refusal 13: whether the stored numbers that the six blocks take are in range.
@@ -134,7 +217,7 @@ pub fn neighbours_fine(store: &[i32], own: &[i32], p: Place) -> bool
     ensures { λ r. ⌜ r ≡ neighboursFine (p .«bits_per_pixel») (p .«quantiser_scale») (aroundBy p (now (store .entry))) (recordAt (now (own .entry)) 0) ⌝ }
 {
     for i in 0..6 {
-        let taken = block_predictors(store, own, p, i);
+        let taken = taken_by(store, own, p, i);
         if !coefficients::predictors_fine(taken) {
             return false;
         }

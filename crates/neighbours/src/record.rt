@@ -1,9 +1,12 @@
 // The record that is kept of a macroblock, and a block of it as a neighbour.
 ghost use mathlib.Core.Path.{_≡_};
-ghost use Prim.Native.Nat.{_+_, _<_, _≤_};
-ghost use lib.ListN.{getD, length};
+ghost use Prim.Native.Nat.{_<_, _≤_};
+ghost use lib.ListN.{getD};
 ghost use lib.IntN.{pos};
+ghost use Rattle.neighbours.specs.Refusals.{blockDue, blockTests, firstBad, quantiserDue, quantiserTests, recordedOutcome, unless};
 ghost use Rattle.neighbours.specs.Record.{blank, fifteen, keptOf, knownOf, missingOf, quantiserOf, recordAt, sevenFrom, withBlock};
+use crate::refusal::RecordError;
+use crate::refusal::Recorded;
 use coefficients::BlockPredictors;
 
 // What a block takes of one neighbour; `has` is false outside the picture.
@@ -34,27 +37,18 @@ fn number(s: &[i32], at: usize) -> i32
     0
 }
 
-// The seven numbers from `at` on, where they are there.
-fn seven_in(s: &[i32], at: usize) -> [i32; 7]
-    requires { ⌜ (at ≤ 8589934592) × (at + 7 ≤ length (now s)) ⌝ }
-    ensures { λ r. ⌜ r ≡ sevenFrom (now (s .entry)) at ⌝ }
-{
-    let mut out = [0i32; 7];
-    for k in 0..7 {
-        out[k] = s[at + k];
-    }
-    out
-}
-
-// The seven numbers from `at` on, 0 past the store's end.
+// The seven numbers from `at` on, 0 past the store's end; all at once where they are there.
 fn seven(s: &[i32], at: usize) -> [i32; 7]
     requires { ⌜ at ≤ 8589934592 ⌝ }
     ensures { λ r. ⌜ r ≡ sevenFrom (now (s .entry)) at ⌝ }
 {
-    if at + 7 <= s.len() {
-        return seven_in(s, at);
-    }
     let mut out = [0i32; 7];
+    if at + 7 <= s.len() {
+        for k in 0..7 {
+            out[k] = s[at + k];
+        }
+        return out;
+    }
     for k in 0..7 {
         out[k] = number(s, at + k);
     }
@@ -102,15 +96,18 @@ pub(crate) fn missing(bits_per_pixel: u32, quantiser_scale: u32) -> Side
     }
 }
 
-// The record before its first block.
-pub fn new_record(quantiser_scale: u32) -> [i32; 91]
-    ensures { λ r. ⌜ r ≡ blank «quantiser_scale» ⌝ }
+// The record before its first block into `own`; or 12, and `own` as it was.
+pub fn new_record(quantiser_scale: u32, own: &mut [i32; 91]) -> Recorded
+    ensures { λ r. ⌜ (r ≡ firstBad (quantiserTests «quantiser_scale»)) × (now (own .exit) ≡ unless (firstBad (quantiserTests «quantiser_scale»)) (blank «quantiser_scale») (now (own .entry))) ⌝ }
+    ensures outcome { λ r. ⌜ recordedOutcome r ≡ quantiserDue «quantiser_scale» ⌝ }
 {
-    let mut own = [0i32; 91];
-    if quantiser_scale <= 31 {
-        own[90] = quantiser_scale as i32;
+    if !ranges::Quantiser::fine(quantiser_scale) {
+        return Recorded::Refused(RecordError::Context);
     }
-    own
+    let mut fresh = [0i32; 91];
+    fresh[90] = quantiser_scale as i32;
+    *own = fresh;
+    Recorded::Done
 }
 
 // Number `u` of the fifteen that are kept of a block.
@@ -137,16 +134,28 @@ fn kept_numbers(dc: i32, qf: [[i32; 8]; 8]) -> [i32; 15]
     out
 }
 
-// The record with block `i` put in.
-pub fn with_block(own: [i32; 91], i: usize, dc: i32, qf: [[i32; 8]; 8]) -> [i32; 91]
+// A record with block `i` of six put in.
+fn put_block(own: [i32; 91], i: usize, dc: i32, qf: [[i32; 8]; 8]) -> [i32; 91]
+    requires { ⌜ i < 6 ⌝ }
     ensures { λ r. ⌜ r ≡ withBlock own i dc qf ⌝ }
 {
     let mut out = own;
-    if i < 6 {
-        let numbers = kept_numbers(dc, qf);
-        for k in 0..15 {
-            out[15 * i + k] = numbers[k];
-        }
+    let numbers = kept_numbers(dc, qf);
+    for k in 0..15 {
+        out[15 * i + k] = numbers[k];
     }
     out
+}
+
+// Block `i` into the record `own`; or 11, and `own` as it was.
+pub fn with_block(own: &mut [i32; 91], i: usize, dc: i32, qf: [[i32; 8]; 8]) -> Recorded
+    ensures { λ r. ⌜ (r ≡ firstBad (blockTests i)) × (now (own .exit) ≡ unless (firstBad (blockTests i)) (withBlock (now (own .entry)) i dc qf) (now (own .entry))) ⌝ }
+    ensures outcome { λ r. ⌜ recordedOutcome r ≡ blockDue i ⌝ }
+{
+    if 6 <= i {
+        return Recorded::Refused(RecordError::OutOfRange);
+    }
+    let old = *own;
+    *own = put_block(old, i, dc, qf);
+    Recorded::Done
 }

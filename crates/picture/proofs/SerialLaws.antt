@@ -20,7 +20,7 @@ use Rattle.numbers.specs.Grid.{build, cell}
 use Rattle.ranges.specs.Range.{levelFine}
 use Rattle.block.proofs.AnswerLaws.{values-fine, values-small}
 use Rattle.block.proofs.ValueLaws.{depth-fine, levels-left, quantiser-fine, values-left}
-use Rattle.block.specs.Rows.{componentAt}
+use Rattle.codes.specs.Component.{componentAt}
 use Rattle.block.specs.Values.{contextFine, levelsLeft, valuesLeft}
 use Rattle.block.specs.declared.context.MacroblockTextureContext.{MacroblockTextureContext}
 use Rattle.neighbours.proofs.RecordLaws.{known-other, known-own, quantiser-at, record-whole}

@@ -40,10 +40,6 @@ pub record Input : Type 0 where
 abbrev pub given : List ℕ → ℕ → MacroblockHeader → MacroblockContext → List (List ℕ) → List ℤ → Input
 given d at h m w s = record { bytes = d; start = at; header = h; context = m; matrix = w; samples = s }
 
--- what the reader makes of the bits
-abbrev pub sentenceBy : List ℕ → ℕ → MacroblockHeader → Bool → Bool → Res (List Parts)
-sentenceBy d at h dcCoded rev = sentenceOf d at h dcCoded rev
-
 -- the dequantised values of a sentence, each block with its own neighbours
 abbrev pub valuesHere : MacroblockHeader → Bool → MacroblockTextureContext → List (List ℕ) → Around → List Parts → List (List (List ℤ))
 valuesHere h dcCoded x w ar s = valuesInTurn x w ar (rowsOf dcCoded (patternBy h) s)
@@ -77,7 +73,7 @@ module _ (p : Picture) (x : Input) where
   contextHere = contextOf p (x .context)
 
   abbrev pub sentenceHere : Res (List Parts)
-  sentenceHere = sentenceBy (x .bytes) (x .start) (x .header) (x .context .«use_intra_dc_vlc») (x .context .«reversible_vlc»)
+  sentenceHere = sentenceOf (x .bytes) (x .start) (x .header) (x .context .«use_intra_dc_vlc») (x .context .«reversible_vlc»)
 
   abbrev pub answerWith : Checked → PictureDecoded
   answerWith s = answerBy s (answerTold p (x .bytes) (x .start) sentenceHere)

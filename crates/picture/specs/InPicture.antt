@@ -7,7 +7,7 @@ use Rattle.bits.specs.Cursor.{cursorAt}
 use Rattle.texture.specs.Macroblock.{Parts}
 use Rattle.block.specs.Rows.{rowsOf}
 use Rattle.block.specs.declared.error.Checked.the-variants.{Fine}
-use Rattle.macroblock.specs.Demand.{Begins, Demand3}
+use Rattle.macroblock.specs.Demand.{BeginsAt, Demand3}
 use Rattle.macroblock.specs.Header.{patternBy}
 use Rattle.neighbours.specs.Record.{knownOf, recordAt}
 use Rattle.neighbours.specs.declared.record.Side.{Side}
@@ -30,7 +30,7 @@ Told p at r n = r ≡ Decoded n (cursorAt (at + n)) (onward p)
 
 module _ (p : Picture) (x : Input) (before : List ℤ) where
   abbrev pub Begun : List Parts → Type 0
-  Begun s = Begins (x .bytes) (x .start) (x .context .«use_intra_dc_vlc») (x .context .«reversible_vlc») (patternBy (x .header)) s
+  Begun s = BeginsAt (x .bytes) (x .start) (x .context .«use_intra_dc_vlc») (x .context .«reversible_vlc») (patternBy (x .header)) s
 
   -- what is kept of block i of a sentence
   abbrev pub kept : List Parts → ℕ → Side

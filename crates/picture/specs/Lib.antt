@@ -5,3 +5,4 @@ pub mod Serial
 pub mod State
 pub mod Call
 pub mod InPicture
+pub mod Outcomes

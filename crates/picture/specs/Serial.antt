@@ -5,7 +5,7 @@ use Prim.Native.Nat.{ℕ, suc, zero, _+_}
 use lib.IntN.{ℤ}
 use lib.ListN.{getD}
 use Rattle.numbers.specs.Grid.{build, cell}
-use Rattle.block.specs.Rows.{componentAt}
+use Rattle.codes.specs.Component.{componentAt}
 use Rattle.block.specs.Values.{levelsOf, valuesOf}
 use Rattle.block.specs.declared.context.MacroblockTextureContext.{MacroblockTextureContext}
 use Rattle.neighbours.specs.Neighbours.{Around, predictors}

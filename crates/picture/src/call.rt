@@ -1,11 +1,17 @@
 // One call: the macroblock that is due.
 ghost use mathlib.Core.Path.{_≡_};
+ghost use Prim.Native.Nat.{_*_, _-_, _<_, _≤_};
 ghost use lib.ListN.{length};
+ghost use Rattle.samples.specs.Samples.{samplesAfter};
+ghost use Rattle.neighbours.specs.Record.{storedAt};
+ghost use Rattle.picture.specs.Picture.{onward};
 ghost use Rattle.block.specs.declared.error.Checked.the-variants.{Fine};
-ghost use Rattle.picture.specs.Ring.{aroundDue};
+ghost use Rattle.picture.specs.Ring.{aroundDue, offset};
 ghost use Rattle.picture.specs.State.{stateBy};
-ghost use Rattle.picture.specs.Call.{answerOut, answerTold, given, samplesOut, samplesTold, sentenceBy, storeOut, storeTold};
+ghost use Rattle.picture.specs.Call.{answerOut, answerTold, given, samplesOut, samplesTold, storeOut, storeTold};
+ghost use Rattle.macroblock.specs.Answer.{sentenceOf};
 ghost use Rattle.picture.specs.InPicture.{DemandInPicture};
+ghost use Rattle.picture.specs.Outcomes.{callDue, pictureOutcome};
 use crate::picture::MacroblockContext;
 use crate::picture::Picture;
 use bits::Cursor;
@@ -13,12 +19,48 @@ use block::BlockAssemblyError;
 use block::Checked;
 use block::MacroblockTextureContext;
 use macroblock::MacroblockHeader;
+use neighbours::Recorded;
+use samples::Written;
 use texture::EventsRead;
 
 // The number of bits taken, the cursor after them and the picture with one more accepted; or a refusal.
 pub enum PictureDecoded {
     Decoded(usize, Cursor, Picture),
     Refused(BlockAssemblyError),
+}
+
+// The samples and the record of a macroblock that was read from `c` to `next`, and the picture with one more accepted.
+fn kept(
+    p: Picture,
+    samples: &mut [i32],
+    store: &mut [i32],
+    blocks: [[[i32; 8]; 8]; 6],
+    own: [i32; 91],
+    c: Cursor,
+    next: Cursor,
+) -> PictureDecoded
+    requires { ⌜ (384 ≤ length (now samples)) × (192 * p .width ≤ length (now store)) × (1 ≤ p .width) × (p .width ≤ 45) × (p .accepted < 1620) × (c .«bit_pos» ≤ next .«bit_pos») ⌝ }
+    ensures { λ r. ⌜ r ≡ PictureDecoded.Decoded (next .«bit_pos» - c .«bit_pos») next (onward p) ⌝ }
+    ensures samples { λ r. ⌜ now (samples .exit) ≡ samplesAfter blocks (now (samples .entry)) ⌝ }
+    ensures store { λ r. ⌜ now (store .exit) ≡ storedAt (now (store .entry)) (offset (p .width) (p .accepted) 0) own ⌝ }
+{
+    let answer = samples::write_macroblock(samples, blocks);
+    match answer {
+        Written::TooShort => PictureDecoded::Refused(BlockAssemblyError::TooShort),
+        Written::Done => {
+            let at = crate::ring::offset_of(p.width, p.accepted, 0);
+            let put = neighbours::put_record(store, at, own);
+            match put {
+                Recorded::Refused(_) => PictureDecoded::Refused(BlockAssemblyError::TooShort),
+                Recorded::Done => {
+                    let mut onward = p;
+                    onward.accepted = p.accepted + 1;
+                    let bits = next.bit_pos - c.bit_pos;
+                    PictureDecoded::Decoded(bits, next, onward)
+                }
+            }
+        }
+    }
 }
 
 // Once the state is checked: all bits first, then the samples, then the record.
@@ -35,9 +77,9 @@ fn decode_checked(
     store: &mut [i32],
 ) -> PictureDecoded
     requires { ⌜ (stateBy p (now «data») (c .«bit_pos») header ctx w (length (now samples)) (length (now store)) (aroundDue p (ctx .«quantiser_scale») (now store)) ≡ Fine) × (ctx .«bits_per_pixel» ≡ p .«bits_per_pixel») ⌝ }
-    ensures { λ r. ⌜ r ≡ answerTold p (now («data» .entry)) (c .«bit_pos») (sentenceBy (now («data» .entry)) (c .«bit_pos») header «use_intra_dc_vlc» «reversible_vlc») ⌝ }
-    ensures samples { λ r. ⌜ now (samples .exit) ≡ samplesTold header «use_intra_dc_vlc» ctx w (aroundDue p (ctx .«quantiser_scale») (now (store .entry))) (sentenceBy (now («data» .entry)) (c .«bit_pos») header «use_intra_dc_vlc» «reversible_vlc») (now (samples .entry)) ⌝ }
-    ensures store { λ r. ⌜ now (store .exit) ≡ storeTold p header «use_intra_dc_vlc» ctx w (aroundDue p (ctx .«quantiser_scale») (now (store .entry))) (sentenceBy (now («data» .entry)) (c .«bit_pos») header «use_intra_dc_vlc» «reversible_vlc») (now (store .entry)) ⌝ }
+    ensures { λ r. ⌜ r ≡ answerTold p (now («data» .entry)) (c .«bit_pos») (sentenceOf (now («data» .entry)) (c .«bit_pos») header «use_intra_dc_vlc» «reversible_vlc») ⌝ }
+    ensures samples { λ r. ⌜ now (samples .exit) ≡ samplesTold header «use_intra_dc_vlc» ctx w (aroundDue p (ctx .«quantiser_scale») (now (store .entry))) (sentenceOf (now («data» .entry)) (c .«bit_pos») header «use_intra_dc_vlc» «reversible_vlc») (now (samples .entry)) ⌝ }
+    ensures store { λ r. ⌜ now (store .exit) ≡ storeTold p header «use_intra_dc_vlc» ctx w (aroundDue p (ctx .«quantiser_scale») (now (store .entry))) (sentenceOf (now («data» .entry)) (c .«bit_pos») header «use_intra_dc_vlc» «reversible_vlc») (now (store .entry)) ⌝ }
 {
     let pattern = block::pattern_code(header.cbpy, header.cbpc);
     let mut rows = [[0i32; 64]; 6];
@@ -53,21 +95,26 @@ fn decode_checked(
         EventsRead::Refused(e) => PictureDecoded::Refused(BlockAssemblyError::Texture(e)),
         EventsRead::Read(next) => {
             let place = crate::ring::place_of(p, ctx.quantiser_scale);
-            let mut values = [[[0i32; 8]; 8]; 6];
-            let own = crate::reconstruct::reconstruct(&*store, place, rows, ctx, w, &mut values);
-            let blocks = macroblock::samples_of_six(values, ctx);
-            samples::write_macroblock(samples, blocks);
-            let at = crate::ring::offset_of(p.width, p.accepted, 0);
-            neighbours::put_record(store, at, own);
-            let mut onward = p;
-            onward.accepted = p.accepted + 1;
-            let bits = next.bit_pos - c.bit_pos;
-            PictureDecoded::Decoded(bits, next, onward)
+            let mut blocks = [[[0i32; 8]; 8]; 6];
+            let mut own = [0i32; 91];
+            let rebuilt = crate::reconstruct::reconstruct(
+                &*store,
+                place,
+                rows,
+                ctx,
+                w,
+                &mut own,
+                &mut blocks,
+            );
+            match rebuilt {
+                Checked::Bad(e) => PictureDecoded::Refused(e),
+                Checked::Fine => kept(p, samples, store, blocks, own, c, next),
+            }
         }
     }
 }
 
-// The macroblock that is due. Demand 3 is the last clause.
+// The macroblock that is due: what is answered, what samples and store hold, demand 3, and the answer by number.
 pub fn decode_macroblock(
     p: Picture,
     data: &[u8],
@@ -82,6 +129,7 @@ pub fn decode_macroblock(
     ensures samples { λ r. ⌜ now (samples .exit) ≡ samplesOut p (given (now («data» .entry)) (c .«bit_pos») header m «quant_matrix» (now (samples .entry))) (now (store .entry)) ⌝ }
     ensures store { λ r. ⌜ now (store .exit) ≡ storeOut p (given (now («data» .entry)) (c .«bit_pos») header m «quant_matrix» (now (samples .entry))) (now (store .entry)) ⌝ }
     ensures demand { λ r. ⌜ DemandInPicture p (given (now («data» .entry)) (c .«bit_pos») header m «quant_matrix» (now (samples .entry))) (now (store .entry)) r (now (samples .exit)) (now (store .exit)) ⌝ }
+    ensures outcome { λ r. ⌜ pictureOutcome r ≡ callDue p (given (now («data» .entry)) (c .«bit_pos») header m «quant_matrix» (now (samples .entry))) (now (store .entry)) ⌝ }
 {
     let ctx = crate::picture::texture_context(p, m);
     let room = samples.len();

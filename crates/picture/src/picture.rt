@@ -1,5 +1,6 @@
 // A picture that is being decoded, its opening, and what each call brings.
 ghost use mathlib.Core.Path.{_≡_};
+ghost use Rattle.picture.specs.Outcomes.{openDue, openedOutcome};
 ghost use Rattle.picture.specs.Picture.{contextOf, openOf, sizeFine};
 use block::BlockAssemblyError;
 use block::MacroblockTextureContext;
@@ -40,6 +41,7 @@ impl Picture {
     // A picture with nothing decoded: 11 or 12 where there is none.
     pub fn open(width: u32, height: u32, bits_per_pixel: u32, quant_type: bool) -> PictureOpened
         ensures { λ r. ⌜ r ≡ openOf width height «bits_per_pixel» «quant_type» ⌝ }
+        ensures outcome { λ r. ⌜ openedOutcome r ≡ openDue width height «bits_per_pixel» «quant_type» ⌝ }
     {
         if !size_fine(width, height) {
             return PictureOpened::Refused(BlockAssemblyError::OutOfRange);

@@ -1,39 +1,98 @@
 // Six blocks, one after the other, each with its own neighbours.
 ghost use mathlib.Core.Bool.{true};
+ghost use mathlib.Core.List.{[]};
 ghost use mathlib.Core.Path.{_≡_};
 ghost use Prim.Native.Nat.{ℕ, _<_};
 ghost use lib.ListN.{getD, length};
-ghost use mathlib.Core.List.{[]};
-ghost use Rattle.coefficients.specs.Level.{placesFine};
-ghost use Rattle.block.specs.Values.{contextFine};
-ghost use Rattle.neighbours.specs.Neighbours.{aroundBy, neighboursFine};
-ghost use Rattle.neighbours.specs.Record.{blank};
-ghost use Rattle.picture.specs.Serial.{recordOf, valuesInTurn};
+ghost use Rattle.coefficients.specs.Level.{placesFine, predictorsFine};
+ghost use Rattle.numbers.specs.Grid.{cell};
+ghost use Rattle.block.specs.Values.{contextFine, samplesOf};
+ghost use Rattle.block.specs.declared.error.Checked.the-variants.{Fine};
+ghost use Rattle.macroblock.specs.Six.{samplesOfSix};
+ghost use Rattle.neighbours.specs.Neighbours.{aroundBy, neighboursFine, predictors};
+ghost use Rattle.neighbours.specs.Record.{blank, recordAt, withBlock};
+ghost use Rattle.neighbours.specs.Refusals.{placeLies};
+ghost use Rattle.picture.specs.Serial.{levelsAt, recordOf, valuesAt, valuesInTurn};
+use block::BlockAssemblyError;
+use block::BlockRebuilt;
+use block::Checked;
 use block::MacroblockTextureContext;
 use neighbours::Place;
+use neighbours::Recorded;
 
-// The record that is kept of the macroblock; its dequantised values into `values`.
+// Block `i`: its samples into `spatial`, and what is kept of it into the record `own`. The state is fine and the places
+// are a sentence's, so nothing is refused.
+fn one_block(
+    store: &[i32],
+    place: Place,
+    rows: [[i32; 64]; 6],
+    ctx: MacroblockTextureContext,
+    w: [[u8; 8]; 8],
+    i: usize,
+    own: &mut [i32; 91],
+    spatial: &mut [[i32; 8]; 8],
+) -> Checked
+    requires { ⌜ (i < 6) × (length (now own) ≡ 91) × (contextFine ctx w ≡ true) × (place .«bits_per_pixel» ≡ ctx .«bits_per_pixel») × (place .«quantiser_scale» ≡ ctx .«quantiser_scale») × (placeLies (length (now store)) place ≡ true) × (predictorsFine (predictors (ctx .«bits_per_pixel») (ctx .«quantiser_scale») (aroundBy place (now store)) (now own) i) ≡ true) × (placesFine (getD rows i []) ≡ true) ⌝ }
+    ensures { λ r. ⌜ r ≡ Fine ⌝ }
+    ensures record { λ r. ⌜ now (own .exit) ≡ withBlock (now (own .entry)) i (cell (valuesAt ctx w (aroundBy place (now (store .entry))) rows (now (own .entry)) i) 0 0) (levelsAt ctx w (aroundBy place (now (store .entry))) rows (now (own .entry)) i) ⌝ }
+    ensures samples { λ r. ⌜ now (spatial .exit) ≡ samplesOf ctx (valuesAt ctx w (aroundBy place (now (store .entry))) rows (now (own .entry)) i) ⌝ }
+{
+    let before = *own;
+    let taken = neighbours::block_predictors(store, &before, place, i);
+    let found = taken.answer;
+    match found {
+        Recorded::Refused(_) => Checked::Bad(BlockAssemblyError::TooShort),
+        Recorded::Done => {
+            let predictors = taken.predictors;
+            let qfs = rows[i];
+            let mut qf = [[0i32; 8]; 8];
+            let one = block::reconstruct_block(i, qfs, ctx, predictors, w, spatial, &mut qf);
+            match one {
+                BlockRebuilt::Refused(e) => Checked::Bad(e),
+                BlockRebuilt::Rebuilt(dc) => {
+                    let put = neighbours::with_block(own, i, dc, qf);
+                    match put {
+                        Recorded::Refused(_) => Checked::Bad(BlockAssemblyError::OutOfRange),
+                        Recorded::Done => Checked::Fine,
+                    }
+                }
+            }
+        }
+    }
+}
+
+// The record that is kept of the macroblock into `own`, its samples into `blocks`.
 pub(crate) fn reconstruct(
     store: &[i32],
     place: Place,
     rows: [[i32; 64]; 6],
     ctx: MacroblockTextureContext,
     w: [[u8; 8]; 8],
-    values: &mut [[[i32; 8]; 8]; 6],
-) -> [i32; 91]
-    requires { ⌜ (length (now values) ≡ 6) × (contextFine ctx w ≡ true) × (place .«bits_per_pixel» ≡ ctx .«bits_per_pixel») × (place .«quantiser_scale» ≡ ctx .«quantiser_scale») × (neighboursFine (ctx .«bits_per_pixel») (ctx .«quantiser_scale») (aroundBy place (now store)) (blank (ctx .«quantiser_scale»)) ≡ true) × ((i : ℕ) → i < 6 → placesFine (getD rows i []) ≡ true) ⌝ }
-    ensures { λ r. ⌜ r ≡ recordOf ctx w (aroundBy place (now (store .entry))) rows ⌝ }
-    ensures values { λ r. ⌜ now (values .exit) ≡ valuesInTurn ctx w (aroundBy place (now (store .entry))) rows ⌝ }
+    own: &mut [i32; 91],
+    blocks: &mut [[[i32; 8]; 8]; 6],
+) -> Checked
+    requires { ⌜ (length (now own) ≡ 91) × (length (now blocks) ≡ 6) × (contextFine ctx w ≡ true) × (place .«bits_per_pixel» ≡ ctx .«bits_per_pixel») × (place .«quantiser_scale» ≡ ctx .«quantiser_scale») × (placeLies (length (now store)) place ≡ true) × (neighboursFine (ctx .«bits_per_pixel») (ctx .«quantiser_scale») (aroundBy place (now store)) (blank (ctx .«quantiser_scale»)) ≡ true) × ((i : ℕ) → i < 6 → placesFine (getD rows i []) ≡ true) ⌝ }
+    ensures { λ r. ⌜ r ≡ Fine ⌝ }
+    ensures record { λ r. ⌜ now (own .exit) ≡ recordOf ctx w (aroundBy place (now (store .entry))) rows ⌝ }
+    ensures samples { λ r. ⌜ now (blocks .exit) ≡ samplesOfSix ctx (valuesInTurn ctx w (aroundBy place (now (store .entry))) rows) ⌝ }
 {
-    let mut own = neighbours::new_record(ctx.quantiser_scale);
-    for i in 0..6 {
-        let qfs = rows[i];
-        let component = block::component(i);
-        let taken = neighbours::block_predictors(store, &own, place, i);
-        let qf = block::levels_of(qfs, component, ctx, taken);
-        let f = block::values_of(qf, component, ctx, w);
-        own = neighbours::with_block(own, i, f[0][0], qf);
-        values[i] = f;
+    let begun = neighbours::new_record(ctx.quantiser_scale, own);
+    match begun {
+        Recorded::Refused(_) => Checked::Bad(BlockAssemblyError::Context),
+        Recorded::Done => {
+            let mut spatial = [[0i32; 8]; 8];
+            for i in 0..6 {
+                let one = one_block(store, place, rows, ctx, w, i, own, &mut spatial);
+                match one {
+                    Checked::Bad(e) => {
+                        return Checked::Bad(e);
+                    }
+                    Checked::Fine => {
+                        blocks[i] = spatial;
+                    }
+                }
+            }
+            Checked::Fine
+        }
     }
-    own
 }

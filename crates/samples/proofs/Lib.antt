@@ -2,3 +2,4 @@
 pub mod OneBlock
 pub mod SixBlocks
 pub mod LayoutLaws
+pub mod OutcomeLaws

@@ -1,11 +1,14 @@
 -- How the six 8x8 blocks of a macroblock lie in its 384 samples: luma 16 wide, blocks 0 and 1 above 2 and 3, then Cb, then Cr. Definitions only.
 use mathlib.Core.Bool.{cond, _&&_}
-use mathlib.Core.List.{List, [], _++_}
+use mathlib.Core.List.{List, [], _++_, _∷_}
 use Prim.Native.Nat.{ℕ, _+_, _*_, _/_, _%_, _-_}
 use lib.Dec.{leb, ltb}
 use lib.IntN.{ℤ, pos}
 use lib.ListN.{length, getD, drop}
 use Rattle.numbers.specs.Grid.{build, cell}
+use Rattle.numbers.specs.Outcome.{Outcome, checked, done, refused}
+use Rattle.samples.specs.declared.Written.{Written}
+use Rattle.samples.specs.declared.Written.the-variants.{Done, TooShort}
 
 -- where row y, column x of block i stands among the 384
 abbrev pub placeOf : ℕ → ℕ → ℕ → ℕ
@@ -28,6 +31,17 @@ mbSamples blocks = build 384 (λ (k : ℕ). cell (getD blocks (blockOf k) []) (r
 -- what samples s hold after a macroblock: its 384 from the front, or s where they are fewer
 abbrev pub samplesAfter : List (List (List ℤ)) → List ℤ → List ℤ
 samplesAfter blocks s = cond (leb 384 (length s)) (mbSamples blocks ++ drop 384 s) s
+
+-- 14 where they are fewer
+abbrev pub writtenBy : List ℤ → Written
+writtenBy s = cond (leb 384 (length s)) Done TooShort
+
+abbrev pub writtenOutcome : Written → Outcome (Unit {0})
+writtenOutcome Done = done
+writtenOutcome TooShort = refused 14 0
+
+abbrev pub writtenDue : List ℤ → Outcome (Unit {0})
+writtenDue s = checked ((leb 384 (length s), 14) ∷ []) done
 
 -- what a part of them holds after block b, its rows w apart: at k the cell at row k / w, column k % w, or what stood there
 unfoldable pub written : List ℤ → ℕ → List (List ℤ) → List ℤ

@@ -2,7 +2,7 @@
 ghost use mathlib.Core.Path.{_≡_};
 ghost use Prim.Native.Nat.{_≤_, _+_, _*_};
 ghost use lib.ListN.{length};
-ghost use Rattle.samples.specs.Samples.{mbSamples, samplesAfter, written};
+ghost use Rattle.samples.specs.Samples.{mbSamples, samplesAfter, written, writtenBy, writtenDue, writtenOutcome};
 
 // The eight rows of a block, `row_length` apart, from the start of `part`.
 fn write_block(part: &mut [i32], row_length: usize, block: [[i32; 8]; 8])
@@ -29,12 +29,20 @@ fn write_all(samples: &mut [i32], blocks: [[[i32; 8]; 8]; 6])
     write_block(&mut samples[320..384], 8, blocks[5]);
 }
 
+// Whether a macroblock was written; 14 where fewer than 384 samples are lent.
+pub enum Written {
+    Done,
+    TooShort,
+}
+
 // The first 384 samples, where there are as many; otherwise nothing is written.
-pub fn write_macroblock(samples: &mut [i32], blocks: [[[i32; 8]; 8]; 6])
-    ensures { λ r. ⌜ now (samples .exit) ≡ samplesAfter blocks (now (samples .entry)) ⌝ }
+pub fn write_macroblock(samples: &mut [i32], blocks: [[[i32; 8]; 8]; 6]) -> Written
+    ensures { λ r. ⌜ (r ≡ writtenBy (now (samples .entry))) × (now (samples .exit) ≡ samplesAfter blocks (now (samples .entry))) ⌝ }
+    ensures outcome { λ r. ⌜ writtenOutcome r ≡ writtenDue (now (samples .entry)) ⌝ }
 {
     if samples.len() < 384 {
-        return;
+        return Written::TooShort;
     }
     write_all(&mut samples[0..384], blocks);
+    Written::Done
 }

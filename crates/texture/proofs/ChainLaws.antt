@@ -11,7 +11,8 @@ use Rattle.bits.specs.Bits.{Bits, bitsFrom}
 use Rattle.bits.specs.Cursor.{inData}
 use Rattle.bits.specs.declared.cursor.Cursor.{Cursor}
 use Rattle.codes.specs.declared.tcoef_tables.TcoefTable.{TcoefTable}
-use Rattle.texture.specs.Answer.{saidNumber, InsideNumber, SaysNumber, saidEvent, InsideEvent, SaysEvent, eventTold, after, rvlcSettled, settled, eventAnswer}
+use Rattle.texture.specs.Answer.{eventTold, after, eventAnswer}
+use Rattle.texture.specs.Inside.{saidNumber, InsideNumber, SaysNumber, saidEvent, InsideEvent, SaysEvent, rvlcSettled, settled}
 use Rattle.texture.specs.Event.{Event, valueOf, lastNumber, levelOf, runOf, rvlcEscape, type3}
 use Rattle.texture.specs.EventReader.{event}
 use Rattle.texture.specs.Reader.{Res, ok, no, bind, mapped, code}

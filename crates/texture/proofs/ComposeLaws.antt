@@ -7,15 +7,15 @@ use mathlib.Core.Path.{_≡_, refl, sym, ap, subst₂, _∙_}
 use Prim.Native.Nat.{_-_}
 use native.Mathlib.Omega.{arith}
 use lib.ListN.{length, length-append}
-use mir.Val.{bits}
 use Rattle.bits.specs.Bits.{Bits}
 use Rattle.texture.proofs.ReadLaws.{bind-ok, bind-by}
-use Rattle.texture.specs.Compose.{pairBits, GoodPair, readPair, optBits, GoodOpt, readOpt, eachBits, GoodEach, readEach, Reads}
+use Rattle.texture.specs.Compose.{Begins, pairBits, GoodPair, optBits, GoodOpt, eachBits, GoodEach}
+use Rattle.texture.specs.ComposeReader.{readPair, readOpt, readEach, Reads}
 use Rattle.texture.specs.Event.{_▸_}
 use Rattle.texture.specs.Reader.{Res, ok}
 
 module _ {A : Type 0} (read : Bits → Res A) (bits : A → Bits) (Good : A → Type 0) (h : Reads read bits Good) where
-  pub accepts : (b : Bits) → ((a : A) × ((r : Bits) × (read b ≡ ok a r))) ↔ ((a : A) × (Good a × ((r : Bits) × (b ≡ bits a ▸ r))))
+  pub accepts : (b : Bits) → ((a : A) × ((r : Bits) × (read b ≡ ok a r))) ↔ ((a : A) × Begins bits Good b a)
   accepts b = (
     λ x. (x .0, let s = h .sound b (x .0) (x .1 .0) (x .1 .1) in (s .0, (x .1 .0, s .1))),
     λ x. (x .0, (x .1 .1 .0, ap read (x .1 .1 .1) ∙ h .complete (x .0) (x .1 .1 .0) (x .1 .0))),

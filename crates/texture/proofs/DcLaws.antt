@@ -10,7 +10,7 @@ use lib.ListN.{getD, length}
 use Rattle.bits.specs.Bits.{Bits, bin, bitsFrom}
 use Rattle.bits.specs.Cursor.{inData}
 use Rattle.bits.specs.declared.cursor.Cursor.{Cursor}
-use Rattle.codes.proofs.Fair.{dc-fair, dc-rows, sizes-count}
+use Rattle.codes.proofs.PrefixFree.{dc-prefix-free, dc-rows, sizes-count}
 use Rattle.codes.specs.DcSize.{dcCodes, dcLens}
 use Rattle.codes.specs.Table.{codeBits}
 use Rattle.codes.specs.declared.dc_size.DcComponent.{DcComponent}
@@ -20,8 +20,9 @@ use Rattle.texture.proofs.ChainLaws.{place-is}
 use Rattle.texture.proofs.EventLaws.{marker-complete, marker-sound}
 use Rattle.texture.proofs.ReadLaws.{bind-by, bind-ok, code-complete, code-sound, field-complete, field-sound}
 use Rattle.texture.specs.Answer.{dcAnswer, dcTold, dcValue}
-use Rattle.texture.specs.Compose.{Reads}
-use Rattle.texture.specs.Dc.{Dc, dc, sizeAt, dcBits, GoodDc, dcTail, readDc, differenceOf, differentialOf}
+use Rattle.texture.specs.ComposeReader.{Reads}
+use Rattle.texture.specs.Dc.{Dc, dc, sizeAt, dcBits, GoodDc, differenceOf, differentialOf}
+use Rattle.texture.specs.DcReader.{dcTail, readDc}
 use Rattle.texture.specs.Event.{_▸_}
 use Rattle.texture.specs.Reader.{no, ok, bind, field, code, marker, Res, mapped}
 use Rattle.texture.specs.declared.dc.DcRead.the-variants.{Dc as DcIs, Refused as DcRefused}
@@ -93,7 +94,7 @@ module _ (c : DcComponent) where
       let t : Bits = bin (sizeAt c i) a ▸ markerOf (sizeAt c i) in
       let e : (codeBits (dcCodes c) (dcLens c) i ▸ t) ▸ r ≡ codeBits (dcCodes c) (dcLens c) i ▸ bin (sizeAt c i) a ▸ markerOf (sizeAt c i) ▸ r = simp append-assoc in
       ap (readDc c) e
-      ∙ bind-by _ (code-complete (dcCodes c) (dcLens c) 13 13 InvalidDcSize (dc-fair c) enough i (bin (sizeAt c i) a ▸ markerOf (sizeAt c i) ▸ r) (h .0))
+      ∙ bind-by _ (code-complete (dcCodes c) (dcLens c) 13 13 InvalidDcSize (dc-prefix-free c) enough i (bin (sizeAt c i) a ▸ markerOf (sizeAt c i) ▸ r) (h .0))
       ∙ bind-by _ (tail-complete (sizeAt c i) a r (h .1))
 
   pub dc-reads : Reads (readDc c) (dcBits c) (GoodDc c)

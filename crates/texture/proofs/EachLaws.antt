@@ -8,7 +8,8 @@ use native.Mathlib.Omega.{arith}
 use lib.ListN.{drop, getD, length, length-drop, set, take}
 use lib.Seq.{drop-cons, take-all, take-suc-set}
 use Rattle.bits.specs.Bits.{Bits}
-use Rattle.texture.specs.Compose.{GoodEach, eachWith, readEach}
+use Rattle.texture.specs.Compose.{GoodEach, eachWith}
+use Rattle.texture.specs.ComposeReader.{readEach}
 use Rattle.texture.specs.Reader.{Res, bind, mapped, no, ok}
 use Rattle.texture.specs.declared.error.TextureParseError.{TextureParseError}
 

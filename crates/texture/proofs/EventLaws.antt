@@ -6,14 +6,13 @@ use mathlib.Core.Path.{_≡_, refl, sym, ap, ap₂, subst, _∙_}
 use Prim.Native.Nat.{ℕ, zero, suc, _+_, _≤_, _<_}
 use native.Mathlib.Omega.{arith}
 use lib.Dec.{eqb, lit<}
-use lib.Ieee.{eq}
 use lib.ListN.{length}
 use borrow.Author.Tests.{ne-eqb, eqb-true, eqb-false}
 use Rattle.bits.specs.Bits.{Bits, bin}
-use Rattle.codes.proofs.Fair.{vlc-fair, vlc-rows}
+use Rattle.codes.proofs.PrefixFree.{vlc-prefix-free, vlc-rows}
 use Rattle.codes.specs.Tcoef.{vlcCodes, vlcLens}
 use Rattle.texture.proofs.ReadLaws.{Bound, bind-ok, bind-by, cond-ok, no-ok, field-sound, field-complete, code-sound, code-complete}
-use Rattle.texture.specs.Compose.{Reads}
+use Rattle.texture.specs.ComposeReader.{Reads}
 use Rattle.texture.specs.Event.{Event, plain, type1, type2, type3, vlcBits, escape, eventBits, GoodEvent, _▸_}
 use Rattle.texture.specs.EventReader.{spelled, sign, signed, level, runAndLevel, longer, fixed, escaped, plainEvent}
 use Rattle.texture.specs.Reader.{ok, no, bind, field, code, marker}
@@ -58,7 +57,7 @@ every = let n = vlc-rows .0 in omega arith
 pub signed-complete : (k : Spelling) (i s : ℕ) (r : Bits) → i < 102 → s < 2 → signed k (vlcBits i ▸ bin 1 s ▸ r) ≡ ok (spelled k i s) r
 unfolding signed sign
 signed-complete k i s r h h′ =
-    bind-by _ (code-complete vlcCodes vlcLens 13 102 InvalidTcoef vlc-fair enough i (bin 1 s ▸ r) h)
+    bind-by _ (code-complete vlcCodes vlcLens 13 102 InvalidTcoef vlc-prefix-free enough i (bin 1 s ▸ r) h)
     ∙ bind-by _ (field-complete 1 s r h′)
 
 -- ---- type 3
@@ -225,7 +224,7 @@ escaped-sound b {e} {r} q =
 -- the code of any row but the escape's, or the escape's, and what comes after it
 row-then : (i : ℕ) (x : Bits) → i < 103 → plainEvent (vlcBits i ▸ x) ≡ cond (eqb i 102) (escaped x) (sign Plain i x)
 unfolding plainEvent sign
-row-then i x h = bind-by _ (code-complete vlcCodes vlcLens 13 103 InvalidTcoef vlc-fair every i x h)
+row-then i x h = bind-by _ (code-complete vlcCodes vlcLens 13 103 InvalidTcoef vlc-prefix-free every i x h)
 
 pub plain-complete : (e : Event) (r : Bits) → GoodEvent false e → plainEvent (eventBits e ▸ r) ≡ ok e r
 unfolding sign eventBits GoodEvent

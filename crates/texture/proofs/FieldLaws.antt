@@ -18,9 +18,9 @@ use Rattle.bits.specs.declared.cursor.WindowPeeked.the-variants.{Window, Refuse
 use Rattle.bits.specs.declared.error.BitReaderError.{BitReaderError}
 use Rattle.bits.specs.declared.error.BitReaderError.the-variants.{EndOfStream}
 use Rattle.codes.proofs.TableLaws.{found-row}
-use Rattle.codes.specs.Table.{Found, fair, rowAt, rowIn}
+use Rattle.codes.specs.Table.{Found, prefixFree, rowAt, rowIn}
 use Rattle.texture.proofs.StepLaws.{from-on}
-use Rattle.texture.specs.Answer.{SaysNumber}
+use Rattle.texture.specs.Inside.{SaysNumber}
 use Rattle.texture.specs.Reader.{ok, no, field}
 use Rattle.texture.specs.declared.error.TextureParseError.the-variants.{Truncated}
 use Rattle.texture.specs.declared.field.Got.{Got}
@@ -76,7 +76,7 @@ module _ (d : List ℕ) (at width : ℕ) (h : at ≤ 8 * length d) (l : length d
 
 -- the row that the search finds in the window is the row that begins the bits
 pub row-found : (cs ls : List ℕ) (width rows : ℕ) (b : Bits) (w n x : ℕ) → rows ≤ length cs → rows ≤ length ls → w ≡ val (take width b) → n ≡ length (take width b)
-    → T (fair width cs ls) → Found cs ls (min rows (min (length cs) (length ls))) w n x → x ≡ rowAt cs ls width rows b
+    → T (prefixFree width cs ls) → Found cs ls (min rows (min (length cs) (length ls))) w n x → x ≡ rowAt cs ls width rows b
 row-found cs ls width rows b w n x hc hl ew en apart q =
     let e : min rows (min (length cs) (length ls)) ≡ rows = omega arith in
     found-row width cs ls apart rows hc w n x (subst (λ (k : ℕ). Found cs ls k w n x) e q) ∙ ap₂ (rowIn cs ls rows) ew en

@@ -1,4 +1,4 @@
--- The laws of reading: steps, grammars, events, lists, and how the answers of the code go together.
+-- The laws of reading: steps, grammars, events, lists, how the answers of the code go together, and the answers by number.
 pub mod ReadLaws
 pub mod StepLaws
 pub mod FieldLaws
@@ -12,3 +12,5 @@ pub mod LoopLaws
 pub mod DcLaws
 pub mod Sentences
 pub mod EachLaws
+pub mod OutcomeLaws
+pub mod Apart

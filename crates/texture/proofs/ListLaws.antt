@@ -7,7 +7,6 @@ use Prim.Native.Nat.{ℕ, zero, suc, _+_, _≤_, _<_}
 use native.Mathlib.Nat.{le-refl}
 use native.Mathlib.Omega.{arith}
 use lib.Dec.{eqb, ltb}
-use lib.Ieee.{eq}
 use lib.ListN.{length, length-append}
 use borrow.Author.Tests.{eq-eqb, eqb-true, lt-ltb, ltb-false, ltb-true}
 use Rattle.bits.proofs.BitLaws.{length-bin}
@@ -16,10 +15,11 @@ use Rattle.codes.specs.declared.tcoef_tables.TcoefTable.{TcoefTable}
 use Rattle.texture.proofs.EventLaws.{plain-reads}
 use Rattle.texture.proofs.ReadLaws.{bind-by, bind-ok, cond-ok, no-ok}
 use Rattle.texture.proofs.RvlcLaws.{rvlc-reads}
-use Rattle.texture.specs.Compose.{Reads}
+use Rattle.texture.specs.ComposeReader.{Reads}
 use Rattle.texture.specs.Event.{Event, plain, type1, type2, type3, rvlc, rvlcEscape, _▸_, vlcBits, rvlcBits, eventBits, GoodEvent, lastOf, runOf}
 use Rattle.texture.specs.EventReader.{event}
-use Rattle.texture.specs.Events.{Events, final, more, eventsBits, GoodEvents, Lands, GoodList, eventsIn, bad, list}
+use Rattle.texture.specs.Events.{Events, final, more, eventsBits, GoodEvents, Lands, GoodList}
+use Rattle.texture.specs.EventsReader.{eventsIn, bad, list}
 use Rattle.texture.specs.Reader.{ok, no, bind}
 use Rattle.texture.specs.declared.error.TextureParseError.the-variants.{Overflow}
 

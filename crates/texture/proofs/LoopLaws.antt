@@ -23,10 +23,12 @@ use Rattle.texture.proofs.ListLaws.{bad-lands, event-long, event-sound}
 use Rattle.texture.proofs.ReadLaws.{no-ok}
 use Rattle.texture.proofs.RowLaws.{level-at, lmax-at, rmax-at, run-at, rvlc-level-at, rvlc-run-at, rvlc-small, tcoef-small}
 use Rattle.texture.proofs.StepLaws.{code-empty}
-use Rattle.texture.specs.Answer.{State, putOf, InsideEvent, SaysEvent, closed, listedOf, refusedBy, saidEvent, keptOf, listTold, placesTold, listAnswer, listedBy, placesAfter}
+use Rattle.texture.specs.Answer.{listTold, placesTold, listAnswer, placesAfter}
+use Rattle.texture.specs.Inside.{State, putOf, InsideEvent, SaysEvent, closed, listedOf, refusedBy, saidEvent, keptOf, listedBy}
 use Rattle.texture.specs.Event.{Event, eventBits, lastOf, runOf, levelOf, valueOf, GoodEvent, plain, rvlc, rvlcEscape, signed12, signedBy, type1, type2, type3, rvlcRowOf, tcoefRow}
 use Rattle.texture.specs.EventReader.{event, plainEvent, rvlcEvent, escaped, rvlcEscaped, sign}
-use Rattle.texture.specs.Events.{Events, final, more, Lands, eventsIn, bad, list, firstPlace}
+use Rattle.texture.specs.Events.{Events, final, more, Lands, firstPlace}
+use Rattle.texture.specs.EventsReader.{eventsIn, bad, list}
 use Rattle.texture.specs.Places.{zeros, placed, placesOf}
 use Rattle.texture.specs.Reader.{Res, ok, no, bind, mapped}
 use Rattle.texture.specs.declared.error.TextureParseError.{TextureParseError}

@@ -2,7 +2,6 @@
 use mathlib.Core.Bool.{Bool, true, false, cond}
 use mathlib.Core.List.{List, _++_}
 use mathlib.Core.Logic.{⊎-elim, _⊎_, inl, inr}
-use mathlib.Core.Option.{some}
 use mathlib.Core.Path.{_≡_, refl, sym, ap, ap₂, subst, _∙_}
 use Prim.Native.Nat.{ℕ, _+_, _^_, _≤_, _<_}
 use native.Mathlib.Omega.{arith}
@@ -12,10 +11,8 @@ use lib.Seq.{length-take-le, take-at, drop-at}
 use borrow.Author.Tests.{ne-eqb, lt-ltb, ltb-true, le-leb, leb-true}
 use Rattle.bits.proofs.BitLaws.{val-lt, val-bin, bin-val, length-bin}
 use Rattle.bits.specs.Bits.{Bits, val, bin}
-use Rattle.codes.proofs.TableLaws.{row-sound, row-complete, fair-row}
-use Rattle.codes.specs.Table.{rowAt, codeBits, fair}
-use Rattle.numbers.proofs.Expressions.{within}
-use Rattle.numbers.proofs.Fill.{rows}
+use Rattle.codes.proofs.TableLaws.{row-sound, row-complete, sound-row}
+use Rattle.codes.specs.Table.{rowAt, codeBits, prefixFree}
 use Rattle.texture.specs.Reader.{Res, ok, no, bind, field, code}
 use Rattle.texture.specs.declared.error.TextureParseError.{TextureParseError}
 use Rattle.texture.specs.declared.error.TextureParseError.the-variants.{Truncated}
@@ -96,11 +93,11 @@ module _ (cs ls : List ℕ) (width rows : ℕ) (err : ℕ → TextureParseError)
           let e₃ : s .0 ≡ r = sym (past cs ls k (s .0)) ∙ ap (drop (getD ls k 0)) (sym (s .1)) ∙ e₂ in
           (subst (λ (x : ℕ). x < rows) e₁ l, s .1 ∙ ap₂ (λ (x : ℕ) (y : Bits). codeBits cs ls x ++ y) e₁ e₃)
 
-  pub code-complete : T (fair width cs ls) → rows ≤ length cs → (i : ℕ) (r : Bits) → i < rows → code cs ls width rows err (codeBits cs ls i ++ r) ≡ ok i r
+  pub code-complete : T (prefixFree width cs ls) → rows ≤ length cs → (i : ℕ) (r : Bits) → i < rows → code cs ls width rows err (codeBits cs ls i ++ r) ≡ ok i r
   unfolding code
   code-complete f within i r h =
       let b : Bits = codeBits cs ls i ++ r in
-      let row = fair-row width cs ls f i (omega arith) in
+      let row = sound-row width cs ls f i (omega arith) in
       let k : rowAt cs ls width rows b ≡ i = row-complete width cs ls f rows within i h r in
       let len : length b ≡ getD ls i 0 + length r =
       length-append (codeBits cs ls i) r ∙ ap (λ (x : ℕ). x + length r) (length-bin (getD ls i 0) (getD cs i 0)) in

@@ -13,7 +13,7 @@ use Rattle.codes.specs.Tcoef.{tcoefIntra, tcoefInter, tcoefOf, eventColumns, lm
 use Rattle.codes.specs.declared.tcoef_tables.TcoefTable.{TcoefTable}
 use Rattle.codes.specs.declared.tcoef_tables.TcoefTable.the-variants.{Intra, Inter}
 use Rattle.numbers.proofs.Every.{every-at}
-use Rattle.texture.specs.Answer.{RowIn, RowSpelling, columns, rowEvent}
+use Rattle.texture.specs.Inside.{RowIn, RowSpelling, columns, rowEvent}
 use Rattle.texture.specs.Event.{plain, type1, type2, rvlc, noRow, rvlcRowOf, tcoefRow, lastNumber, levelOf, runOf, signedBy, valueOf}
 use Rattle.texture.specs.declared.event.AcEvent.{AcEvent}
 use Rattle.texture.specs.declared.event.Spelling.{Spelling}

@@ -6,15 +6,14 @@ use mathlib.Core.Path.{_≡_, _∙_, ap, subst, sym}
 use Prim.Native.Nat.{_<_, _≤_, ℕ}
 use native.Mathlib.Omega.{arith}
 use lib.Dec.{eqb, lit<}
-use lib.Ieee.{eq}
 use lib.ListN.{length}
 use borrow.Author.Tests.{eqb-false, eqb-true, ne-eqb}
 use Rattle.bits.specs.Bits.{Bits, bin}
-use Rattle.codes.proofs.Fair.{rvlc-fair, rvlc-rows}
+use Rattle.codes.proofs.PrefixFree.{rvlc-prefix-free, rvlc-rows}
 use Rattle.codes.specs.Rvlc.{rvlcCodes, rvlcLens}
 use Rattle.texture.proofs.EventLaws.{marker-complete, marker-sound}
 use Rattle.texture.proofs.ReadLaws.{bind-by, bind-ok, code-complete, code-sound, cond-ok, field-complete, field-sound, no-ok}
-use Rattle.texture.specs.Compose.{Reads}
+use Rattle.texture.specs.ComposeReader.{Reads}
 use Rattle.texture.specs.Event.{Event, GoodEvent, _▸_, eventBits, plain, rvlc, rvlcBits, rvlcEscape, rvlcOpening, type1, type2, type3}
 use Rattle.texture.specs.EventReader.{sign, rvlcSign, rvlcDelimiter, rvlcMagnitude, rvlcRun, rvlcEscaped, rvlcEvent}
 use Rattle.texture.specs.Reader.{ok, no, bind, field, code, marker}
@@ -111,7 +110,7 @@ escaped-complete l n m s r h₁ h₂ h₃ h₄ h₅ =
 
 row-then : (i : ℕ) (x : Bits) → i < 170 → rvlcEvent (rvlcBits i ▸ x) ≡ cond (eqb i 169) (rvlcEscaped x) (sign Reversible i x)
 unfolding rvlcEvent sign
-row-then i x h = bind-by _ (code-complete rvlcCodes rvlcLens 16 170 InvalidTcoef rvlc-fair all i x h)
+row-then i x h = bind-by _ (code-complete rvlcCodes rvlcLens 16 170 InvalidTcoef rvlc-prefix-free all i x h)
 
 pub rvlc-complete : (e : Event) (r : Bits) → GoodEvent true e → rvlcEvent (eventBits e ▸ r) ≡ ok e r
 unfolding sign eventBits GoodEvent

@@ -14,12 +14,15 @@ use Rattle.codes.specs.declared.tcoef_tables.TcoefTable.the-variants.{Intra}
 use Rattle.texture.proofs.ComposeLaws.{accepts, unique, each-reads, opt-reads, pair-reads}
 use Rattle.texture.proofs.DcLaws.{dc-reads}
 use Rattle.texture.proofs.ListLaws.{event-reads, list-reads}
-use Rattle.texture.specs.Compose.{Reads}
-use Rattle.texture.specs.Dc.{GoodDc, dcBits, readDc}
+use Rattle.texture.specs.ComposeReader.{Reads}
+use Rattle.texture.specs.Dc.{GoodDc, dcBits}
+use Rattle.texture.specs.DcReader.{readDc}
 use Rattle.texture.specs.Event.{GoodEvent, eventBits}
 use Rattle.texture.specs.EventReader.{event}
-use Rattle.texture.specs.Events.{GoodList, eventsBits, list, firstPlace}
-use Rattle.texture.specs.Macroblock.{Parts, Place, readBlock, blockBits, GoodBlock, readMacroblock, macroblockBits, GoodMacroblock, placesOfPattern}
+use Rattle.texture.specs.Events.{GoodList, eventsBits, firstPlace}
+use Rattle.texture.specs.EventsReader.{list}
+use Rattle.texture.specs.Macroblock.{Place, blockBits, GoodBlock, macroblockBits, GoodMacroblock, placesOfPattern}
+use Rattle.texture.specs.MacroblockReader.{readBlock, readMacroblock}
 use Rattle.texture.specs.Reader.{Res, ok}
 use Rattle.texture.specs.Sentences.{Sentences}
 

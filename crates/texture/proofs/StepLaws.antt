@@ -12,7 +12,6 @@ use Rattle.bits.proofs.BitLaws.{length-bin}
 use Rattle.bits.specs.Bits.{Bits, val, bitsOf, bitsFrom}
 use Rattle.codes.proofs.TableLaws.{row-sound}
 use Rattle.codes.specs.Table.{rowAt, codeBits}
-use Rattle.numbers.proofs.Fill.{rows}
 use Rattle.texture.specs.Reader.{ok, no, field, code}
 use Rattle.texture.specs.declared.error.TextureParseError.{TextureParseError}
 use Rattle.texture.specs.declared.error.TextureParseError.the-variants.{Truncated}

@@ -1,16 +1,14 @@
--- DC parts (7.4.1.1, Tables B.13 to B.15): the grammar, the difference that one says, and the reader. Definitions only.
-use mathlib.Core.Bool.{Bool, cond}
-use mathlib.Core.List.{List, [], _++_}
+-- DC parts (7.4.1.1, Tables B.13 to B.15): how each is spelled in bits, when its fields are good, and the difference that it says. No reader is named here. Definitions only.
+use mathlib.Core.Bool.{cond}
+use mathlib.Core.List.{[], _++_}
 use Prim.Native.Nat.{ℕ, _-_, _<_, _^_}
 use lib.Dec.{leb, eqb}
-use lib.ListN.{length, getD}
+use lib.ListN.{getD}
 use lib.IntN.{ℤ, pos, _+ℤ_, _-ℤ_, _*ℤ_}
 use Rattle.bits.specs.Bits.{Bits, bin}
 use Rattle.codes.specs.declared.dc_size.DcComponent.{DcComponent}
 use Rattle.codes.specs.DcSize.{dcCodes, dcLens, dcSizes}
 use Rattle.codes.specs.Table.{codeBits}
-use Rattle.texture.specs.declared.error.TextureParseError.the-variants.{InvalidDcSize, MarkerBitMissing}
-use Rattle.texture.specs.Reader.{Res, ok, no, bind, field, code, marker}
 
 -- a row of the size table, and the bits that follow it as a number
 pub data Dc : Type 0 where
@@ -33,10 +31,3 @@ differentialOf size a = cond (eqb size 0) (pos 0) (cond (leb (2 ^ (size - 1)) a)
 
 unfoldable pub differenceOf : DcComponent → Dc → ℤ
 differenceOf c (dc i a) = differentialOf (sizeAt c i) a
-
--- the reader: 1, 2 with the window, 3
-unfoldable pub dcTail : ℕ → Bits → Res ℕ
-dcTail size b = bind (field size b) (λ a r. cond (leb size 8) (ok a r) (bind (marker MarkerBitMissing r) (λ _ r. ok a r)))
-
-unfoldable pub readDc : DcComponent → Bits → Res Dc
-readDc c b = bind (code (dcCodes c) (dcLens c) 13 13 InvalidDcSize b) (λ i r. bind (dcTail (sizeAt c i) r) (λ a r. ok (dc i a) r))

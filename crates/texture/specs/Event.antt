@@ -1,7 +1,7 @@
 -- Events (7.4.1.2, 7.4.1.3): how each is spelled in bits, when its fields are good, and what it says. No reader is named here. Definitions only.
 use mathlib.Core.Path.{_≡_}
 use mathlib.Core.Bool.{Bool, true, false, cond}
-use mathlib.Core.List.{List, [], _∷_, _++_}
+use mathlib.Core.List.{_++_}
 use Prim.Native.Nat.{ℕ, _+_, _<_}
 use lib.Dec.{leb, eqb}
 use lib.ListN.{getD}

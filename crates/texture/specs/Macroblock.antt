@@ -1,4 +1,4 @@
--- The sentence of a macroblock: for blocks 0 to 5 a DC part, where DC codes are in use, and an event list, where the block is coded; and its reader. Definitions only.
+-- The sentence of a macroblock: for blocks 0 to 5 a DC part, where DC codes are in use, and an event list, where the block is coded. 'Sentence' is document 01's word, not the standard's. No reader is named here. Definitions only.
 use mathlib.Core.Bool.{Bool, false}
 use mathlib.Core.List.{List, [], _∷_}
 use mathlib.Core.Option.{Option}
@@ -7,10 +7,9 @@ use Rattle.bits.specs.Bits.{Bits}
 use Rattle.codes.specs.declared.dc_size.DcComponent.{DcComponent}
 use Rattle.codes.specs.declared.dc_size.DcComponent.the-variants.{Luminance, Chrominance}
 use Rattle.codes.specs.declared.tcoef_tables.TcoefTable.the-variants.{Intra}
-use Rattle.texture.specs.Compose.{GoodEach, GoodOpt, GoodPair, eachBits, optBits, pairBits, readEach, readOpt, readPair}
-use Rattle.texture.specs.Dc.{Dc, GoodDc, dcBits, readDc}
-use Rattle.texture.specs.Events.{Events, GoodList, eventsBits, firstPlace, list}
-use Rattle.texture.specs.Reader.{Res}
+use Rattle.texture.specs.Compose.{GoodEach, GoodOpt, GoodPair, eachBits, optBits, pairBits}
+use Rattle.texture.specs.Dc.{Dc, GoodDc, dcBits}
+use Rattle.texture.specs.Events.{Events, GoodList, eventsBits, firstPlace}
 
 -- one block, as the context has it: whether DC codes are in use and events are reversible; and as its place has it: its component and whether it is coded
 abbrev pub Parts : Type 0
@@ -25,9 +24,6 @@ blockBits s = pairBits (optBits (dcBits (s .0))) (optBits eventsBits)
 abbrev pub GoodBlock : Bool → Bool → Place → Parts → Type 0
 GoodBlock dcCoded rev s = GoodPair (GoodOpt dcCoded (GoodDc (s .0))) (GoodOpt (s .1) (GoodList rev Intra (firstPlace dcCoded)))
 
-abbrev pub readBlock : Bool → Bool → Place → Bits → Res Parts
-readBlock dcCoded rev s = readPair (readOpt dcCoded (readDc (s .0))) (readOpt (s .1) (list rev Intra (firstPlace dcCoded)))
-
 -- the six places of a pattern: four of luminance, then Cb and Cr
 abbrev pub placesOfPattern : List Bool → List Place
 placesOfPattern p =
@@ -40,6 +36,3 @@ macroblockBits p = eachBits blockBits (placesOfPattern p)
 
 abbrev pub GoodMacroblock : Bool → Bool → List Bool → List Parts → Type 0
 GoodMacroblock dcCoded rev p = GoodEach (GoodBlock dcCoded rev) (placesOfPattern p)
-
-abbrev pub readMacroblock : Bool → Bool → List Bool → Bits → Res (List Parts)
-readMacroblock dcCoded rev p = readEach (readBlock dcCoded rev) (placesOfPattern p)

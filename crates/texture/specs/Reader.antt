@@ -1,5 +1,5 @@
 -- The reader, as a function of the bits that are left: a value and the bits after it, or a refusal. Here its steps: fields, codes and markers. Definitions only.
-use mathlib.Core.Bool.{Bool, cond}
+use mathlib.Core.Bool.{cond}
 use mathlib.Core.List.{List}
 use Prim.Native.Nat.{ℕ}
 use lib.Dec.{ltb, leb, eqb}

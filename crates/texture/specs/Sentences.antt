@@ -1,4 +1,4 @@
--- What is claimed of a reader and its grammar (demand 3, for DC parts and lists). Definitions only.
+-- What is claimed of a reader and its grammar, whose sentences (document 01's word, not the standard's) are DC parts, events, lists, blocks or macroblocks (demand 3). Definitions only.
 use mathlib.Core.Path.{_≡_}
 use mathlib.Core.List.{List}
 use mathlib.Core.Logic.{_↔_}
@@ -6,13 +6,14 @@ use Prim.Native.Nat.{ℕ, _+_, _*_, _≤_}
 use lib.ListN.{length}
 use Rattle.bits.specs.Bits.{Bits, bitsFrom}
 use Rattle.bits.specs.Cursor.{cursorAt}
+use Rattle.texture.specs.Compose.{Begins}
 use Rattle.texture.specs.Event.{_▸_}
 use Rattle.texture.specs.Reader.{Res, ok}
 use Rattle.texture.specs.Answer.{after}
 
 pub record Sentences {A : Type 0} (read : Bits → Res A) (bits : A → Bits) (Good : A → Type 0) : Type 0 where
   -- accepted exactly when the bits begin with a sentence
-  pub accepted : (b : Bits) → ((a : A) × ((r : Bits) × (read b ≡ ok a r))) ↔ ((a : A) × (Good a × ((r : Bits) × (b ≡ bits a ▸ r))))
+  pub accepted : (b : Bits) → ((a : A) × ((r : Bits) × (read b ≡ ok a r))) ↔ ((a : A) × Begins bits Good b a)
   -- what is accepted is a sentence, and its bits stand first
   pub begins : (b : Bits) (a : A) (r : Bits) → read b ≡ ok a r → Good a × (b ≡ bits a ▸ r)
   -- never with two

@@ -2,8 +2,11 @@
 ghost use mathlib.Core.Path.{_≡_};
 ghost use Prim.Native.Nat.{_<_, _≤_, _^_};
 ghost use Rattle.bits.specs.Bits.{bitsFrom};
-ghost use Rattle.texture.specs.Dc.{dcTail, differentialOf};
-ghost use Rattle.texture.specs.Answer.{Readable, SaysNumber, dcAnswer};
+ghost use Rattle.texture.specs.Dc.{differentialOf};
+ghost use Rattle.texture.specs.DcReader.{dcTail};
+ghost use Rattle.texture.specs.Answer.{dcAnswer};
+ghost use Rattle.texture.specs.Outcomes.{dcDue, dcOutcome};
+ghost use Rattle.texture.specs.Inside.{Readable, SaysNumber};
 use crate::error::TextureParseError;
 use crate::field::CodeKind;
 use crate::field::Got;
@@ -62,6 +65,7 @@ fn read_additional(data: &[u8], c: Cursor, size: u32) -> Got
 // The DC part at a cursor.
 pub fn decode_intra_dc(data: &[u8], c: Cursor, component: DcComponent) -> DcRead
     ensures { λ r. ⌜ r ≡ dcAnswer (now («data» .entry)) (c .«bit_pos») component ⌝ }
+    ensures outcome { λ r. ⌜ dcOutcome r ≡ dcDue (now («data» .entry)) (c .«bit_pos») component ⌝ }
 {
     if !crate::list::readable(data, c) {
         return DcRead::Refused(TextureParseError::OutOfRange);

@@ -1,12 +1,12 @@
 // One plain event: a code and its sign, or an escape of type 1, 2 or 3 (7.4.1.3).
 ghost use mathlib.Core.Path.{_≡_};
-ghost use Prim.Native.Nat.{_<_, _≤_};
+ghost use Prim.Native.Nat.{_<_};
 ghost use Rattle.bits.specs.Bits.{bitsFrom};
 ghost use Rattle.codes.specs.Tcoef.{eventColumns, tcoefOf, vlcCodes, vlcLens};
 ghost use Rattle.texture.specs.Reader.{mapped};
 ghost use Rattle.texture.specs.Event.{valueOf};
 ghost use Rattle.texture.specs.EventReader.{escaped, fixed, level, longer, plainEvent, runAndLevel, signed};
-ghost use Rattle.texture.specs.Answer.{Readable, RowSpelling, SaysEvent, settled};
+ghost use Rattle.texture.specs.Inside.{Readable, RowSpelling, SaysEvent, settled};
 use crate::error::TextureParseError;
 use crate::field::CodeKind;
 use crate::field::Got;

@@ -4,9 +4,9 @@ ghost use Prim.Native.Nat.{_≤_};
 ghost use lib.ListN.{length};
 ghost use lib.Dec.{T};
 ghost use Rattle.bits.specs.Bits.{bitsFrom};
-ghost use Rattle.codes.specs.Table.{fair};
+ghost use Rattle.codes.specs.Table.{prefixFree};
 ghost use Rattle.texture.specs.Reader.{code, field, marker};
-ghost use Rattle.texture.specs.Answer.{Readable, SaysNumber, invalid};
+ghost use Rattle.texture.specs.Inside.{Readable, SaysNumber, invalid};
 use crate::error::TextureParseError;
 use bits::BitsRead;
 use bits::Cursor;
@@ -72,7 +72,7 @@ pub(crate) fn read_code(
     rows: usize,
     kind: CodeKind,
 ) -> Got
-    requires { ⌜ Readable (now «data») c × (width ≤ 32) × (rows ≤ length (now codes)) × (rows ≤ length (now lens)) × (rows ≤ 256) × T (fair width (now codes) (now lens)) ⌝ }
+    requires { ⌜ Readable (now «data») c × (width ≤ 32) × (rows ≤ length (now codes)) × (rows ≤ length (now lens)) × (rows ≤ 256) × T (prefixFree width (now codes) (now lens)) ⌝ }
     ensures { λ r. ⌜ SaysNumber (now («data» .entry)) r (code (now (codes .entry)) (now (lens .entry)) width rows (invalid kind) (bitsFrom (now («data» .entry)) (c .«bit_pos»))) ⌝ }
 {
     let at = c.bit_pos;

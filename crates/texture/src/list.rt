@@ -9,7 +9,9 @@ ghost use Rattle.texture.specs.Reader.{mapped};
 ghost use Rattle.texture.specs.Event.{valueOf};
 ghost use Rattle.texture.specs.EventReader.{event};
 ghost use Rattle.texture.specs.Events.{firstPlace};
-ghost use Rattle.texture.specs.Answer.{Readable, SaysEvent, TablesOf, closed, eventAnswer, keptOf, listAnswer, listedBy, placesAfter, putOf, refusedBy, stateOf};
+ghost use Rattle.texture.specs.Answer.{eventAnswer, listAnswer, placesAfter};
+ghost use Rattle.texture.specs.Outcomes.{eventDue, eventOutcome, listDue, listOutcome};
+ghost use Rattle.texture.specs.Inside.{Readable, SaysEvent, TablesOf, closed, keptOf, listedBy, putOf, refusedBy, stateOf};
 use crate::error::TextureParseError;
 use crate::event::EventRead;
 use bits::Cursor;
@@ -159,6 +161,7 @@ fn first_place(dc_coded: bool) -> usize
 // One plain event at a cursor.
 pub fn decode_ac_event(data: &[u8], c: Cursor, table: TcoefTable) -> EventRead
     ensures { λ r. ⌜ r ≡ eventAnswer (now («data» .entry)) (c .«bit_pos») false table ⌝ }
+    ensures outcome { λ r. ⌜ eventOutcome r ≡ eventDue (now («data» .entry)) (c .«bit_pos») false table ⌝ }
 {
     if !readable(data, c) {
         return EventRead::Refused(TextureParseError::OutOfRange);
@@ -172,6 +175,7 @@ pub fn decode_ac_event(data: &[u8], c: Cursor, table: TcoefTable) -> EventRead
 // One reversible event at a cursor.
 pub fn decode_ac_event_rvlc(data: &[u8], c: Cursor, table: TcoefTable) -> EventRead
     ensures { λ r. ⌜ r ≡ eventAnswer (now («data» .entry)) (c .«bit_pos») true table ⌝ }
+    ensures outcome { λ r. ⌜ eventOutcome r ≡ eventDue (now («data» .entry)) (c .«bit_pos») true table ⌝ }
 {
     if !readable(data, c) {
         return EventRead::Refused(TextureParseError::OutOfRange);
@@ -205,7 +209,9 @@ pub fn decode_ac_events(
     dc_coded: bool,
     qfs: &mut [i32; 64],
 ) -> EventsRead
-    ensures { λ r. ⌜ (r ≡ listAnswer (now («data» .entry)) (c .«bit_pos») false table «dc_coded») × (now (qfs .exit) ≡ placesAfter (now («data» .entry)) (c .«bit_pos») false table «dc_coded» (now (qfs .entry))) ⌝ }
+    ensures { λ r. ⌜ r ≡ listAnswer (now («data» .entry)) (c .«bit_pos») false table «dc_coded» ⌝ }
+    ensures places { λ r. ⌜ now (qfs .exit) ≡ placesAfter (now («data» .entry)) (c .«bit_pos») false table «dc_coded» (now (qfs .entry)) ⌝ }
+    ensures outcome { λ r. ⌜ listOutcome r ≡ listDue (now («data» .entry)) (c .«bit_pos») false table «dc_coded» ⌝ }
 {
     if !readable(data, c) {
         return EventsRead::Refused(TextureParseError::OutOfRange);
@@ -226,7 +232,9 @@ pub fn decode_ac_events_rvlc(
     dc_coded: bool,
     qfs: &mut [i32; 64],
 ) -> EventsRead
-    ensures { λ r. ⌜ (r ≡ listAnswer (now («data» .entry)) (c .«bit_pos») true table «dc_coded») × (now (qfs .exit) ≡ placesAfter (now («data» .entry)) (c .«bit_pos») true table «dc_coded» (now (qfs .entry))) ⌝ }
+    ensures { λ r. ⌜ r ≡ listAnswer (now («data» .entry)) (c .«bit_pos») true table «dc_coded» ⌝ }
+    ensures places { λ r. ⌜ now (qfs .exit) ≡ placesAfter (now («data» .entry)) (c .«bit_pos») true table «dc_coded» (now (qfs .entry)) ⌝ }
+    ensures outcome { λ r. ⌜ listOutcome r ≡ listDue (now («data» .entry)) (c .«bit_pos») true table «dc_coded» ⌝ }
 {
     if !readable(data, c) {
         return EventsRead::Refused(TextureParseError::OutOfRange);

@@ -1,12 +1,12 @@
 // One reversible event: a code and its sign, or an escape (7.4.1.3, Table B.23).
 ghost use mathlib.Core.Path.{_≡_};
-ghost use Prim.Native.Nat.{_<_, _≤_};
+ghost use Prim.Native.Nat.{_<_};
 ghost use Rattle.bits.specs.Bits.{bitsFrom};
 ghost use Rattle.codes.specs.Rvlc.{rvlcCodes, rvlcColumns, rvlcLens, rvlcOf};
 ghost use Rattle.texture.specs.Reader.{mapped};
 ghost use Rattle.texture.specs.Event.{valueOf};
 ghost use Rattle.texture.specs.EventReader.{rvlcDelimiter, rvlcEscaped, rvlcEvent, rvlcMagnitude, rvlcRun, rvlcSign};
-ghost use Rattle.texture.specs.Answer.{Readable, SaysEvent, rvlcSettled};
+ghost use Rattle.texture.specs.Inside.{Readable, SaysEvent, rvlcSettled};
 use crate::error::TextureParseError;
 use crate::event::AcEvent;
 use crate::event::EventRead;

@@ -4,7 +4,7 @@ use Prim.Native.Nat.{_≤_, _-_}
 use native.Mathlib.Omega.{arith}
 use lib.ListN.{length}
 use Rattle.code_tables.proofs.dc_size.Statement.{statement}
-use Rattle.codes.proofs.Fair.{dc-rows}
+use Rattle.codes.proofs.PrefixFree.{dc-rows}
 use Rattle.code_tables.proofs.dc_size.Tie as tie
 
 abbrev Inv-loop : tie.InvT-loop

@@ -4,7 +4,7 @@ use Prim.Native.Nat.{_≤_, _-_}
 use native.Mathlib.Omega.{arith}
 use lib.ListN.{length}
 use Rattle.code_tables.proofs.rvlc.Statement.{statement}
-use Rattle.codes.proofs.Fair.{rvlc-rows}
+use Rattle.codes.proofs.PrefixFree.{rvlc-rows}
 use Rattle.code_tables.proofs.rvlc.Tie as tie
 
 abbrev Inv-loop : tie.InvT-loop

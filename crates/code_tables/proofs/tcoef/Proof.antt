@@ -4,7 +4,7 @@ use Prim.Native.Nat.{_≤_, _-_}
 use native.Mathlib.Omega.{arith}
 use lib.ListN.{length}
 use Rattle.code_tables.proofs.tcoef.Statement.{statement}
-use Rattle.codes.proofs.Fair.{vlc-rows}
+use Rattle.codes.proofs.PrefixFree.{vlc-rows}
 use Rattle.code_tables.proofs.tcoef.Tie as tie
 
 abbrev Inv-loop : tie.InvT-loop

@@ -5,12 +5,17 @@ use borrow.Author.Needs.{needs}
 use denote.Ref.{now}
 use lib.IntN.{ℤ}
 use lib.ListN.{drop}
+use Rattle.numbers.proofs.OutcomeLaws.{also}
+use Rattle.samples.specs.Samples.{writtenOutcome}
 use Rattle.samples.proofs.LayoutLaws.{enough, too-few}
+use Rattle.samples.proofs.OutcomeLaws.{is-written, not-written, written-due}
 use Rattle.samples.proofs.write_macroblock.Statement.{statement}
 use Rattle.samples.proofs.write_macroblock.Tie as tie
 
 returns : tie.Need-returns
-returns c = sym (too-few _ _ (c .if1 .taken))
+returns c =
+    let s = now (c .before .args .samples) in
+    also writtenOutcome (sym (not-written s (c .if1 .taken)), sym (too-few _ s (c .if1 .taken))) (written-due s)
 
 sub-write-all : tie.Need-sub-write-all
 sub-write-all c = search needs
@@ -30,7 +35,8 @@ same-length c = search needs
 returns-2 : tie.Need-returns-2
 returns-2 c =
     let s = now (c .before .before .before .before .args .samples) in
-    ap (λ (l : List ℤ). l ++ drop 384 s) (c .before .write-all .ensures) ∙ sym (enough _ s (c .before .before .before .if1 .left))
+    let h = c .before .before .before .if1 .left in
+    also writtenOutcome (sym (is-written s h), ap (λ (l : List ℤ). l ++ drop 384 s) (c .before .write-all .ensures) ∙ sym (enough _ s h)) (written-due s)
 
 pub write-macroblock-spec : {M : Type 1} → statement M
 write-macroblock-spec =

@@ -26,7 +26,7 @@ returns c =
     let d = now (a .«data») in
     let at = a .c .«bit_pos» in
     let k = c .before .before in
-    sym (check-by d at (a .ctx) (a .predictors) (a .w) true false _ (counted d at _ _ (k .before .before .remaining-bits .ensures) (k .enum-told2 .given .1)) (flag-refuses (c .before .context-fine .ensures) (c .if1 .taken)) refl)
+    sym (check-by d at (a .ctx) (a .predictors) (a .w) true false _ (counted d at _ _ (k .before .before .remaining-bits .ensures .0) (k .enum-told2 .given .1)) (flag-refuses (c .before .context-fine .ensures) (c .if1 .taken)) refl)
 
 predictors-fine-requires : tie.Need-predictors-fine-requires
 predictors-fine-requires c κs = search needs
@@ -37,14 +37,14 @@ returns-2 c =
     let d = now (a .«data») in
     let at = a .c .«bit_pos» in
     let k = c .before .before .before .before in
-    sym (check-by d at (a .ctx) (a .predictors) (a .w) true true false (counted d at _ _ (k .before .before .remaining-bits .ensures) (k .enum-told2 .given .1)) (flag-passes (c .before .before .before .context-fine .ensures) (c .before .before .if1 .left)) (flag-refuses (c .before .predictors-fine .ensures) (c .if2 .taken)))
+    sym (check-by d at (a .ctx) (a .predictors) (a .w) true true false (counted d at _ _ (k .before .before .remaining-bits .ensures .0) (k .enum-told2 .given .1)) (flag-passes (c .before .before .before .context-fine .ensures) (c .before .before .if1 .left)) (flag-refuses (c .before .predictors-fine .ensures) (c .if2 .taken)))
 
 returns-3 : tie.Need-returns-3
 returns-3 c =
     let a = c .before .before .before .before .args in
     let d = now (a .«data») in
     let at = a .c .«bit_pos» in
-    sym (check-by d at (a .ctx) (a .predictors) (a .w) false _ _ (not-counted d at _ _ (c .before .before .remaining-bits .ensures) (c .enum-told .given .1)) refl refl)
+    sym (check-by d at (a .ctx) (a .predictors) (a .w) false _ _ (not-counted d at _ _ (c .before .before .remaining-bits .ensures .0) (c .enum-told .given .1)) refl refl)
 
 returns-4 : tie.Need-returns-4
 returns-4 c =
@@ -52,7 +52,7 @@ returns-4 c =
     let d = now (a .«data») in
     let at = a .c .«bit_pos» in
     let k = c .before .before .before .before in
-    sym (check-by d at (a .ctx) (a .predictors) (a .w) true true true (counted d at _ _ (k .before .before .remaining-bits .ensures) (k .enum-told2 .given .1)) (flag-passes (c .before .before .before .context-fine .ensures) (c .before .before .if1 .left)) (flag-passes (c .before .predictors-fine .ensures) (c .if2 .left)))
+    sym (check-by d at (a .ctx) (a .predictors) (a .w) true true true (counted d at _ _ (k .before .before .remaining-bits .ensures .0) (k .enum-told2 .given .1)) (flag-passes (c .before .before .before .context-fine .ensures) (c .before .before .if1 .left)) (flag-passes (c .before .predictors-fine .ensures) (c .if2 .left)))
 
 pub check-spec : {M : Type 1} → statement M
 check-spec = tie.close (tie.spec remaining-bits-requires enum-told enum-told-2 context-fine-requires returns predictors-fine-requires returns-2 returns-3 returns-4)

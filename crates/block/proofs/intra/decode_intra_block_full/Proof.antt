@@ -43,7 +43,7 @@ returns c =
     let a = c .before .before .before .before .args in
     let d = now (a .«data») in
     let at = a .c .«bit_pos» in
-    let k = sym (c .before .before .from-block-index .ensures) ∙ c .enum-told .given .1 in (
+    let k = sym (c .before .before .from-block-index .ensures .0) ∙ c .enum-told .given .1 in (
       sym (ap₂ (answerOf d at (a .coded) (a .use-intra-dc-vlc) (a .reversible-vlc) (a .ctx) (a .predictors) (a .quant-matrix)) k refl),
       (
         sym (ap₂ (λ (m : BlockComponent) (y : Checked). samplesOut d at (a .coded) (a .use-intra-dc-vlc) (a .reversible-vlc) (a .ctx) (a .predictors) (a .quant-matrix) m y (now (a .spatial))) k refl),
@@ -56,7 +56,7 @@ returns-2 c =
     let a = c .before .before .before .before .before .before .before .before .before .args in
     let d = now (a .«data») in
     let at = a .c .«bit_pos» in
-    let k = sym (c .before .before .before .before .before .before .before .from-block-index .ensures) ∙ c .before .before .before .before .before .component .given .1 in
+    let k = sym (c .before .before .before .before .before .before .before .from-block-index .ensures .0) ∙ c .before .before .before .before .before .component .given .1 in
     let f = sym (c .before .before .before .check .ensures) ∙ c .before .checked .given .1 in (
       sym (ap₂ (answerOf d at (a .coded) (a .use-intra-dc-vlc) (a .reversible-vlc) (a .ctx) (a .predictors) (a .quant-matrix)) k f),
       (
@@ -70,7 +70,7 @@ returns-3 c =
     let a = c .before .before .before .before .before .before .before .before .before .before .before .args in
     let d = now (a .«data») in
     let at = a .c .«bit_pos» in
-    let k = sym (c .before .before .before .before .before .before .before .before .before .from-block-index .ensures) ∙ c .before .before .before .before .before .before .before .component .given .1 in
+    let k = sym (c .before .before .before .before .before .before .before .before .before .from-block-index .ensures .0) ∙ c .before .before .before .before .before .before .before .component .given .1 in
     let f = sym (c .before .before .before .before .before .check .ensures) ∙ c .before .before .before .enum-told2 .given .1 in
     let e = c .decode-checked .ensures in (
       e .0 ∙ sym (ap₂ (answerOf d at (a .coded) (a .use-intra-dc-vlc) (a .reversible-vlc) (a .ctx) (a .predictors) (a .quant-matrix)) k f),

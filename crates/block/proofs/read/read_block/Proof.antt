@@ -19,7 +19,7 @@ next : (k : tie.After-known-told2) → let a = k .before .before .before .before
 next k =
     let s = k .before .before .before .before .before .before in
     let a = s .args in
-    dc-next (now (a .«data»)) (a .c) (s .pre) (a .component) (a .coded) (a .reversible) _ _ (sym (k .before .dc2 .given .1) ∙ k .before .before .before .decode-intra-dc .ensures)
+    dc-next (now (a .«data»)) (a .c) (s .pre) (a .component) (a .coded) (a .reversible) _ _ (sym (k .before .dc2 .given .1) ∙ k .before .before .before .decode-intra-dc .ensures .0)
 
 read-list-requires : tie.Need-read-list-requires
 read-list-requires c κs = search needs
@@ -57,7 +57,7 @@ returns-2 c =
     let a = s .args in
     let d = now (a .«data») in
     c .refusal .ensures
-    ∙ dc-refused d (a .c) (s .pre) (a .component) (a .coded) (a .reversible) _ (sym (k .before .dc .given .1) ∙ k .before .before .before .decode-intra-dc .ensures)
+    ∙ dc-refused d (a .c) (s .pre) (a .component) (a .coded) (a .reversible) _ (sym (k .before .dc .given .1) ∙ k .before .before .before .decode-intra-dc .ensures .0)
     ∙ sym (ap (λ (x : Bool). partsAt d (a .c .«bit_pos») (a .component) (a .coded) x (a .reversible)) (not-false (a .dc-coded) (k .before .before .before .before .if1 .left)))
 
 returns-3 : tie.Need-returns-3

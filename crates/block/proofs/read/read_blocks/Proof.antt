@@ -15,7 +15,7 @@ use Rattle.block.proofs.read.read_blocks.Tie as tie
 inside : (k : tie.After-filled) → let a = k .before .before .before .before .before .args in inData (length (now (a .«data»))) (a .c .«bit_pos») ≡ true
 inside k =
     let a = k .before .before .before .before .before .args in
-    counted (now (a .«data»)) (a .c .«bit_pos») _ _ (k .before .before .before .remaining-bits .ensures) (k .before .enum-told2 .given .1)
+    counted (now (a .«data»)) (a .c .«bit_pos») _ _ (k .before .before .before .remaining-bits .ensures .0) (k .before .enum-told2 .given .1)
 
 remaining-bits-requires : tie.Need-remaining-bits-requires
 remaining-bits-requires c κs = search needs
@@ -43,7 +43,7 @@ returns c =
     let a = c .before .before .before .before .args in
     let d = now (a .«data») in
     let at = a .c .«bit_pos» in
-    blocks-out d at (a .pattern) (a .use-intra-dc-vlc) (a .reversible-vlc) (now (a .rows)) (not-counted d at _ _ (c .before .before .remaining-bits .ensures) (c .enum-told .given .1))
+    blocks-out d at (a .pattern) (a .use-intra-dc-vlc) (a .reversible-vlc) (now (a .rows)) (not-counted d at _ _ (c .before .before .remaining-bits .ensures .0) (c .enum-told .given .1))
 
 returns-2 : tie.Need-returns-2
 returns-2 c =

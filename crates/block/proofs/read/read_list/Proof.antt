@@ -26,7 +26,7 @@ returns-2 c =
     let a = s .args in
     let d = now (a .«data») in
     let t = not-false (a .coded) (c .before .before .before .if1 .left) in
-    is-coded d (a .c) (s .pre) (a .dc-coded) true _ _ (c .decode-ac-events-rvlc .ensures .0) (c .decode-ac-events-rvlc .ensures .1)
+    is-coded d (a .c) (s .pre) (a .dc-coded) true _ _ (c .decode-ac-events-rvlc .ensures .0) (c .decode-ac-events-rvlc .ensures .1 .0)
     ∙ sym (ap₂ (λ (x y : Bool). listAt d (a .c .«bit_pos») x (a .dc-coded) y) t (c .before .before .if2 .taken))
 
 decode-ac-events-requires : tie.Need-decode-ac-events-requires
@@ -38,7 +38,7 @@ returns-3 c =
     let a = s .args in
     let d = now (a .«data») in
     let t = not-false (a .coded) (c .before .before .before .if1 .left) in
-    is-coded d (a .c) (s .pre) (a .dc-coded) false _ _ (c .decode-ac-events .ensures .0) (c .decode-ac-events .ensures .1)
+    is-coded d (a .c) (s .pre) (a .dc-coded) false _ _ (c .decode-ac-events .ensures .0) (c .decode-ac-events .ensures .1 .0)
     ∙ sym (ap₂ (λ (x y : Bool). listAt d (a .c .«bit_pos») x (a .dc-coded) y) t (c .before .before .if2 .left))
 
 pub read-list-spec : {M : Type 1} → statement M

@@ -14,7 +14,7 @@ inverse-quant-method2-requires c κs = search needs
 returns : tie.Need-returns
 returns c =
     let s = c .before .before .before .before in
-    by-method2 (s .args .component) (s .args .ctx) (s .args .w) (s .args .qf) _ (not-true _ (c .before .before .if1 .taken)) (c .inverse-quant-method2 .ensures .1)
+    by-method2 (s .args .ctx) (s .args .w) (s .pre .0) (s .args .component) (s .args .qf) (s .pre .1) _ _ (not-true _ (c .before .before .if1 .taken)) (c .inverse-quant-method2 .ensures .0 .1)
 
 inverse-quant-method1-no-mismatch-requires : tie.Need-inverse-quant-method1-no-mismatch-requires
 inverse-quant-method1-no-mismatch-requires c κs = search needs
@@ -22,8 +22,8 @@ inverse-quant-method1-no-mismatch-requires c κs = search needs
 returns-2 : tie.Need-returns-2
 returns-2 c =
     let s = c .before .before .before .before .before in
-    by-method1 (s .args .component) (s .args .ctx) (s .args .w) (s .args .qf) _ false (not-false _ (c .before .before .before .if1 .left)) (ap not (c .before .before .if2 .taken))
-    (c .inverse-quant-method1-no-mismatch .ensures .1)
+    by-method1 (s .args .ctx) (s .args .w) (s .pre .0) (s .args .component) (s .args .qf) (s .pre .1) _ _ false (not-false _ (c .before .before .before .if1 .left)) (ap not (c .before .before .if2 .taken))
+    (c .inverse-quant-method1-no-mismatch .ensures .0 .1)
 
 inverse-quant-method1-requires : tie.Need-inverse-quant-method1-requires
 inverse-quant-method1-requires c κs = search needs
@@ -31,8 +31,8 @@ inverse-quant-method1-requires c κs = search needs
 returns-3 : tie.Need-returns-3
 returns-3 c =
     let s = c .before .before .before .before .before in
-    by-method1 (s .args .component) (s .args .ctx) (s .args .w) (s .args .qf) _ true (not-false _ (c .before .before .before .if1 .left)) (ap not (c .before .before .if2 .left))
-    (c .inverse-quant-method1 .ensures .1)
+    by-method1 (s .args .ctx) (s .args .w) (s .pre .0) (s .args .component) (s .args .qf) (s .pre .1) _ _ true (not-false _ (c .before .before .before .if1 .left)) (ap not (c .before .before .if2 .left))
+    (c .inverse-quant-method1 .ensures .0 .1)
 
 pub values-of-spec : {M : Type 1} → statement M
 values-of-spec =

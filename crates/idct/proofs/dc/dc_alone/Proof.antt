@@ -6,7 +6,7 @@ use native.Mathlib.Omega.{arith}
 use lib.ListN.{drop}
 use borrow.Author.Tests.{not-true, not-false}
 use Rattle.numbers.specs.Every.{every}
-use Rattle.idct.specs.Transform.{isZero, withoutDc}
+use Rattle.idct.specs.ShortWays.{isZero, withoutDc}
 use Rattle.idct.proofs.DcAlone.{length-withoutDc}
 use Rattle.idct.proofs.Scans.{goes-on, stops, ends}
 use Rattle.idct.proofs.dc.dc_alone.Statement.{statement}

@@ -5,8 +5,8 @@ use mir.Facts.{toZ-ofZ}
 use mir.Syntax.{w32}
 use borrow.Author.Needs.{needs}
 use Rattle.numbers.specs.Grid.{build}
-use Rattle.idct.specs.Limits.{saturated}
-use Rattle.idct.specs.Transform.{dcPass}
+use Rattle.numbers.specs.Limit.{clampZ}
+use Rattle.idct.specs.ShortWays.{dcPass}
 use Rattle.idct.proofs.DcAlone.{dc-bounded, dc-samples-are}
 use Rattle.idct.proofs.dc.dc_samples.Statement.{statement}
 use Rattle.idct.proofs.dc.dc_samples.Tie as tie
@@ -33,8 +33,8 @@ round-to-integer-requires c κs =
     let g = c .before .before .before .dc-pass-arg .given in
     dc-bounded (e .args .t1) (e .pre .1) (c .dc-pass2 .result) (e .pre .0) (c .dc-pass2 .ensures ∙ ap dcPass (c .before .dc-pass .ensures ∙ ap (λ z. dcPass (ofInt binary64 z)) (search needs)))
 
-saturate-idct-sample-requires : tie.Need-saturate-idct-sample-requires
-saturate-idct-sample-requires c κs = search needs
+clamp-requires : tie.Need-clamp-requires
+clamp-requires c κs = search needs
 
 returns : tie.Need-returns
 unfolding build
@@ -42,11 +42,14 @@ returns c =
     let k = c .before .before in
     let e = k .before .before .before .before in
     let n = c .before .round-to-integer .result in
-    let r = c .saturate-idct-sample .result in
+    let r = c .clamp .result in
     let h = k .before .before .row-known .given in
     let g = k .before .before .before .dc-pass-arg .given in
-    dc-samples-are (e .args .t1) (e .pre .1) (e .args .bits-per-pixel) (e .args .rounding) (k .dc-pass2 .result) _ (k .dc-pass2 .ensures ∙ ap dcPass (k .before .dc-pass .ensures ∙ ap (λ z. dcPass (ofInt binary64 z)) (search needs)))
-    (toZ-ofZ {w = w32} {z = r} (record { sfits = c .saturate-idct-sample .ok }) ∙ c .saturate-idct-sample .ensures ∙ ap (saturated (e .args .bits-per-pixel)) (toZ-ofZ {w = w32} {z = n} (record { sfits = c .before .round-to-integer .ok }) ∙ c .before .round-to-integer .ensures))
+    let v = toZ-ofZ {w = w32} {z = n} (record { sfits = c .before .round-to-integer .ok }) ∙ c .before .round-to-integer .ensures in
+    let lo = toZ-ofZ {w = w32} {z = e .args .lo} (e .fits .lo) in
+    let hi = toZ-ofZ {w = w32} {z = e .args .hi} (e .fits .hi) in
+    dc-samples-are (e .args .t1) (e .pre .1) (e .args .lo) (e .args .hi) (e .args .rounding) (k .dc-pass2 .result) _ (k .dc-pass2 .ensures ∙ ap dcPass (k .before .dc-pass .ensures ∙ ap (λ z. dcPass (ofInt binary64 z)) (search needs)))
+    (toZ-ofZ {w = w32} {z = r} (record { sfits = c .clamp .ok }) ∙ c .clamp .ensures ∙ (λ i. clampZ (v i) (lo i) (hi i)))
 
 pub dc-samples-spec : {M : Type 1} → statement M
 dc-samples-spec =
@@ -58,5 +61,5 @@ dc-samples-spec =
     dc-pass-requires
     dc-pass-requires-2
     round-to-integer-requires
-    saturate-idct-sample-requires
+    clamp-requires
     returns)

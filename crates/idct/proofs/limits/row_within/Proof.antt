@@ -5,30 +5,33 @@ use Prim.Native.Nat.{_-_, _≤_}
 use native.Mathlib.Omega.{arith}
 use lib.IntN.{pos}
 use lib.ListN.{drop}
+use mir.Facts.{toZ-ofZ}
+use mir.Syntax.{w32}
+use mir.Val.{ofZ, toZ}
 use borrow.Author.Needs.{needs}
 use Rattle.numbers.specs.Every.{every}
-use Rattle.idct.specs.Limits.{inBounds}
+use Rattle.ranges.specs.Range.{within}
 use Rattle.idct.proofs.Scans.{adds, has-all}
 use Rattle.idct.proofs.limits.row_within.Statement.{statement}
 use Rattle.idct.proofs.limits.row_within.Tie as tie
 
 abbrev Inv-loop : tie.InvT-loop
-Inv-loop bits row fine₀ u₀ fine u = (u ≤ 8) × (every (inBounds bits) row ≡ (fine && every (inBounds bits) (drop u row)))
+Inv-loop lo hi row fine₀ u₀ fine u = (u ≤ 8) × (every (within (toZ w32 lo) (toZ w32 hi)) row ≡ (fine && every (within (toZ w32 lo) (toZ w32 hi)) (drop u row)))
 
 abbrev μ-loop : tie.MeasureT-loop
-μ-loop bits row fine₀ u₀ fine u = 8 - u
+μ-loop lo hi row fine₀ u₀ fine u = 8 - u
 
 loop-holds : tie.Need-loop-holds Inv-loop μ-loop
 loop-holds c = (omega arith, refl)
 
-mul-value-within : tie.Need-mul-value-within Inv-loop μ-loop
-mul-value-within c = omega arith
+mul-inside : tie.Need-mul-inside Inv-loop μ-loop
+mul-inside c = omega arith
 
-array-copy-out-value-within : tie.Need-array-copy-out-value-within Inv-loop μ-loop
-array-copy-out-value-within c = omega arith
+array-copy-out-inside : tie.Need-array-copy-out-inside Inv-loop μ-loop
+array-copy-out-inside c = omega arith
 
-value-within-requires : tie.Need-value-within-requires Inv-loop μ-loop
-value-within-requires c κs = search needs
+inside-requires : tie.Need-inside-requires Inv-loop μ-loop
+inside-requires c κs = search needs
 
 add-u : tie.Need-add-u Inv-loop μ-loop
 add-u c = omega arith
@@ -40,11 +43,16 @@ loop-again : tie.Need-loop-again Inv-loop μ-loop
 loop-again c =
     let l = c .before .before .before .loop in
     let a = c .before .before .before .before .args in
-    let k = c .before .value-within-arg .given in
-    (omega arith, adds (inBounds (a .bits)) (pos 0) (a .t1) (l .u) (l .fine) (c .value-within .result) (omega arith) (l .inv .1) (c .value-within .ensures ∙ ap (inBounds (a .bits)) (search needs)))
+    let k = c .before .inside-arg .given in
+    (omega arith, adds (within (toZ w32 (ofZ w32 (a .lo))) (toZ w32 (ofZ w32 (a .hi)))) (pos 0) (a .t1) (l .u) (l .fine) (c .inside .result) (omega arith) (l .inv .1) (c .inside .ensures ∙ ap (within (toZ w32 (ofZ w32 (a .lo))) (toZ w32 (ofZ w32 (a .hi)))) (search needs)))
 
 returns : tie.Need-returns Inv-loop μ-loop
-returns c = has-all (inBounds (c .before .before .args .bits)) (pos 0) (c .before .before .args .t1) (c .before .loop .u) (c .before .loop .fine) (omega arith) (c .before .loop .inv .1)
+returns c =
+    let s = c .before .before in
+    let lo = toZ-ofZ {w = w32} {z = s .args .lo} (s .fits .lo) in
+    let hi = toZ-ofZ {w = w32} {z = s .args .hi} (s .fits .hi) in
+    has-all (within (toZ w32 (ofZ w32 (s .args .lo))) (toZ w32 (ofZ w32 (s .args .hi)))) (pos 0) (s .args .t1) (c .before .loop .u) (c .before .loop .fine) (omega arith) (c .before .loop .inv .1)
+    ∙ (λ i. every (within (lo i) (hi i)) (s .args .t1))
 
 pub row-within-spec : {M : Type 1} → statement M
 row-within-spec =
@@ -53,9 +61,9 @@ row-within-spec =
     Inv-loop
     μ-loop
     loop-holds
-    mul-value-within
-    array-copy-out-value-within
-    value-within-requires
+    mul-inside
+    array-copy-out-inside
+    inside-requires
     add-u
     loop-less
     loop-again

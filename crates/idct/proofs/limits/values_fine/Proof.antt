@@ -1,71 +1,49 @@
--- `idct::limits::values_fine` meets its contract, one row a turn. Assumes nothing.
-use mathlib.Core.List.{[]}
-use mathlib.Core.Path.{_≡_, refl, sym, _∙_}
-use Prim.Native.Nat.{_+_, _-_, _≤_}
-use native.Mathlib.Omega.{arith}
-use lib.ListN.{drop}
-use borrow.Author.Tests.{not-true, not-false}
+-- `idct::limits::values_fine` meets its contract: a fine depth has its limits. Assumes nothing.
+use mathlib.Core.Path.{_∙_}
+use borrow.Author.Needs.{needs}
+use Rattle.numbers.proofs.Words.{held}
 use Rattle.numbers.specs.Every.{every}
-use Rattle.idct.specs.Limits.{inBounds, valuesFine}
-use Rattle.idct.proofs.Scans.{goes-on, stops, ends}
+use Rattle.ranges.specs.Range.{within}
+use Rattle.idct.proofs.DepthArms.{values-are, values-never}
 use Rattle.idct.proofs.limits.values_fine.Statement.{statement}
 use Rattle.idct.proofs.limits.values_fine.Tie as tie
 
-abbrev Inv-loop : tie.InvT-loop
-Inv-loop bits-per-pixel coefficients bits v₀ v = (v ≤ 8) × (valuesFine bits-per-pixel coefficients ≡ valuesFine bits-per-pixel (drop v coefficients))
+value-limits-requires : tie.Need-value-limits-requires
+value-limits-requires c κs = search needs
 
-abbrev μ-loop : tie.MeasureT-loop
-μ-loop bits-per-pixel coefficients bits v₀ v = 8 - v
+enum-known-lo : tie.Need-enum-known-lo
+enum-known-lo c = search needs
 
-add-bits : tie.Need-add-bits Inv-loop μ-loop
-add-bits c = omega arith
+block-within-requires : tie.Need-block-within-requires
+block-within-requires c κs = search needs
 
-loop-holds : tie.Need-loop-holds Inv-loop μ-loop
-loop-holds c = (omega arith, refl)
+enum-told : tie.Need-enum-told
+enum-told c = search needs
 
-mul-row : tie.Need-mul-row Inv-loop μ-loop
-mul-row c = omega arith
-
-array-copy-out-row : tie.Need-array-copy-out-row Inv-loop μ-loop
-array-copy-out-row c = omega arith
-
-row-within-requires : tie.Need-row-within-requires Inv-loop μ-loop
-row-within-requires c κs = omega arith
-
-returns : tie.Need-returns Inv-loop μ-loop
+returns : tie.Need-returns
 returns c =
-    let l = c .before .before .before .before .loop in
-    let a = c .before .before .before .before .before .args in
-    stops (every (inBounds (a .bits-per-pixel + 3))) [] (a .t1) (l .v) (omega arith) (l .inv .1) (sym (c .before .row-within .ensures) ∙ not-true _ (c .if1 .taken))
+    let m = c .before .before in
+    let k = c .before .known-told .given in
+    let b = m .before .before .value-limits in
+    let s = m .before .before .before in
+    let e = values-are (s .args .bits-per-pixel) (b .result) (s .pre) (b .ensures) (m .lo .given .0 .0) (m .lo .given .0 .1 .0) (m .lo .given .1) in
+    let lo = held (m .lo .given .0 .0) (k .0 .1) ∙ e .0 in
+    let hi = held (m .lo .given .0 .1 .0) (k .1 .0 .1) ∙ e .1 in
+    c .block-within .ensures ∙ (λ i. every (every (within (lo i) (hi i))) (s .args .coefficients))
 
-add-v : tie.Need-add-v Inv-loop μ-loop
-add-v c = omega arith
-
-loop-less : tie.Need-loop-less Inv-loop μ-loop
-loop-less c = omega arith
-
-loop-again : tie.Need-loop-again Inv-loop μ-loop
-loop-again c =
-    let l = c .before .before .before .before .loop in
-    let a = c .before .before .before .before .before .args in
-    (omega arith, goes-on (every (inBounds (a .bits-per-pixel + 3))) [] (a .t1) (l .v) (omega arith) (l .inv .1) (sym (c .before .row-within .ensures) ∙ not-false _ (c .if1 .left)))
-
-returns-2 : tie.Need-returns-2 Inv-loop μ-loop
-returns-2 c = ends (every (inBounds (c .before .before .args .bits-per-pixel + 3))) [] (c .before .before .args .t1) (c .before .loop .v) (omega arith) (c .before .loop .inv .1)
+returns-2 : tie.Need-returns-2
+returns-2 c =
+    let b = c .before .before .value-limits in
+    let s = c .before .before .before in
+    absurd (values-never (s .args .bits-per-pixel) (b .result) (s .pre) (b .ensures) (c .enum-told .given .1))
 
 pub values-fine-spec : {M : Type 1} → statement M
 values-fine-spec =
     tie.close
     (tie.spec
-    Inv-loop
-    μ-loop
-    add-bits
-    loop-holds
-    mul-row
-    array-copy-out-row
-    row-within-requires
+    value-limits-requires
+    enum-known-lo
+    block-within-requires
+    enum-told
     returns
-    add-v
-    loop-less
-    loop-again
     returns-2)

@@ -7,7 +7,7 @@ use lib.Ieee.{Float, nan, binary64, ofBits, add, mul}
 use lib.ListN.{getD}
 use Rattle.numbers.proofs.Fill.{part, cells-none, cells-more, cells-all}
 use Rattle.numbers.specs.Grid.{build}
-use Rattle.idct.specs.Transform.{cellF}
+use Rattle.idct.specs.ShortWays.{cellF}
 use Rattle.idct.proofs.transform.add_rows.Statement.{statement}
 use Rattle.idct.proofs.transform.add_rows.Tie as tie
 

@@ -9,7 +9,7 @@ use borrow.Author.Needs.{needs}
 use borrow.Author.Tests.{eq-eqb, ne-eqb}
 use Rattle.numbers.specs.Every.{every}
 use Rattle.numbers.proofs.Words.{zero-abs, nonzero-abs}
-use Rattle.idct.specs.Transform.{isZero}
+use Rattle.idct.specs.ShortWays.{isZero}
 use Rattle.idct.proofs.Scans.{goes-on, stops, ends}
 use Rattle.idct.proofs.transform.all_zero.Statement.{statement}
 use Rattle.idct.proofs.transform.all_zero.Tie as tie

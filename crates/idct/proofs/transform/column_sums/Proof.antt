@@ -10,7 +10,7 @@ use borrow.Author.Tests.{not-false}
 use Rattle.numbers.proofs.Fill.{getD-build}
 use Rattle.numbers.specs.Grid.{block, build}
 use Rattle.idct.specs.Cosines.{cosF}
-use Rattle.idct.specs.Transform.{sumOfRows}
+use Rattle.idct.specs.ShortWays.{sumOfRows}
 use Rattle.idct.proofs.Blocks.{no-rows, row-more, row-skip}
 use Rattle.idct.proofs.Scans.{is-T}
 use Rattle.idct.proofs.transform.column_sums.Statement.{statement}

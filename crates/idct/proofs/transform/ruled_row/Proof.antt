@@ -8,31 +8,33 @@ use lib.IntN.{ℤ, pos}
 use lib.ListN.{getD}
 use mir.Facts.{toZ-ofZ}
 use mir.Syntax.{w32}
+use mir.Val.{ofZ, toZ}
 use Rattle.numbers.proofs.Fill.{part, cells-none, cells-more, cells-all}
 use Rattle.numbers.specs.Grid.{build}
+use Rattle.numbers.specs.Limit.{clampZ}
 use Rattle.f64_error.specs.Series.{half}
-use Rattle.idct.specs.Limits.{saturated}
-use Rattle.idct.specs.Rounding.{Roundable, wholeOf}
+use Rattle.idct.specs.Rounding.{wholeOf}
+use Rattle.idct.specs.ShortWays.{Roundable}
 use Rattle.idct.specs.declared.rounding.HalfIntegerRounding.{HalfIntegerRounding}
 use Rattle.idct.proofs.Loops.{half-bits}
 use Rattle.idct.proofs.transform.ruled_row.Statement.{statement}
 use Rattle.idct.proofs.transform.ruled_row.Tie as tie
 
-abbrev f : ℕ → HalfIntegerRounding → List Float → ℕ → ℤ
-f bits rounding sums x = saturated bits (wholeOf rounding (mul binary64 half (getD sums x nan)))
+abbrev f : ℤ → ℤ → HalfIntegerRounding → List Float → ℕ → ℤ
+f lo hi rounding sums x = clampZ (wholeOf rounding (mul binary64 half (getD sums x nan))) lo hi
 
 abbrev z : ℕ → ℤ
 z x = pos 0
 
 abbrev Inv-loop : tie.InvT-loop
-Inv-loop bits-per-pixel rounding sums out₀ x₀ out x = (x ≤ 8) × (out ≡ part 8 (f bits-per-pixel rounding sums) z x)
+Inv-loop lo hi rounding sums out₀ x₀ out x = (x ≤ 8) × (out ≡ part 8 (f (toZ w32 lo) (toZ w32 hi) rounding sums) z x)
 
 abbrev μ-loop : tie.MeasureT-loop
-μ-loop bits-per-pixel rounding sums out₀ x₀ out x = 8 - x
+μ-loop lo hi rounding sums out₀ x₀ out x = 8 - x
 
 loop-holds : tie.Need-loop-holds Inv-loop μ-loop
 unfolding build
-loop-holds c = (omega arith, cells-none 8 (f (c .args .bits-per-pixel) (c .args .rounding) (c .args .t1)) z _ refl)
+loop-holds c = (omega arith, cells-none 8 (f (toZ w32 (ofZ w32 (c .args .lo))) (toZ w32 (ofZ w32 (c .args .hi))) (c .args .rounding) (c .args .t1)) z _ refl)
 
 mul-value : tie.Need-mul-value Inv-loop μ-loop
 mul-value c = omega arith
@@ -46,8 +48,8 @@ round-to-integer-requires c κs =
     let s = i .before in
     subst (λ (h : Float). Roundable (mul binary64 h (getD (s .args .t1) (i .loop .x) nan))) (sym half-bits) (s .pre _ (c .loop-test .taken))
 
-saturate-idct-sample-requires : tie.Need-saturate-idct-sample-requires Inv-loop μ-loop
-saturate-idct-sample-requires c κs = tt
+clamp-requires : tie.Need-clamp-requires Inv-loop μ-loop
+clamp-requires c κs = tt
 
 mul-out : tie.Need-mul-out Inv-loop μ-loop
 mul-out c = omega arith
@@ -66,17 +68,21 @@ loop-again c =
     let i = c .before .before .before in
     let a = i .before .args in
     let n = c .before .round-to-integer .result in
-    let r = c .saturate-idct-sample .result in (
+    let r = c .clamp .result in (
       omega arith,
       cells-more 8 _ _ (pos 0) _ _ _ (c .before .before .loop-test .taken) (i .loop .inv .1)
-          (toZ-ofZ {w = w32} {z = r} (record { sfits = c .saturate-idct-sample .ok }) ∙ c .saturate-idct-sample .ensures
-          ∙ ap (saturated (a .bits-per-pixel))
+          (toZ-ofZ {w = w32} {z = r} (record { sfits = c .clamp .ok }) ∙ c .clamp .ensures
+          ∙ ap (λ (k : ℤ). clampZ k (toZ w32 (ofZ w32 (a .lo))) (toZ w32 (ofZ w32 (a .hi))))
           (toZ-ofZ {w = w32} {z = n} (record { sfits = c .before .round-to-integer .ok }) ∙ c .before .round-to-integer .ensures
           ∙ ap (λ (h : Float). wholeOf (a .rounding) (mul binary64 h (getD (a .t1) (i .loop .x) nan))) half-bits)),
     )
 
 returns : tie.Need-returns Inv-loop μ-loop
-returns c = cells-all 8 _ _ _ _ (c .loop-test .left) (c .before .loop .inv .0) (c .before .loop .inv .1)
+returns c =
+    let s = c .before .before in
+    let lo = toZ-ofZ {w = w32} {z = s .args .lo} (s .fits .lo) in
+    let hi = toZ-ofZ {w = w32} {z = s .args .hi} (s .fits .hi) in
+    cells-all 8 _ _ _ _ (c .loop-test .left) (c .before .loop .inv .0) (c .before .loop .inv .1) ∙ (λ i. build 8 (f (lo i) (hi i) (s .args .rounding) (s .args .t1)))
 
 pub ruled-row-spec : {M : Type 1} → statement M
 ruled-row-spec =
@@ -88,7 +94,7 @@ ruled-row-spec =
     mul-value
     array-read-value
     round-to-integer-requires
-    saturate-idct-sample-requires
+    clamp-requires
     mul-out
     array-set-from-out
     add-x

@@ -10,11 +10,13 @@ use lib.IntN.{ℤ, pos}
 use lib.ListN.{getD}
 use mir.Facts.{toZ-ofZ}
 use mir.Syntax.{w32}
+use mir.Val.{ofZ, toZ}
 use Rattle.numbers.proofs.Fill.{part, build-eq, cells-none, cells-more, cells-all}
 use Rattle.numbers.specs.Grid.{build}
+use Rattle.numbers.specs.Limit.{clampZ}
 use Rattle.f64_error.specs.Series.{half}
-use Rattle.idct.specs.Limits.{saturated}
-use Rattle.idct.specs.Rounding.{Roundable, nearZ, wholeOf}
+use Rattle.idct.specs.Rounding.{wholeOf}
+use Rattle.idct.specs.ShortWays.{Roundable, nearZ}
 use Rattle.idct.specs.declared.rounding.HalfIntegerRounding.{HalfIntegerRounding}
 use Rattle.idct.proofs.Loops.{half-bits}
 use Rattle.idct.proofs.transform.sample_row.Statement.{statement}
@@ -23,8 +25,8 @@ use Rattle.idct.proofs.transform.sample_row.Tie as tie
 abbrev value : List Float → ℕ → Float
 value sums x = mul binary64 half (getD sums x nan)
 
-abbrev g : ℕ → List Float → ℕ → ℤ
-g bits sums x = saturated bits (nearZ (value sums x))
+abbrev g : ℤ → ℤ → List Float → ℕ → ℤ
+g lo hi sums x = clampZ (nearZ (value sums x)) lo hi
 
 abbrev z : ℕ → ℤ
 z x = pos 0
@@ -37,15 +39,15 @@ sure-more sums x below here i l =
     ⊎-elim (λ (e : i ≡ x). subst (Sure sums) (sym e) here) (λ (h : i < x). below i h) (eq-or-lt-of-le (omega arith))
 
 abbrev Inv-loop : tie.InvT-loop
-Inv-loop bits-per-pixel rounding sums out₀ doubts₀ x₀ out doubts x =
-    (x ≤ 8) × (doubts ≤ x) × (out ≡ part 8 (g bits-per-pixel sums) z x) × (doubts ≡ 0 → (i : ℕ) → i < x → Sure sums i)
+Inv-loop lo hi rounding sums out₀ doubts₀ x₀ out doubts x =
+    (x ≤ 8) × (doubts ≤ x) × (out ≡ part 8 (g (toZ w32 lo) (toZ w32 hi) sums) z x) × (doubts ≡ 0 → (i : ℕ) → i < x → Sure sums i)
 
 abbrev μ-loop : tie.MeasureT-loop
-μ-loop bits-per-pixel rounding sums out₀ doubts₀ x₀ out doubts x = 8 - x
+μ-loop lo hi rounding sums out₀ doubts₀ x₀ out doubts x = 8 - x
 
 loop-holds : tie.Need-loop-holds Inv-loop μ-loop
 unfolding build
-loop-holds c = (omega arith, omega arith, cells-none 8 (g (c .args .bits-per-pixel) (c .args .t1)) z _ refl, λ e i l. absurd (omega arith))
+loop-holds c = (omega arith, omega arith, cells-none 8 (g (toZ w32 (ofZ w32 (c .args .lo))) (toZ w32 (ofZ w32 (c .args .hi))) (c .args .t1)) z _ refl, λ e i l. absurd (omega arith))
 
 mul-value : tie.Need-mul-value Inv-loop μ-loop
 mul-value c = omega arith
@@ -63,8 +65,8 @@ roundable c =
 nearest-of-requires : tie.Need-nearest-of-requires Inv-loop μ-loop
 nearest-of-requires c κs = roundable c
 
-saturate-idct-sample-requires : tie.Need-saturate-idct-sample-requires Inv-loop μ-loop
-saturate-idct-sample-requires c κs = tt
+clamp-requires : tie.Need-clamp-requires Inv-loop μ-loop
+clamp-requires c κs = tt
 
 mul-out : tie.Need-mul-out Inv-loop μ-loop
 mul-out c = omega arith
@@ -90,13 +92,13 @@ loop-again c =
     let i = k .before .before .before in
     let a = i .before .args in
     let n = k .before .nearest-of .result in
-    let r = k .saturate-idct-sample .result in
+    let r = k .clamp .result in
     let u = c .unsettled .ensures in (
       omega arith,
       omega (arith, u .0),
       cells-more 8 _ _ (pos 0) _ _ _ (k .before .before .loop-test .taken) (i .loop .inv .2)
-          (toZ-ofZ {w = w32} {z = r} (record { sfits = k .saturate-idct-sample .ok }) ∙ k .saturate-idct-sample .ensures
-          ∙ ap (saturated (a .bits-per-pixel))
+          (toZ-ofZ {w = w32} {z = r} (record { sfits = k .clamp .ok }) ∙ k .clamp .ensures
+          ∙ ap (λ (k : ℤ). clampZ k (toZ w32 (ofZ w32 (a .lo))) (toZ w32 (ofZ w32 (a .hi))))
           (toZ-ofZ {w = w32} {z = n} (record { sfits = k .before .nearest-of .ok }) ∙ k .before .nearest-of .ensures ∙ ap (λ (h : Float). nearZ (mul binary64 h (getD (a .t1) (i .loop .x) nan))) half-bits)),
       λ e. sure-more (a .t1) (i .loop .x) (i .loop .inv .3 (omega arith))
           (λ m. subst (λ (h : Float). wholeOf m (mul binary64 h (getD (a .t1) (i .loop .x) nan)) ≡ nearZ (mul binary64 h (getD (a .t1) (i .loop .x) nan))) half-bits (u .1 (omega arith) m)),
@@ -105,16 +107,25 @@ loop-again c =
 returns : tie.Need-returns Inv-loop μ-loop
 returns c =
     let l = c .before .before .loop in
-    let a = c .before .before .before .args in
+    let s = c .before .before .before in
+    let a = s .args in
+    let lo = toZ-ofZ {w = w32} {z = a .lo} (s .fits .lo) in
+    let hi = toZ-ofZ {w = w32} {z = a .hi} (s .fits .hi) in
     cells-all 8 _ _ _ _ (c .before .loop-test .left) (l .inv .0) (l .inv .2)
-    ∙ build-eq 8 (g (a .bits-per-pixel) (a .t1)) (λ (x : ℕ). saturated (a .bits-per-pixel) (wholeOf (a .rounding) (value (a .t1) x)))
-    (λ (x : ℕ) (h : x < 8). ap (saturated (a .bits-per-pixel)) (sym (l .inv .3 (c .if1 .taken) x (omega (arith, c .before .loop-test .left)) (a .rounding))))
+    ∙ (λ i. build 8 (g (lo i) (hi i) (a .t1)))
+    ∙ build-eq 8 (g (a .lo) (a .hi) (a .t1)) (λ (x : ℕ). clampZ (wholeOf (a .rounding) (value (a .t1) x)) (a .lo) (a .hi))
+    (λ (x : ℕ) (h : x < 8). ap (λ (k : ℤ). clampZ k (a .lo) (a .hi)) (sym (l .inv .3 (c .if1 .taken) x (omega (arith, c .before .loop-test .left)) (a .rounding))))
 
 ruled-row-requires : tie.Need-ruled-row-requires Inv-loop μ-loop
 ruled-row-requires c κs = c .before .before .before .pre
 
 returns-2 : tie.Need-returns-2 Inv-loop μ-loop
-returns-2 c = c .ruled-row .ensures
+returns-2 c =
+    let s = c .before .before .before .before in
+    let a = s .args in
+    let lo = toZ-ofZ {w = w32} {z = a .lo} (s .fits .lo) in
+    let hi = toZ-ofZ {w = w32} {z = a .hi} (s .fits .hi) in
+    c .ruled-row .ensures ∙ (λ i. build 8 (λ (x : ℕ). clampZ (wholeOf (a .rounding) (value (a .t1) x)) (lo i) (hi i)))
 
 pub sample-row-spec : {M : Type 1} → statement M
 sample-row-spec =
@@ -126,7 +137,7 @@ sample-row-spec =
     mul-value
     array-read-value
     nearest-of-requires
-    saturate-idct-sample-requires
+    clamp-requires
     mul-out
     array-set-from-out
     unsettled-requires

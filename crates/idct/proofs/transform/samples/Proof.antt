@@ -1,44 +1,50 @@
--- `idct::transform::samples` meets its contract: a DC alone, or the two passes, which are the definition, and bounded. Assumes nothing.
-use mathlib.Core.Path.{sym, _∙_}
+-- `idct::transform::samples` meets its contract: a fine depth has its limits. Assumes nothing.
+use mathlib.Core.Path.{_∙_}
 use borrow.Author.Needs.{needs}
-use Rattle.idct.proofs.Blocks.{samples-are, sums-bounded}
+use Rattle.numbers.proofs.Words.{held}
+use Rattle.idct.specs.Limits.{saturated}
+use Rattle.idct.specs.ShortWays.{samplesIn}
+use Rattle.idct.proofs.DepthArms.{samples-are, samples-never}
 use Rattle.idct.proofs.transform.samples.Statement.{statement}
 use Rattle.idct.proofs.transform.samples.Tie as tie
 
-dc-alone-requires : tie.Need-dc-alone-requires
-dc-alone-requires c κs = search needs
+saturation-limits-requires : tie.Need-saturation-limits-requires
+saturation-limits-requires c κs = search needs
 
-dc-samples-requires : tie.Need-dc-samples-requires
-dc-samples-requires c κs = (c .before .before .pre, sym (c .before .dc-alone .ensures) ∙ c .if1 .taken)
+enum-known-lo : tie.Need-enum-known-lo
+enum-known-lo c = search needs
+
+samples-within-requires : tie.Need-samples-within-requires
+samples-within-requires c κs = search needs
+
+enum-told : tie.Need-enum-told
+enum-told c = search needs
 
 returns : tie.Need-returns
-returns c = search needs
-
-cos-table-requires : tie.Need-cos-table-requires
-cos-table-requires c κs = search needs
-
-column-sums-requires : tie.Need-column-sums-requires
-column-sums-requires c κs = search needs
-
-to-samples-requires : tie.Need-to-samples-requires
-to-samples-requires c κs =
-    let e = c .before .before .before .before .before in
-    sums-bounded (e .args .coefficients) (c .column-sums .result) (c .column-sums .ensures) (e .pre)
+unfolding saturated
+returns c =
+    let m = c .before .before in
+    let k = c .before .known-told .given in
+    let b = m .before .before .saturation-limits in
+    let s = m .before .before .before in
+    let e = samples-are (s .args .bits-per-pixel) (b .result) (s .pre .1) (b .ensures) (m .lo .given .0 .0) (m .lo .given .0 .1 .0) (m .lo .given .1) in
+    let lo = held (m .lo .given .0 .0) (k .0 .1) ∙ e .0 in
+    let hi = held (m .lo .given .0 .1 .0) (k .1 .0 .1) ∙ e .1 in
+    c .samples-within .ensures ∙ (λ i. samplesIn (s .args .rounding) (lo i) (hi i) (s .args .coefficients))
 
 returns-2 : tie.Need-returns-2
 returns-2 c =
-    let s = c .before .column-sums in
-    let a = c .before .before .before .before .before .before .args in
-    c .to-samples .ensures ∙ samples-are (a .coefficients) (s .result) (s .ensures) (a .bits-per-pixel) (a .rounding)
+    let b = c .before .before .saturation-limits in
+    let s = c .before .before .before in
+    absurd (samples-never (s .args .bits-per-pixel) (b .result) (s .pre .1) (b .ensures) (c .enum-told .given .1))
 
 pub samples-spec : {M : Type 1} → statement M
 samples-spec =
     tie.close
     (tie.spec
-    dc-alone-requires
-    dc-samples-requires
+    saturation-limits-requires
+    enum-known-lo
+    samples-within-requires
+    enum-told
     returns
-    cos-table-requires
-    column-sums-requires
-    to-samples-requires
     returns-2)

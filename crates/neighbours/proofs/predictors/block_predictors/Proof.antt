@@ -1,80 +1,52 @@
--- `neighbours::predictors::block_predictors` meets its contract: the three sides of the block, or none. Assumes nothing.
-use denote.Ref.{now}
-use mathlib.Core.Path.{ap, sym, _∙_}
+-- `neighbours::predictors::block_predictors` meets its contract: what is refused, or what the block takes. Assumes nothing.
+use mathlib.Core.Path.{sym, _∙_}
 use borrow.Author.Needs.{needs}
-use Rattle.numbers.proofs.Words.{held}
-use Rattle.neighbours.specs.Record.{recordAt}
-use Rattle.neighbours.specs.Neighbours.{aroundBy}
-use Rattle.neighbours.specs.declared.record.Side.{Side}
-use Rattle.neighbours.proofs.SideLaws.{side-is, taken-of, none-taken}
+use denote.Ref.{now}
+use Rattle.numbers.proofs.OutcomeLaws.{also}
+use Rattle.neighbours.specs.Refusals.{recordedOutcome}
+use Rattle.neighbours.proofs.OutcomeLaws.{taken-due}
+use Rattle.neighbours.proofs.RefusalLaws.{beside, taken-below}
 use Rattle.neighbours.proofs.predictors.block_predictors.Statement.{statement}
 use Rattle.neighbours.proofs.predictors.block_predictors.Tie as tie
 
-a-source-requires : tie.Need-a-source-requires
-a-source-requires c κs = search needs
+check-taken-requires : tie.Need-check-taken-requires
+check-taken-requires c κs = tt
 
-a-block-requires : tie.Need-a-block-requires
-a-block-requires c κs = search needs
+enum-known-answer : tie.Need-enum-known-answer
+enum-known-answer c = search needs
 
-neighbour-requires : tie.Need-neighbour-requires
-neighbour-requires c κs = search needs
+outside-requires : tie.Need-outside-requires
+outside-requires c κs = tt
 
-b-source-requires : tie.Need-b-source-requires
-b-source-requires c κs = search needs
+enum-told : tie.Need-enum-told
+enum-told c = search needs
 
-b-block-requires : tie.Need-b-block-requires
-b-block-requires c κs = search needs
-
-neighbour-dc-requires : tie.Need-neighbour-dc-requires
-neighbour-dc-requires c κs = search needs
-
-c-source-requires : tie.Need-c-source-requires
-c-source-requires c κs = search needs
-
-c-block-requires : tie.Need-c-block-requires
-c-block-requires c κs = search needs
-
-neighbour-requires-2 : tie.Need-neighbour-requires-2
-neighbour-requires-2 c κs = search needs
-
-join-requires : tie.Need-join-requires
-join-requires c κs = search needs
+taken-by-requires : tie.Need-taken-by-requires
+taken-by-requires c κs =
+    let t = c .before .before in
+    let a = t .before .args in
+    taken-below (now (a .store)) (now (a .own)) (a .p) (a .i) (sym (t .check-taken .ensures) ∙ c .enum-told .given .1)
 
 returns : tie.Need-returns
 returns c =
-    let n₃ = c .before in
-    let n₂ = n₃ .before .before .before in
-    let n₁ = n₂ .before .before .before in
-    let t = n₁ .before .before .before in
-    c .join .ensures
-    ∙ taken-of _ _ _ _ (t .before .args .i) (t .if1 .taken)
-    (n₁ .neighbour .ensures ∙ side-is _ _ _ _ (n₁ .before .before .a-source .ensures) (n₁ .before .a-block .ensures .0))
-    (held (n₂ .neighbour-dc .result) (n₂ .neighbour-dc .ok) ∙ n₂ .neighbour-dc .ensures ∙ ap (λ (s : Side). s .dc) (side-is _ _ _ _ (n₂ .before .before .b-source .ensures) (n₂ .before .b-block .ensures .0)))
-    (n₃ .neighbour2 .ensures ∙ side-is _ _ _ _ (n₃ .before .before .c-source .ensures) (n₃ .before .c-block .ensures .0))
-
-outside-requires : tie.Need-outside-requires
-outside-requires c κs = search needs
+    let t = c .before .before .before .before in
+    let a = t .before .args in
+    also recordedOutcome (beside _ _ (sym (t .check-taken .ensures) ∙ c .before .before .answer .given .1) (c .outside .ensures)) (taken-due (now (a .store)) (now (a .own)) (a .p) (a .i))
 
 returns-2 : tie.Need-returns-2
 returns-2 c =
-    let a = c .before .before .args in
-    c .outside .ensures
-    ∙ sym (none-taken (a .p .«bits_per_pixel») (a .p .«quantiser_scale») (aroundBy (a .p) (now (a .store))) (recordAt (now (a .own)) 0) (a .i) (c .before .if1 .left))
+    let t = c .before .before .before in
+    let a = t .before .args in
+    also recordedOutcome (beside _ _ (sym (t .check-taken .ensures) ∙ c .before .enum-told .given .1) (c .taken-by .ensures)) (taken-due (now (a .store)) (now (a .own)) (a .p) (a .i))
 
 pub block-predictors-spec : {M : Type 1} → statement M
 block-predictors-spec =
     tie.close
     (tie.spec
-    a-source-requires
-    a-block-requires
-    neighbour-requires
-    b-source-requires
-    b-block-requires
-    neighbour-dc-requires
-    c-source-requires
-    c-block-requires
-    neighbour-requires-2
-    join-requires
-    returns
+    check-taken-requires
+    enum-known-answer
     outside-requires
+    enum-told
+    taken-by-requires
+    returns
     returns-2)

@@ -12,7 +12,7 @@ use Rattle.coefficients.specs.Level.{predictorsFine}
 use Rattle.neighbours.specs.Record.{recordAt}
 use Rattle.neighbours.specs.Neighbours.{aroundBy, neighboursFine, predictors}
 use Rattle.neighbours.specs.declared.place.Place.{Place}
-use Rattle.neighbours.proofs.SideLaws.{all-of-six, one-of-six-not, taken-is}
+use Rattle.neighbours.proofs.SideLaws.{all-of-six, one-of-six-not}
 use Rattle.neighbours.proofs.predictors.neighbours_fine.Statement.{statement}
 use Rattle.neighbours.proofs.predictors.neighbours_fine.Tie as tie
 
@@ -29,8 +29,8 @@ abbrev μ-loop : tie.MeasureT-loop
 loop-holds : tie.Need-loop-holds Inv-loop μ-loop
 loop-holds c = (omega arith, λ k h. absurd (omega arith))
 
-block-predictors-requires : tie.Need-block-predictors-requires Inv-loop μ-loop
-block-predictors-requires c κs = tt
+taken-by-requires : tie.Need-taken-by-requires Inv-loop μ-loop
+taken-by-requires c κs = c .loop-test .taken
 
 predictors-fine-requires : tie.Need-predictors-fine-requires Inv-loop μ-loop
 predictors-fine-requires c κs = tt
@@ -40,7 +40,7 @@ flag-is : (c : tie.After-predictors-fine Inv-loop μ-loop)
     → c .predictors-fine .result ≡ test (now (c .before .before .before .before .args .store)) (now (c .before .before .before .before .args .own)) (c .before .before .before .before .args .p) (c .before .before .before .loop .i)
 flag-is c =
     c .predictors-fine .ensures
-    ∙ ap predictorsFine (c .before .block-predictors .ensures ∙ taken-is _ _ _ _ (c .before .before .before .loop .i) (c .before .before .loop-test .taken))
+    ∙ ap predictorsFine (c .before .taken-by .ensures)
 
 returns : tie.Need-returns Inv-loop μ-loop
 unfolding neighboursFine
@@ -72,7 +72,7 @@ neighbours-fine-spec =
     Inv-loop
     μ-loop
     loop-holds
-    block-predictors-requires
+    taken-by-requires
     predictors-fine-requires
     returns
     add-i

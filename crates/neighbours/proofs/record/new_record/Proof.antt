@@ -1,26 +1,43 @@
--- `neighbours::record::new_record` meets its contract: zeros, and a quantiser up to 31. Assumes nothing.
+-- `neighbours::record::new_record` meets its contract: zeros and a quantiser that is one. Assumes nothing.
+use mathlib.Core.Bool.{true}
+use mathlib.Core.Path.{_≡_, refl}
 use native.Mathlib.Omega.{arith}
 use mir.Facts.{toZ-pos}
 use mir.Syntax.{w32}
 use borrow.Author.Needs.{needs}
-use borrow.Author.Tests.{le-leb, lt-leb}
+use Rattle.numbers.proofs.OutcomeLaws.{also}
+use Rattle.numbers.proofs.Tests.{flag-passes, flag-refuses}
+use Rattle.ranges.specs.Range.{quantiserFine}
+use Rattle.coefficients.proofs.RangeLaws.{quantiser-range}
 use Rattle.neighbours.specs.Record.{blank}
+use Rattle.neighbours.specs.Refusals.{recordedOutcome}
+use Rattle.neighbours.proofs.OutcomeLaws.{quantiser-due}
 use Rattle.neighbours.proofs.record.new_record.Statement.{statement}
 use Rattle.neighbours.proofs.record.new_record.Tie as tie
 
-cast-own : tie.Need-cast-own
-cast-own c = search needs
-
-array-set-from-own : tie.Need-array-set-from-own
-array-set-from-own c = search needs
+fine-requires : tie.Need-fine-requires
+fine-requires c κs = search needs
 
 returns : tie.Need-returns
-unfolding blank
-returns c = let q = c .before .args .quantiser-scale in rw (toZ-pos w32 {n = q} (omega arith), le-leb q 31 (c .if1 .taken))
+returns c =
+    let q = c .before .before .args .quantiser-scale in
+    also recordedOutcome (rw (flag-refuses (c .before .fine .ensures) (c .if1 .taken)) (refl, refl)) (quantiser-due q)
+
+is-one : (c : tie.Else1) → quantiserFine (c .before .before .args .quantiser-scale) ≡ true
+is-one c = flag-passes (c .before .fine .ensures) (c .if1 .left)
+
+cast-fresh : tie.Need-cast-fresh
+cast-fresh c = omega (arith, quantiser-range (c .before .before .args .quantiser-scale) (is-one c) .1)
+
+array-set-from-fresh : tie.Need-array-set-from-fresh
+array-set-from-fresh c = search needs
 
 returns-2 : tie.Need-returns-2
 unfolding blank
-returns-2 c = rw (lt-leb (c .before .args .quantiser-scale) 31 (c .if1 .left))
+returns-2 c =
+    let q = c .before .before .args .quantiser-scale in
+    also recordedOutcome (rw (is-one c, toZ-pos w32 {n = q} (omega (arith, quantiser-range q (is-one c) .1))) (refl, refl)) (quantiser-due q)
 
 pub new-record-spec : {M : Type 1} → statement M
-new-record-spec = tie.close (tie.spec cast-own array-set-from-own returns returns-2)
+new-record-spec =
+    tie.close (tie.spec fine-requires returns cast-fresh array-set-from-fresh returns-2)

@@ -1,13 +1,18 @@
 -- `neighbours::store::put_record` meets its contract: the numbers before k are written, or the record does not lie in the store. Assumes nothing.
 use denote.Ref.{now}
 use mathlib.Core.Path.{_≡_, refl, sym, ap, _∙_}
-use Prim.Native.Nat.{ℕ, _-_, _≤_}
+use Prim.Native.Nat.{ℕ, _+_, _-_, _≤_}
 use native.Mathlib.Omega.{arith}
 use lib.IntN.{pos}
 use lib.ListN.{getD, length, length-set}
 use lib.Seq.{paste, paste-zero}
+use borrow.Author.Tests.{lt-leb}
+use Rattle.numbers.proofs.OutcomeLaws.{also}
 use Rattle.numbers.proofs.Words.{held}
+use Rattle.neighbours.specs.Refusals.{recordedOutcome}
+use Rattle.neighbours.proofs.OutcomeLaws.{store-due}
 use Rattle.neighbours.proofs.RecordLaws.{paste-more, stored-is, stored-not}
+use Rattle.neighbours.proofs.RefusalLaws.{store-passes}
 use Rattle.neighbours.proofs.store.put_record.Statement.{statement}
 use Rattle.neighbours.proofs.store.put_record.Tie as tie
 
@@ -21,7 +26,10 @@ add-if1 : tie.Need-add-if1 Inv-loop μ-loop
 add-if1 c = omega arith
 
 returns : tie.Need-returns Inv-loop μ-loop
-returns c = let a = c .before .args in sym (stored-not (now (a .store)) (a .at) (a .t3) (c .if1 .taken))
+returns c =
+    let a = c .before .args in
+    let s = now (a .store) in
+    also recordedOutcome (rw (lt-leb (a .at + 91) (length s) (c .if1 .taken)) refl, sym (stored-not s (a .at) (a .t3) (c .if1 .taken))) (store-due (length s) (a .at))
 
 loop-holds : tie.Need-loop-holds Inv-loop μ-loop
 loop-holds c = let a = c .before .args in (omega arith, refl, paste-zero (now (a .store)) (a .at) (a .t3))
@@ -32,11 +40,11 @@ mul-store c = omega arith
 array-copy-out-store : tie.Need-array-copy-out-store Inv-loop μ-loop
 array-copy-out-store c = omega arith
 
-add-t15 : tie.Need-add-t15 Inv-loop μ-loop
-add-t15 c = omega arith
+add-t16 : tie.Need-add-t16 Inv-loop μ-loop
+add-t16 c = omega arith
 
-mul-t16 : tie.Need-mul-t16 Inv-loop μ-loop
-mul-t16 c = omega arith
+mul-t17 : tie.Need-mul-t17 Inv-loop μ-loop
+mul-t17 c = omega arith
 
 slice-set-from-store : tie.Need-slice-set-from-store Inv-loop μ-loop
 slice-set-from-store c = omega arith
@@ -62,10 +70,14 @@ same-length c = omega arith
 returns-2 : tie.Need-returns-2 Inv-loop μ-loop
 returns-2 c =
     let a = c .before .before .before .args in
+    let s = now (a .store) in
+    let h = c .before .before .if1 .left in
     let z : c .before .loop .k ≡ 91 = omega arith in
-    c .before .loop .inv .2
-    ∙ ap (λ (j : ℕ). paste (now (a .store)) (a .at) (a .t3) j) z
-    ∙ sym (stored-is (now (a .store)) (a .at) (a .t3) (c .before .before .if1 .left))
+    also recordedOutcome (
+      sym (store-passes (length s) (a .at) h),
+      c .before .loop .inv .2 ∙ ap (λ (j : ℕ). paste s (a .at) (a .t3) j) z ∙ sym (stored-is s (a .at) (a .t3) h),
+    )
+    (store-due (length s) (a .at))
 
 pub put-record-spec : {M : Type 1} → statement M
 put-record-spec =
@@ -78,8 +90,8 @@ put-record-spec =
     loop-holds
     mul-store
     array-copy-out-store
-    add-t15
-    mul-t16
+    add-t16
+    mul-t17
     slice-set-from-store
     add-k
     loop-less

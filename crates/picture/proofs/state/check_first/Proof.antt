@@ -22,7 +22,7 @@ size-is : (k : tie.Else1) → let a = k .before .before .before .args in sizeFin
 size-is k = flag-passes (k .before .size-fine .ensures) (k .if1 .left)
 
 inside-is : (k : tie.After-enum-told2) → let a = k .before .before .before .before .before .before .args in inData (length (now (a .«data»))) (a .c .«bit_pos») ≡ true
-inside-is k = let a = k .before .before .before .before .before .before .args in counted (now (a .«data»)) (a .c .«bit_pos») _ _ (k .before .before .remaining-bits .ensures) (k .enum-told2 .given .1)
+inside-is k = let a = k .before .before .before .before .before .before .args in counted (now (a .«data»)) (a .c .«bit_pos») _ _ (k .before .before .remaining-bits .ensures .0) (k .enum-told2 .given .1)
 
 context-is : (k : tie.Else2) → let a = k .before .before .before .before .before .before .before .before .args in contextFine (a .ctx) (a .w) ≡ true
 context-is k = flag-passes (k .before .context-fine .ensures) (k .if2 .left)
@@ -97,7 +97,7 @@ returns-6 : tie.Need-returns-6
 returns-6 c =
     let a = c .before .before .before .before .before .before .args in
     let d = now (a .«data») in
-    sym (first-by (a .p) d (a .c .«bit_pos») (a .ctx) (a .w) (a .room) (a .stored) true false _ _ _ _ (size-is (c .before .before .before)) (not-counted d (a .c .«bit_pos») _ _ (c .before .before .remaining-bits .ensures) (c .enum-told .given .1)) refl refl refl refl)
+    sym (first-by (a .p) d (a .c .«bit_pos») (a .ctx) (a .w) (a .room) (a .stored) true false _ _ _ _ (size-is (c .before .before .before)) (not-counted d (a .c .«bit_pos») _ _ (c .before .before .remaining-bits .ensures .0) (c .enum-told .given .1)) refl refl refl refl)
 
 returns-7 : tie.Need-returns-7
 returns-7 c =

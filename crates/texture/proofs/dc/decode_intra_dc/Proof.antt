@@ -8,14 +8,17 @@ use borrow.Author.Needs.{needs}
 use borrow.Author.Tests.{not-false, not-true}
 use Rattle.bits.proofs.CursorLaws.{in-data-yes}
 use Rattle.bits.specs.Bits.{bitsFrom}
-use Rattle.codes.proofs.Fair.{dc-fair, dc-rows}
-use Rattle.codes.proofs.TableLaws.{fair-as}
+use Rattle.codes.proofs.PrefixFree.{dc-prefix-free, dc-rows}
+use Rattle.codes.proofs.TableLaws.{prefix-free-as}
 use Rattle.codes.specs.DcSize.{dcCodes, dcLens}
+use Rattle.numbers.proofs.OutcomeLaws.{both}
+use Rattle.numbers.proofs.Words.{held}
 use Rattle.texture.proofs.ChainLaws.{number-in, number-is, refused-is, tables-are}
 use Rattle.texture.proofs.DcLaws.{dc-given, dc-no-code, dc-no-tail, dc-out, tail-small}
-use Rattle.numbers.proofs.Words.{held}
+use Rattle.texture.proofs.OutcomeLaws.{dc-due}
 use Rattle.texture.proofs.ReadLaws.{code-sound}
 use Rattle.texture.proofs.dc.decode_intra_dc.Statement.{statement}
+use Rattle.texture.specs.Outcomes.{dcOutcome}
 use Rattle.texture.specs.declared.error.TextureParseError.the-variants.{InvalidDcSize}
 use Rattle.texture.proofs.dc.decode_intra_dc.Tie as tie
 
@@ -25,7 +28,8 @@ readable-requires c κs = search needs
 returns : tie.Need-returns
 returns c =
     let a = c .before .before .before .args in
-    dc-out (now (a .«data»)) (a .c .«bit_pos») (a .component) (sym (c .before .readable .ensures) ∙ not-true _ (c .if1 .taken))
+    both dcOutcome (dc-out (now (a .«data»)) (a .c .«bit_pos») (a .component) (sym (c .before .readable .ensures) ∙ not-true _ (c .if1 .taken)))
+    (dc-due (now (a .«data»)) (a .c .«bit_pos») (a .component))
 
 dc-size-codes-requires : tie.Need-dc-size-codes-requires
 dc-size-codes-requires c κs = search needs
@@ -47,7 +51,7 @@ read-code-requires c κs =
     let l = dc-rows (a .component) in
     let m = ap length (c .before .before .before .dc-size-codes .ensures) in
     let n = ap length (c .before .before .dc-size-lens .ensures) in
-    ((h .1, h .0), omega arith, omega arith, omega arith, omega arith, fair-as 13 (dcCodes (a .component)) (dcLens (a .component)) _ _ (c .before .before .before .dc-size-codes .ensures) (c .before .before .dc-size-lens .ensures) (dc-fair (a .component)))
+    ((h .1, h .0), omega arith, omega arith, omega arith, omega arith, prefix-free-as 13 (dcCodes (a .component)) (dcLens (a .component)) _ _ (c .before .before .before .dc-size-codes .ensures) (c .before .before .dc-size-lens .ensures) (dc-prefix-free (a .component)))
 
 enum-known-g : tie.Need-enum-known-g
 enum-known-g c = search needs
@@ -97,7 +101,8 @@ returns-2 c =
     let h = (sym (e .before .readable .ensures) ∙ not-false _ (e .if1 .left)) in
     let n = c .before .before .before .before in
     let f = tables-are d 13 13 InvalidDcSize (bitsFrom d at) _ (n .before .before .before .dc-size-codes .ensures) (n .before .before .dc-size-lens .ensures) (c .before .before .before .read-code .ensures) in
-    dc-no-code d at m h (refused-is d _ _ f (c .before .g .given .1))
+    both dcOutcome (dc-no-code d at m h (refused-is d _ _ f (c .before .g .given .1)))
+    (dc-due (now (a .«data»)) (a .c .«bit_pos») (a .component))
 
 returns-3 : tie.Need-returns-3
 returns-3 c =
@@ -109,7 +114,8 @@ returns-3 c =
     let h = (sym (e .before .readable .ensures) ∙ not-false _ (e .if1 .left)) in
     let n = c .before .before .before .before .before .before .before .before in
     let f = tables-are d 13 13 InvalidDcSize (bitsFrom d at) _ (n .before .before .before .dc-size-codes .ensures) (n .before .before .dc-size-lens .ensures) (c .before .before .before .before .before .before .before .read-code .ensures) in
-    dc-no-tail d at m h _ _ (number-is d _ _ f (c .before .before .before .before .before .g2 .given .1)) (refused-is d _ _ (c .before .before .before .read-additional .ensures) (c .before .h .given .1))
+    both dcOutcome (dc-no-tail d at m h _ _ (number-is d _ _ f (c .before .before .before .before .before .g2 .given .1)) (refused-is d _ _ (c .before .before .before .read-additional .ensures) (c .before .h .given .1)))
+    (dc-due (now (a .«data»)) (a .c .«bit_pos») (a .component))
 
 returns-4 : tie.Need-returns-4
 returns-4 c =
@@ -123,8 +129,9 @@ returns-4 c =
     let f = tables-are d 13 13 InvalidDcSize (bitsFrom d at) _ (n .before .before .before .dc-size-codes .ensures) (n .before .before .dc-size-lens .ensures) (c .before .before .before .before .before .before .before .before .read-code .ensures) in
     let r = c .before .before .before .before .read-additional .ensures in
     let q = c .before .before .h2 .given .1 in
-    dc-given d at m h _ _ (number-is d _ _ f (c .before .before .before .before .before .before .g2 .given .1)) _ _ _ (number-in d _ _ r q) (number-is d _ _ r q)
-    (held (c .decode-differential .result) (c .decode-differential .ok) ∙ c .decode-differential .ensures)
+    both dcOutcome (dc-given d at m h _ _ (number-is d _ _ f (c .before .before .before .before .before .before .g2 .given .1)) _ _ _ (number-in d _ _ r q) (number-is d _ _ r q)
+    (held (c .decode-differential .result) (c .decode-differential .ok) ∙ c .decode-differential .ensures))
+    (dc-due (now (a .«data»)) (a .c .«bit_pos») (a .component))
 
 pub decode-intra-dc-spec : {M : Type 1} → statement M
 decode-intra-dc-spec = tie.close (tie.spec readable-requires returns dc-size-codes-requires dc-size-lens-requires slice-aggregate-read-code slice-aggregate-read-code-2 read-code-requires enum-known-g enum-known-g-2 read-additional-requires enum-known-h enum-known-h-2 decode-differential-requires returns-2 returns-3 returns-4)

@@ -5,7 +5,7 @@ use borrow.Author.Needs.{needs}
 use borrow.Author.Tests.{le-leb, lt-leb}
 use Rattle.texture.proofs.ChainLaws.{if-not-n, if-so-n, number-in, passed-n, refused-n}
 use Rattle.texture.proofs.dc.read_additional.Statement.{statement}
-use Rattle.texture.specs.Dc.{dcTail}
+use Rattle.texture.specs.DcReader.{dcTail}
 use Rattle.texture.proofs.dc.read_additional.Tie as tie
 
 read-field-requires : tie.Need-read-field-requires

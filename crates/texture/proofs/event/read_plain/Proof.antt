@@ -6,8 +6,8 @@ use lib.ListN.{length}
 use denote.Ref.{now}
 use borrow.Author.Needs.{needs}
 use borrow.Author.Tests.{eq-eqb, ne-eqb}
-use Rattle.codes.proofs.Fair.{vlc-fair, vlc-rows}
-use Rattle.codes.proofs.TableLaws.{fair-as}
+use Rattle.codes.proofs.PrefixFree.{vlc-prefix-free, vlc-rows}
+use Rattle.codes.proofs.TableLaws.{prefix-free-as}
 use Rattle.codes.specs.Tcoef.{vlcCodes, vlcLens}
 use Rattle.texture.proofs.ChainLaws.{if-not, if-so, number-in, number-is, passed, refused, tables-are}
 use Rattle.texture.proofs.ReadLaws.{code-sound}
@@ -26,7 +26,7 @@ read-code-requires c κs =
     let l = vlc-rows in
     let m = ap length (p .1) in
     let n = ap length (p .2) in
-    (p .0, omega arith, omega arith, omega arith, omega arith, fair-as 13 vlcCodes vlcLens _ _ (p .1) (p .2) vlc-fair)
+    (p .0, omega arith, omega arith, omega arith, omega arith, prefix-free-as 13 vlcCodes vlcLens _ _ (p .1) (p .2) vlc-prefix-free)
 
 enum-known-g : tie.Need-enum-known-g
 enum-known-g c = search needs

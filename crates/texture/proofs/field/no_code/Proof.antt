@@ -2,7 +2,7 @@
 use mathlib.Core.Path.{ap, sym}
 use borrow.Author.Needs.{needs}
 use Rattle.texture.proofs.field.no_code.Statement.{statement}
-use Rattle.texture.specs.Answer.{invalid}
+use Rattle.texture.specs.Inside.{invalid}
 use Rattle.texture.specs.declared.field.CodeKind.{CodeKind}
 use Rattle.texture.proofs.field.no_code.Tie as tie
 

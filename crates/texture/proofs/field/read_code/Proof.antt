@@ -11,7 +11,7 @@ use Rattle.codes.specs.Table.{rowAt}
 use Rattle.texture.proofs.FieldLaws.{row-found, window-is, window-none}
 use Rattle.texture.proofs.StepLaws.{code-empty, code-found, code-lost, from-on, row-fits}
 use Rattle.texture.proofs.field.read_code.Statement.{statement}
-use Rattle.texture.specs.Answer.{invalid}
+use Rattle.texture.specs.Inside.{invalid}
 use Rattle.texture.specs.Reader.{no, ok}
 use Rattle.texture.proofs.field.read_code.Tie as tie
 
@@ -24,7 +24,7 @@ shown c =
     let a = start .args in
     let p = start .pre in
     let d = now (a .«data») in
-    let v = window-is d (a .c .«bit_pos») (a .width) (p .0 .0) (p .0 .1) (p .1) _ _ (sym (c .before .before .window .given .1) ∙ c .before .before .before .before .next-window .ensures) in
+    let v = window-is d (a .c .«bit_pos») (a .width) (p .0 .0) (p .0 .1) (p .1) _ _ (sym (c .before .before .window .given .1) ∙ c .before .before .before .before .next-window .ensures .0) in
     (v .0, row-found (now (a .codes)) (now (a .lens)) (a .width) (a .rows) (bitsFrom d (a .c .«bit_pos»)) _ _ _ (p .2) (p .3) (v .1) (v .2) (p .5) (c .find-row .ensures), v .1)
 
 -- the code lies in the bits
@@ -96,7 +96,7 @@ returns-2 c =
     let p = start .pre in
     record {
       is = sym (code-empty (now (a .codes)) (now (a .lens)) (a .width) (a .rows) (invalid (a .kind)) b
-          (window-none d (a .c .«bit_pos») (a .width) (p .0 .0) (p .0 .1) (p .1) _ (sym (c .enum-told .given .1) ∙ c .before .before .next-window .ensures)));
+          (window-none d (a .c .«bit_pos») (a .width) (p .0 .0) (p .0 .1) (p .1) _ (sym (c .enum-told .given .1) ∙ c .before .before .next-window .ensures .0)));
       inside = tt;
     }
 

@@ -6,8 +6,11 @@ use denote.Ref.{now}
 use borrow.Author.Needs.{needs}
 use borrow.Author.Tests.{not-false, not-true}
 use Rattle.bits.proofs.CursorLaws.{in-data-yes}
+use Rattle.numbers.proofs.OutcomeLaws.{both}
 use Rattle.texture.proofs.ChainLaws.{event-in, event-out}
+use Rattle.texture.proofs.OutcomeLaws.{event-due}
 use Rattle.texture.proofs.list.decode_ac_event.Statement.{statement}
+use Rattle.texture.specs.Outcomes.{eventOutcome}
 use Rattle.texture.proofs.list.decode_ac_event.Tie as tie
 
 readable-requires : tie.Need-readable-requires
@@ -16,7 +19,8 @@ readable-requires c κs = search needs
 returns : tie.Need-returns
 returns c =
     let a = c .before .before .before .args in
-    event-out (now (a .«data»)) (a .c .«bit_pos») false (a .table) (sym (c .before .readable .ensures) ∙ not-true _ (c .if1 .taken))
+    both eventOutcome (event-out (now (a .«data»)) (a .c .«bit_pos») false (a .table) (sym (c .before .readable .ensures) ∙ not-true _ (c .if1 .taken)))
+    (event-due (now (a .«data»)) (a .c .«bit_pos») false (a .table))
 
 tcoef-codes-requires : tie.Need-tcoef-codes-requires
 tcoef-codes-requires c κs = search needs
@@ -47,7 +51,8 @@ returns-2 : tie.Need-returns-2
 returns-2 c =
     let a = c .before .before .before .before .before .before .before .before .before .before .args in
     let e = c .before .before .before .before .before .before .before in
-    event-in (now (a .«data»)) (a .c .«bit_pos») false (a .table) (sym (e .before .readable .ensures) ∙ not-false _ (e .if1 .left)) _ (c .read-event .ensures)
+    both eventOutcome (event-in (now (a .«data»)) (a .c .«bit_pos») false (a .table) (sym (e .before .readable .ensures) ∙ not-false _ (e .if1 .left)) _ (c .read-event .ensures))
+    (event-due (now (a .«data»)) (a .c .«bit_pos») false (a .table))
 
 pub decode-ac-event-spec : {M : Type 1} → statement M
 decode-ac-event-spec = tie.close (tie.spec readable-requires returns tcoef-codes-requires tcoef-lens-requires tcoef-events-requires slice-aggregate-read-event slice-aggregate-read-event-2 slice-aggregate-read-event-3 read-event-requires returns-2)

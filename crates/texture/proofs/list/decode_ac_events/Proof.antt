@@ -9,8 +9,9 @@ use borrow.Author.Tests.{not-false, not-true}
 use Rattle.bits.proofs.CursorLaws.{in-data-yes}
 use Rattle.bits.specs.Bits.{bitsFrom}
 use Rattle.texture.proofs.LoopLaws.{list-in, list-out}
+use Rattle.texture.proofs.OutcomeLaws.{list-both}
 use Rattle.texture.proofs.list.decode_ac_events.Statement.{statement}
-use Rattle.texture.specs.Answer.{listedBy}
+use Rattle.texture.specs.Inside.{listedBy}
 use Rattle.texture.proofs.list.decode_ac_events.Tie as tie
 
 readable-requires : tie.Need-readable-requires
@@ -19,7 +20,8 @@ readable-requires c κs = search needs
 returns : tie.Need-returns
 returns c =
     let a = c .before .before .before .args in
-    list-out (now (a .«data»)) (a .c .«bit_pos») false (a .table) (a .dc-coded) (sym (c .before .readable .ensures) ∙ not-true _ (c .if1 .taken)) (now (a .qfs))
+    list-both (now (a .«data»)) (a .c .«bit_pos») false (a .table) (a .dc-coded)
+    (list-out (now (a .«data»)) (a .c .«bit_pos») false (a .table) (a .dc-coded) (sym (c .before .readable .ensures) ∙ not-true _ (c .if1 .taken)) (now (a .qfs)))
 
 tcoef-codes-requires : tie.Need-tcoef-codes-requires
 tcoef-codes-requires c κs = search needs
@@ -60,7 +62,7 @@ returns-2 c =
     let one = c .before .before .read-list in
     let q = one .ensures ∙ ap (λ (n : ℕ). listedBy d false (a .table) n (bitsFrom d (a .c .«bit_pos»))) (c .before .before .before .before .before .before .first-place .ensures .0) in
     let r = list-in d (a .c .«bit_pos») false (a .table) (a .dc-coded) (sym (e .before .readable .ensures) ∙ not-false _ (e .if1 .left)) (one .result) q (now (a .qfs)) in
-    (c .keep .ensures .0 ∙ r .0, c .keep .ensures .1 ∙ r .1)
+    list-both d (a .c .«bit_pos») false (a .table) (a .dc-coded) (c .keep .ensures .0 ∙ r .0, c .keep .ensures .1 ∙ r .1)
 
 pub decode-ac-events-spec : {M : Type 1} → statement M
 decode-ac-events-spec = tie.close (tie.spec readable-requires returns tcoef-codes-requires tcoef-lens-requires tcoef-events-requires first-place-requires slice-aggregate-read-list slice-aggregate-read-list-2 slice-aggregate-read-list-3 read-list-requires keep-requires returns-2)

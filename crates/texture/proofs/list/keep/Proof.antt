@@ -5,7 +5,7 @@ use lib.IntN.{ℤ}
 use borrow.Author.Needs.{needs}
 use Rattle.bits.specs.declared.cursor.Cursor.{Cursor}
 use Rattle.texture.proofs.list.keep.Statement.{statement}
-use Rattle.texture.specs.Answer.{keptBy}
+use Rattle.texture.specs.Inside.{keptBy}
 use Rattle.texture.specs.declared.error.TextureParseError.{TextureParseError}
 use Rattle.texture.specs.declared.list.EventsRead.{EventsRead}
 use Rattle.texture.specs.declared.list.EventsRead.the-variants.{Read, Refused}

@@ -8,7 +8,7 @@ use denote.Ref.{now}
 use borrow.Author.Needs.{needs}
 use borrow.Author.Tests.{eq-eqb, le-ltb, lt-ltb, ne-eqb}
 use Rattle.texture.proofs.list.put.Statement.{statement}
-use Rattle.texture.specs.Answer.{State}
+use Rattle.texture.specs.Inside.{State}
 use Rattle.texture.proofs.list.put.Tie as tie
 
 returns : tie.Need-returns

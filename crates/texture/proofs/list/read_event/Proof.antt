@@ -4,7 +4,7 @@ use mathlib.Core.Path.{subst, subst⁻¹}
 use denote.Ref.{now}
 use Rattle.bits.specs.Bits.{bitsFrom}
 use Rattle.texture.proofs.list.read_event.Statement.{statement}
-use Rattle.texture.specs.Answer.{SaysEvent, TablesOf}
+use Rattle.texture.specs.Inside.{SaysEvent, TablesOf}
 use Rattle.texture.specs.Event.{valueOf}
 use Rattle.texture.specs.EventReader.{event}
 use Rattle.texture.specs.Reader.{mapped}

@@ -10,7 +10,7 @@ use Rattle.bits.specs.Bits.{bitsFrom}
 use Rattle.numbers.proofs.Words.{fits-mag}
 use Rattle.texture.proofs.LoopLaws.{rest, Held, Turn, behind-no, ended, ended-is, put-held, rest-last, rest-more, rest-no, rest-start, startOf, turn}
 use Rattle.texture.proofs.list.read_list.Statement.{statement}
-use Rattle.texture.specs.Answer.{State, listedOf, putOf, saidEvent, stateOf}
+use Rattle.texture.specs.Inside.{State, listedOf, putOf, saidEvent, stateOf}
 use Rattle.texture.specs.Event.{levelOf, runOf}
 use Rattle.texture.specs.EventReader.{event}
 use Rattle.texture.specs.declared.event.AcEvent.{AcEvent}

@@ -10,7 +10,7 @@ use Rattle.codes.specs.Rvlc.{rvlcColumns, rvlcOf}
 use Rattle.codes.specs.Tcoef.{eventColumns, tcoefOf}
 use Rattle.texture.proofs.RowLaws.{plain-is, rvlc-is, rvlc-small, tcoef-small, type1-is, type2-is}
 use Rattle.texture.proofs.row.event_of.Statement.{statement}
-use Rattle.texture.specs.Answer.{RowIn, columns, rowEvent}
+use Rattle.texture.specs.Inside.{RowIn, columns, rowEvent}
 use Rattle.texture.specs.Event.{valueOf}
 use Rattle.texture.specs.EventReader.{spelled}
 use Rattle.texture.specs.declared.event.Spelling.{Spelling}

@@ -1,9 +1,9 @@
--- An f64 that stands for an exact number, and how far off it is. Definitions only.
+-- An f64 that stands for an exact number, and how far off it is, as the laws say it. Assumes nothing.
 use mathlib.Core.Path.{_≡_}
 use Prim.Native.Nat.{ℕ, _+_, _*_, _≤_, _<_}
 use lib.Ieee.{Float}
 use lib.IntN.{ℤ}
-use Rattle.numbers.proofs.Integers.{dn, up}
+use Rattle.numbers.specs.Halves.{dn, up}
 use Rattle.f64_error.specs.Units.{Is, one}
 
 -- x is finite, within e units of a * S units, and at most b units in size

@@ -5,23 +5,23 @@ use lib.Dec.{T}
 use lib.ListN.{length}
 use Rattle.codes.specs.DcSize.{dcCodes, dcLens, dcSizes, sizeChrominance, sizeLuminance}
 use Rattle.codes.specs.Rvlc.{rvlcCodes, rvlcLens, rvlcTcoef}
-use Rattle.codes.specs.Table.{fair}
+use Rattle.codes.specs.Table.{prefixFree}
 use Rattle.codes.specs.Tcoef.{codeOf, lengthOf, tcoefInter, tcoefIntra, vlcCodes, vlcLens}
 use Rattle.codes.specs.declared.dc_size.DcComponent.{DcComponent}
 use Rattle.codes.specs.declared.dc_size.DcComponent.the-variants.{Luminance, Chrominance}
 
-pub vlc-fair : T (fair 13 vlcCodes vlcLens)
+pub vlc-prefix-free : T (prefixFree 13 vlcCodes vlcLens)
 unfolding vlcCodes vlcLens tcoefIntra
-vlc-fair = tt
+vlc-prefix-free = tt
 
-pub rvlc-fair : T (fair 16 rvlcCodes rvlcLens)
+pub rvlc-prefix-free : T (prefixFree 16 rvlcCodes rvlcLens)
 unfolding rvlcCodes rvlcLens rvlcTcoef
-rvlc-fair = tt
+rvlc-prefix-free = tt
 
-pub dc-fair : (c : DcComponent) → T (fair 13 (dcCodes c) (dcLens c))
+pub dc-prefix-free : (c : DcComponent) → T (prefixFree 13 (dcCodes c) (dcLens c))
 unfolding dcCodes dcLens sizeLuminance sizeChrominance
-dc-fair Luminance = tt
-dc-fair Chrominance = tt
+dc-prefix-free Luminance = tt
+dc-prefix-free Chrominance = tt
 
 -- the two tables of transform coefficients have the same codes
 pub same-codes : map codeOf tcoefInter ≡ map codeOf tcoefIntra

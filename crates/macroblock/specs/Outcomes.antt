@@ -1,0 +1,42 @@
+-- What the answers of a macroblock say in document 01's numbers, and what is due of one read alone. Definitions only.
+use mathlib.Core.Bool.{Bool, not}
+use mathlib.Core.List.{List, [], _∷_}
+use Prim.Native.Nat.{ℕ, _-_}
+use lib.Dec.{leb}
+use lib.ListN.{length}
+use Rattle.numbers.specs.Outcome.{Outcome, accepted, checked, done, refused}
+use Rattle.bits.specs.Cursor.{inData}
+use Rattle.coefficients.specs.Level.{predictorsFine}
+use Rattle.coefficients.specs.declared.predictor.BlockPredictors.{BlockPredictors}
+use Rattle.texture.specs.Macroblock.{Parts}
+use Rattle.texture.specs.Outcomes.{readAs}
+use Rattle.block.specs.Answer.{figureOf, numberOf}
+use Rattle.block.specs.Values.{contextFine}
+use Rattle.block.specs.declared.context.MacroblockTextureContext.{MacroblockTextureContext}
+use Rattle.macroblock.specs.Answer.{sentenceOf}
+use Rattle.macroblock.specs.Header.{isIntra}
+use Rattle.macroblock.specs.declared.decode.MacroblockDecoded.{MacroblockDecoded}
+use Rattle.macroblock.specs.declared.decode.MacroblockDecoded.the-variants.{Decoded, Refused}
+use Rattle.macroblock.specs.declared.header.MacroblockHeader.{MacroblockHeader}
+
+-- the number of bits taken, and the position after them
+abbrev pub macroblockOutcome : MacroblockDecoded → Outcome (ℕ × ℕ)
+macroblockOutcome (Decoded n c) = accepted (n, c .«bit_pos»)
+macroblockOutcome (Refused e) = refused (numberOf e) (figureOf e)
+
+-- 9, then 10
+abbrev pub headerNumbers : MacroblockHeader → List (Bool × ℕ)
+headerNumbers h = (not (h .«not_coded»), 9) ∷ (isIntra (h .«mb_type»), 10) ∷ []
+
+abbrev pub headerDue : MacroblockHeader → Outcome (Unit {0})
+headerDue h = checked (headerNumbers h) done
+
+-- how many bits a sentence that begins at `at` takes, by the position after it, and that position
+abbrev pub bitsSaid : ℕ → List Parts → ℕ → ℕ × ℕ
+bitsSaid at s position = (position - at, position)
+
+-- 11, 12, 13, 14, 9, 10, then what is read
+abbrev pub macroblockDue : List ℕ → ℕ → MacroblockHeader → Bool → Bool → MacroblockTextureContext → BlockPredictors → List (List ℕ) → ℕ → Outcome (ℕ × ℕ)
+macroblockDue d at h dcCoded rev x p w room =
+    checked ((inData (length d) at, 11) ∷ (contextFine x w, 12) ∷ (predictorsFine p, 13) ∷ (leb 384 room, 14) ∷ headerNumbers h)
+    (readAs (bitsSaid at) d (sentenceOf d at h dcCoded rev))

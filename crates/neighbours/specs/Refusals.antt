@@ -1,0 +1,84 @@
+-- What records and neighbours refuse, by document 01's numbers. Definitions only.
+use mathlib.Core.Bool.{Bool, cond, true, _&&_}
+use mathlib.Core.List.{List, [], _∷_}
+use Prim.Native.Nat.{ℕ, _+_}
+use lib.Dec.{leb, ltb}
+use lib.IntN.{ℤ}
+use lib.ListN.{length}
+use Rattle.numbers.specs.Outcome.{Outcome, checked, done, refused}
+use Rattle.ranges.specs.Range.{depthFine, quantiserFine}
+use Rattle.neighbours.specs.declared.place.Place.{Place}
+use Rattle.neighbours.specs.declared.refusal.RecordError.{RecordError}
+use Rattle.neighbours.specs.declared.refusal.RecordError.the-variants.{Context, OutOfRange, TooShort}
+use Rattle.neighbours.specs.declared.refusal.Recorded.{Recorded}
+use Rattle.neighbours.specs.declared.refusal.Recorded.the-variants.{Done, Refused}
+
+abbrev pub numberOf : RecordError → ℕ
+numberOf OutOfRange = 11
+numberOf Context = 12
+numberOf TooShort = 14
+
+abbrev pub recordedOutcome : Recorded → Outcome (Unit {0})
+recordedOutcome Done = done
+recordedOutcome (Refused e) = refused (numberOf e) 0
+
+-- tests with their refusals: the first that fails answers
+abbrev pub firstBad : List (Bool × RecordError) → Recorded
+firstBad [] = Done
+firstBad (t ∷ ts) = cond (t .0) (firstBad ts) (Refused (t .1))
+
+-- what is handed out or left in lent memory
+abbrev pub unless : {A : Type 0} → Recorded → A → A → A
+unless Done new old = new
+unless (Refused e) new old = old
+
+-- ---- the tests of each call
+
+-- a block is one of six (11)
+abbrev pub blockTests : ℕ → List (Bool × RecordError)
+blockTests i = (ltb i 6, OutOfRange) ∷ []
+
+-- a quantiser is one (12)
+abbrev pub quantiserTests : ℕ → List (Bool × RecordError)
+quantiserTests q = (quantiserFine q, Context) ∷ []
+
+-- a record lies in a store (14)
+abbrev pub lies : ℕ → ℕ → Bool
+lies stored at = leb (at + 91) stored
+
+abbrev pub storeTests : ℕ → ℕ → List (Bool × RecordError)
+storeTests stored at = (lies stored at, TooShort) ∷ []
+
+-- and so do those around the macroblock that is due, where they are not missing
+abbrev pub placeLies : ℕ → Place → Bool
+placeLies stored p =
+    cond (p .«has_left») (lies stored (p .left)) true
+    && (cond (p .«has_above_left») (lies stored (p .«above_left»)) true && cond (p .«has_above») (lies stored (p .above)) true)
+
+-- what a block takes: 11, 12, 14
+abbrev pub takenTests : List ℤ → List ℤ → Place → ℕ → List (Bool × RecordError)
+takenTests store own p i =
+    (ltb i 6, OutOfRange)
+    ∷ (quantiserFine (p .«quantiser_scale») && depthFine (p .«bits_per_pixel»), Context)
+    ∷ (placeLies (length store) p && lies (length own) 0, TooShort)
+    ∷ []
+
+-- ---- what is due, by number
+
+abbrev pub blockDue : ℕ → Outcome (Unit {0})
+blockDue i = checked ((ltb i 6, 11) ∷ []) done
+
+abbrev pub quantiserDue : ℕ → Outcome (Unit {0})
+quantiserDue q = checked ((quantiserFine q, 12) ∷ []) done
+
+abbrev pub storeDue : ℕ → ℕ → Outcome (Unit {0})
+storeDue stored at = checked ((lies stored at, 14) ∷ []) done
+
+abbrev pub takenDue : List ℤ → List ℤ → Place → ℕ → Outcome (Unit {0})
+takenDue store own p i =
+    checked
+    ((ltb i 6, 11)
+    ∷ (quantiserFine (p .«quantiser_scale») && depthFine (p .«bits_per_pixel»), 12)
+    ∷ (placeLies (length store) p && lies (length own) 0, 14)
+    ∷ [])
+    done
