@@ -16,8 +16,10 @@ component-due i = ⊎-elim luminance (λ (h : 4 ≤ i). ⊎-elim (chrominance h)
   where
     luminance : i < 4 → componentOutcome (componentOf i) ≡ componentDue i
     luminance h = simp (lt-ltb i 4 h, lt-ltb i 6 (omega arith))
+
     chrominance : 4 ≤ i → i < 6 → componentOutcome (componentOf i) ≡ componentDue i
     chrominance h k = simp (le-ltb i 4 h, lt-ltb i 6 k)
+
     none : 6 ≤ i → componentOutcome (componentOf i) ≡ componentDue i
     none h = simp (le-ltb i 4 (omega arith), le-ltb i 6 h)
 

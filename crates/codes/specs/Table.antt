@@ -47,9 +47,11 @@ apartFrom c l [] ls = true
 apartFrom c l (d ∷ ds) [] = false
 apartFrom c l (d ∷ ds) (m ∷ ms) = not (agree c l d m) && apartFrom c l ds ms
 
+-- a row by itself: a length from 1 to `width`, and a code of that many bits
 abbrev pub soundRow : ℕ → ℕ → ℕ → Bool
 soundRow width c l = ltb 0 l && (leb l width && ltb c (2 ^ l))
 
+-- the rows are sound, and no code begins another
 abbrev pub prefixFree : ℕ → List ℕ → List ℕ → Bool
 prefixFree width [] [] = true
 prefixFree width [] (m ∷ ms) = false

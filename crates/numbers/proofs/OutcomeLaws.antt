@@ -39,6 +39,13 @@ both told e h = (e, ap told e ∙ h)
 pub also : {R O B : Type 0} (told : R → O) {r a : R} {o : O} → (r ≡ a) × B → told a ≡ o → ((r ≡ a) × B) × (told r ≡ o)
 also told e h = (e, ap told (e .0) ∙ h)
 
+-- and beside one clause, or two, of lent memory
+pub then : {R O B : Type 0} (told : R → O) {r a : R} {o : O} → (r ≡ a) × B → told a ≡ o → (r ≡ a) × (B × (told r ≡ o))
+then told e h = (e .0, (e .1, ap told (e .0) ∙ h))
+
+pub then-2 : {R O B C : Type 0} (told : R → O) {r a : R} {o : O} → (r ≡ a) × (B × C) → told a ≡ o → (r ≡ a) × (B × (C × (told r ≡ o)))
+then-2 told e h = (e .0, (e .1 .0, (e .1 .1, ap told (e .0) ∙ h)))
+
 -- one test, and two, under a map of answers
 pub one-test : {R A : Type 0} (told : R → Outcome A) (t : Bool) (x y : R) → told (cond t x y) ≡ cond t (told x) (told y)
 one-test told true x y = refl

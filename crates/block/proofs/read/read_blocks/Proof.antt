@@ -9,6 +9,9 @@ use Rattle.bits.specs.Cursor.{inData}
 use Rattle.block.proofs.RowLaws.{blocks-out, blocks-read, blocks-refused}
 use Rattle.block.proofs.StateLaws.{counted, not-counted}
 use Rattle.block.proofs.read.read_blocks.Statement.{statement}
+use Rattle.numbers.proofs.OutcomeLaws.{then}
+use Rattle.texture.specs.Outcomes.{listOutcome}
+use Rattle.block.proofs.OutcomeLaws.{blocks-due}
 use Rattle.block.proofs.read.read_blocks.Tie as tie
 
 -- the position lies in the data
@@ -40,22 +43,25 @@ enum-known-answer-2 c = search needs
 
 returns : tie.Need-returns
 returns c =
-    let a = c .before .before .before .before .args in
+    let args = c .before .before .before .before .args in
+    then listOutcome (let a = c .before .before .before .before .args in
     let d = now (a .«data») in
     let at = a .c .«bit_pos» in
-    blocks-out d at (a .pattern) (a .use-intra-dc-vlc) (a .reversible-vlc) (now (a .rows)) (not-counted d at _ _ (c .before .before .remaining-bits .ensures .0) (c .enum-told .given .1))
+    blocks-out d at (a .pattern) (a .use-intra-dc-vlc) (a .reversible-vlc) (now (a .rows)) (not-counted d at _ _ (c .before .before .remaining-bits .ensures .0) (c .enum-told .given .1))) (blocks-due (now (args .«data»)) (args .c .«bit_pos») (args .pattern) (args .use-intra-dc-vlc) (args .reversible-vlc))
 
 returns-2 : tie.Need-returns-2
 returns-2 c =
-    let k = c .before .before .before in
+    let args = c .before .before .before .before .before .before .before .before .before .args in
+    then listOutcome (let k = c .before .before .before in
     let a = c .before .before .before .before .before .before .before .before .before .args in
-    blocks-refused (now (a .«data»)) (a .c .«bit_pos») (a .pattern) (a .use-intra-dc-vlc) (a .reversible-vlc) (inside (k .before)) (k .read-rows .result) _ (now (a .rows)) (k .read-rows .ensures) (c .before .answer .given .1)
+    blocks-refused (now (a .«data»)) (a .c .«bit_pos») (a .pattern) (a .use-intra-dc-vlc) (a .reversible-vlc) (inside (k .before)) (k .read-rows .result) _ (now (a .rows)) (k .read-rows .ensures) (c .before .answer .given .1)) (blocks-due (now (args .«data»)) (args .c .«bit_pos») (args .pattern) (args .use-intra-dc-vlc) (args .reversible-vlc))
 
 returns-3 : tie.Need-returns-3
 returns-3 c =
-    let k = c .before .before .before in
+    let args = c .before .before .before .before .before .before .before .before .before .args in
+    then listOutcome (let k = c .before .before .before in
     let a = c .before .before .before .before .before .before .before .before .before .args in
-    blocks-read (now (a .«data»)) (a .c .«bit_pos») (a .pattern) (a .use-intra-dc-vlc) (a .reversible-vlc) (inside (k .before)) (k .read-rows .result) _ (now (a .rows)) (k .read-rows .ensures) (c .before .answer2 .given .1)
+    blocks-read (now (a .«data»)) (a .c .«bit_pos») (a .pattern) (a .use-intra-dc-vlc) (a .reversible-vlc) (inside (k .before)) (k .read-rows .result) _ (now (a .rows)) (k .read-rows .ensures) (c .before .answer2 .given .1)) (blocks-due (now (args .«data»)) (args .c .«bit_pos») (args .pattern) (args .use-intra-dc-vlc) (args .reversible-vlc))
 
 pub read-blocks-spec : {M : Type 1} → statement M
 read-blocks-spec =

@@ -1,43 +1,47 @@
+-- `block::reconstruct::reconstruct_block` meets its contract: the index, the context, then the block. Assumes nothing.
 use borrow.Author.Needs.{needs}
+use denote.Ref.{now}
+use Rattle.numbers.proofs.Tests.{flag-passes, flag-refuses}
+use Rattle.block.proofs.RebuildLaws.{no-block, no-context, whole-block}
 use Rattle.block.proofs.reconstruct.reconstruct_block.Statement.{statement}
 use Rattle.block.proofs.reconstruct.reconstruct_block.Tie as tie
-use Rattle.block.proofs.reconstruct.reconstruct_block.Reads as reads
-use Rattle.block.proofs.reconstruct.reconstruct_block.Lts as lts
-use Rattle.block.proofs.error.context_fine.Reads as context-fine-reads
-use Rattle.block.proofs.reconstruct.rebuild.Reads as rebuild-reads
-use Rattle.codes.proofs.dc_size.DcComponent.from_block_index.Reads as from-block-index-reads
 
--- src/reconstruct.rt:143:9
 from-block-index-requires : tie.Need-from-block-index-requires
 from-block-index-requires c κs = search needs
 
--- src/reconstruct.rt:145:61
 enum-told : tie.Need-enum-told
 enum-told c = search needs
 
--- src/reconstruct.rt:146:35
 enum-known-component : tie.Need-enum-known-component
 enum-known-component c = search needs
 
--- src/reconstruct.rt:147:17
 context-fine-requires : tie.Need-context-fine-requires
 context-fine-requires c κs = search needs
 
--- src/reconstruct.rt:148:17
 returns : tie.Need-returns
-returns c = ?
+returns c =
+    let k = c .before .before .before in
+    let f = k .before .before in
+    let a = f .before .args in
+    no-context (a .i) (a .ctx) (a .predictors) (a .w) (a .qfs) _ (f .from-block-index .result) (now (a .spatial)) (now (a .qf)) (f .from-block-index .ensures .1) (k .component .given .1) (flag-refuses (c .before .context-fine .ensures) (c .if1 .taken))
 
--- src/reconstruct.rt:150:13
 rebuild-requires : tie.Need-rebuild-requires
-rebuild-requires c κs = ?
+rebuild-requires c κs = flag-passes (c .before .before .before .context-fine .ensures) (c .before .before .if1 .left)
 
--- src/reconstruct.rt:129:1
 returns-2 : tie.Need-returns-2
-returns-2 c = ?
+returns-2 c =
+    let f = c .before .before in
+    let a = f .before .args in
+    no-block (a .i) (a .ctx) (a .predictors) (a .w) (a .qfs) (f .from-block-index .result) (now (a .spatial)) (now (a .qf)) (f .from-block-index .ensures .1) (c .enum-told .given .1)
 
--- src/reconstruct.rt:129:1
 returns-3 : tie.Need-returns-3
-returns-3 c = ?
+returns-3 c =
+    let e = c .before .before .before in
+    let k = e .before .before .before in
+    let f = k .before .before in
+    let a = f .before .args in
+    whole-block (a .i) (a .ctx) (a .predictors) (a .w) (a .qfs) _ (f .from-block-index .result) (now (a .spatial)) (now (a .qf)) (f .from-block-index .ensures .1) (k .component .given .1)
+    (flag-passes (e .before .context-fine .ensures) (e .if1 .left)) (c .rebuild .ensures)
 
 pub reconstruct-block-spec : {M : Type 1} → statement M
 reconstruct-block-spec =

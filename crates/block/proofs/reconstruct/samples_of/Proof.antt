@@ -1,39 +1,56 @@
+-- `block::reconstruct::samples_of` meets its contract: what the transform gives, limited. Assumes nothing.
+use mathlib.Core.Path.{_≡_, ap, _∙_}
+use Prim.Native.Nat.{ℕ}
+use native.Mathlib.Omega.{arith}
+use lib.IntN.{ℤ}
+use mir.Syntax.{w32}
+use mir.Val.{ofZ, toZ}
 use borrow.Author.Needs.{needs}
+use Rattle.ranges.proofs.DepthLaws.{depth-most, saturation-told}
+use Rattle.ranges.proofs.Powers.{high-back}
+use Rattle.ranges.specs.Range.{highest, lowest}
+use Rattle.ranges.specs.declared.DepthLimits.the-variants.{Are}
+use Rattle.block.proofs.SampleLaws.{samples-are}
 use Rattle.block.proofs.reconstruct.samples_of.Statement.{statement}
 use Rattle.block.proofs.reconstruct.samples_of.Tie as tie
-use Rattle.block.proofs.reconstruct.samples_of.Reads as reads
-use Rattle.block.proofs.reconstruct.samples_of.Lts as lts
-use Rattle.block.proofs.reconstruct.clip_block.Reads as clip-block-reads
-use Rattle.idct.proofs.idct_8x8_rounded.Reads as idct-8x8-rounded-reads
-use Rattle.ranges.proofs.Depth.saturation_limits.Reads as saturation-limits-reads
 
--- src/reconstruct.rt:74:5
+-- the depth is one, so its limits are told
+limits-are : (c : tie.After-saturation-limits) → let d = c .before .before .before .args .ctx .«bits_per_pixel» in c .saturation-limits .result ≡ Are (lowest d) (highest d)
+limits-are c = let s = c .before .before .before in saturation-told (s .args .ctx .«bits_per_pixel») _ (s .pre .0) (c .saturation-limits .ensures)
+
 idct-8x8-rounded-requires : tie.Need-idct-8x8-rounded-requires
 idct-8x8-rounded-requires c κs = search needs
 
--- src/reconstruct.rt:75:9
 saturation-limits-requires : tie.Need-saturation-limits-requires
 saturation-limits-requires c κs = search needs
 
--- src/reconstruct.rt:77:36
 enum-told : tie.Need-enum-told
 enum-told c = search needs
 
--- src/reconstruct.rt:78:29
 enum-known-limits : tie.Need-enum-known-limits
 enum-known-limits c = search needs
 
--- src/reconstruct.rt:78:36
 clip-block-requires : tie.Need-clip-block-requires
 clip-block-requires c κs = search needs
 
--- src/reconstruct.rt:67:1
 returns : tie.Need-returns
-returns c = ?
+returns c =
+    let t = c .enum-told .given .1 in
+    let u = limits-are (c .before .before) in
+    let z : _≡_ {A = ℕ} 0 1 = cc in
+    absurd (omega arith)
 
--- src/reconstruct.rt:67:1
 returns-2 : tie.Need-returns-2
-returns-2 c = ?
+returns-2 c =
+    let l = c .before .before .before .before in
+    let i = l .before in
+    let s = i .before .before in
+    let d = s .args .ctx .«bits_per_pixel» in
+    let t = c .before .before .limits .given .1 in
+    let u = limits-are l in
+    let hi : c .before .before .limits .given .0 .1 .0 ≡ highest d = cc in
+    let top = ap (λ (z : ℤ). toZ w32 (ofZ w32 z)) hi ∙ high-back d (omega (arith, depth-most d (s .pre .0))) in
+    c .clip-block .ensures ∙ samples-are (s .args .ctx) (s .args .f) (s .pre .0) (s .pre .1) (i .idct-8x8-rounded .result) (i .idct-8x8-rounded .ensures .0) _ _ _ (i .idct-8x8-rounded .ensures .1 .0) top
 
 pub samples-of-spec : {M : Type 1} → statement M
 samples-of-spec =
