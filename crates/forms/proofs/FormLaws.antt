@@ -3,15 +3,15 @@ use mathlib.Core.Bool.{Bool, cond, false, true, true≢false, _&&_}
 use mathlib.Core.List.{List, [], _∷_}
 use mathlib.Core.Option.{Option, none, some}
 use mathlib.Core.Path.{_≡_, _∙_, ap, ap₂, refl, subst, sym}
-use Prim.Native.Nat.{_%_, _+_, _-_, _/_, _<_, _≤_, ℕ}
+use Prim.Native.Nat.{_%_, _+_, _-_, _<_, _≤_, ℕ}
 use native.Mathlib.Omega.{arith}
 use borrow.Author.Tests.{eq-eqb, le-leb, lt-leb, ne-eqb}
 use lib.Dec.{eqb, leb}
 use lib.ListN.{drop, getD, length, take}
 use Rattle.numbers.specs.Every.{every}
 use Rattle.forms.proofs.WordLaws.{end-le, words-none, words-some}
-use Rattle.forms.specs.Forms.{Form, firstNamed, formBy, formOf, given, kindIn, kindWord, last, malformed, mb, mbForm, mbWord, methodIn, next, picture, pictureForm, pictureWord}
-use Rattle.forms.specs.Reading.{Says, dataAfter, dataForm, endOf, fieldBy, kindOf, lineOf, others, part, patternForm, there, valueRead, wordsFrom}
+use Rattle.forms.specs.Forms.{Form, firstNamed, formBy, formOf, given, kindIn, kindWord, last, longest, malformed, mb, mbForm, mbWord, methodIn, next, picture, pictureForm, pictureWord}
+use Rattle.forms.specs.Reading.{Says, dataAfter, dataForm, dataOf, endOf, fieldBy, kindOf, lineOf, others, parsed, part, patternForm, roomForData, there, valueRead, wordsFrom}
 use Rattle.forms.specs.Words.{bytesOf, hexIn, isHex, numberIn, same, words}
 use Rattle.forms.specs.declared.field.Digits.the-variants.{Bad as NoNumber, Is as NumberIs}
 use Rattle.forms.specs.declared.field.Field.{Field}
@@ -20,7 +20,7 @@ use Rattle.forms.specs.declared.kind.Kind.{Kind}
 use Rattle.forms.specs.declared.kind.Kind.the-variants.{Inter, Inter4V, InterQ, Intra, IntraQ, Missing, Skipped}
 use Rattle.forms.specs.declared.kind.KindRead.the-variants.{Bad as NoKind, Is as KindIs}
 use Rattle.forms.specs.declared.line.Line.{Line}
-use Rattle.forms.specs.declared.line.Line.the-variants.{Malformed}
+use Rattle.forms.specs.declared.line.Line.the-variants.{Malformed, TooShort}
 
 -- ---- a number
 
@@ -144,37 +144,37 @@ afterWidth w = next (numberIn 65535) (λ (h : ℕ). afterHeight w h)
 
 -- ---- a macroblock's form, word after word
 
-abbrev pub afterCbpy : ℕ → ℕ → ℕ → Kind → ℕ → List (List ℕ) → Form
-afterCbpy room q a t y = next (numberIn 255) (λ (c : ℕ). dataForm room q a t y c)
+abbrev pub afterCbpy : ℕ → ℕ → Kind → ℕ → List (List ℕ) → Form
+afterCbpy q a t y = next (numberIn 255) (λ (c : ℕ). dataForm q a t y c)
 
-abbrev pub afterFlag : ℕ → ℕ → ℕ → List (List ℕ) → Form
-afterFlag room q a = next kindIn (λ (t : Kind). patternForm room q a t)
+abbrev pub afterFlag : ℕ → ℕ → List (List ℕ) → Form
+afterFlag q a = next kindIn (λ (t : Kind). patternForm q a t)
 
-abbrev pub afterQuantiser : ℕ → ℕ → List (List ℕ) → Form
-afterQuantiser room q = next (numberIn 1) (λ (a : ℕ). afterFlag room q a)
+abbrev pub afterQuantiser : ℕ → List (List ℕ) → Form
+afterQuantiser q = next (numberIn 1) (λ (a : ℕ). afterFlag q a)
 
 -- what is told where the line is refused, and where it is another form
-pub refuses : {f : Form} (old : List ℕ) → f ≡ malformed → (Malformed ≡ lineOf f) × (old ≡ dataAfter f old)
-refuses old e = (sym (ap lineOf e), sym (ap (λ (f : Form). dataAfter f old) e))
+pub refuses : {f : Form} (old : List ℕ) → f ≡ malformed → (Malformed ≡ lineOf f) × (old ≡ dataOf f old)
+refuses old e = (sym (ap lineOf e), sym (ap (λ (f : Form). dataOf f old) e))
 
-pub goes-on : {f g : Form} {r : Line} {new : List ℕ} (old : List ℕ) → f ≡ g → (r ≡ lineOf g) × (new ≡ dataAfter g old) → (r ≡ lineOf f) × (new ≡ dataAfter f old)
-goes-on old e t = (t .0 ∙ sym (ap lineOf e), t .1 ∙ sym (ap (λ (f : Form). dataAfter f old) e))
+pub goes-on : {f g : Form} {r : Line} {new : List ℕ} (old : List ℕ) → f ≡ g → (r ≡ lineOf g) × (new ≡ dataOf g old) → (r ≡ lineOf f) × (new ≡ dataOf f old)
+goes-on old e t = (t .0 ∙ sym (ap lineOf e), t .1 ∙ sym (ap (λ (f : Form). dataOf f old) e))
 
-keeps : {A : Type 0} (p : List ℕ → Option A) (k : A → List (List ℕ) → Form) (old : List ℕ) → ((a : A) (ws : List (List ℕ)) → old ≡ dataAfter (k a ws) old)
-    → (ws : List (List ℕ)) → old ≡ dataAfter (next p k ws) old
+keeps : {A : Type 0} (p : List ℕ → Option A) (k : A → List (List ℕ) → Form) (old : List ℕ) → ((a : A) (ws : List (List ℕ)) → old ≡ dataOf (k a ws) old)
+    → (ws : List (List ℕ)) → old ≡ dataOf (next p k ws) old
 keeps p k old h [] = refl
 keeps {A} p k old h (w ∷ ws) = go (p w)
   where
-    go : (o : Option A) → old ≡ dataAfter (given o (λ (a : A). k a ws)) old
+    go : (o : Option A) → old ≡ dataOf (given o (λ (a : A). k a ws)) old
     go none = refl
     go (some a) = h a ws
 
-last-keeps : (w h d m : ℕ) (old : List ℕ) (ws : List (List ℕ)) → old ≡ dataAfter (last (picture w h d m) ws) old
+last-keeps : (w h d m : ℕ) (old : List ℕ) (ws : List (List ℕ)) → old ≡ dataOf (last (picture w h d m) ws) old
 last-keeps w h d m old [] = refl
 last-keeps w h d m old (v ∷ ws) = refl
 
 -- a picture's form keeps the data
-pub picture-keeps : (ws : List (List ℕ)) (old : List ℕ) → old ≡ dataAfter (pictureForm ws) old
+pub picture-keeps : (ws : List (List ℕ)) (old : List ℕ) → old ≡ dataOf (pictureForm ws) old
 unfolding pictureForm
 picture-keeps ws old =
     keeps (numberIn 65535) afterWidth old
@@ -205,9 +205,9 @@ module _ (k : Kind → List (List ℕ) → Form) (l : List ℕ) (from to : ℕ) 
 
 -- ---- the data of a macroblock
 
-hex-is : (room : ℕ) (w : List ℕ) → there (hexIn room w) ≡ true → hexIn room w ≡ some (bytesOf w)
+hex-is : (w : List ℕ) → there (hexIn w) ≡ true → hexIn w ≡ some (bytesOf w)
 unfolding hexIn
-hex-is room w e = go (leb 2 (length w) && (eqb (length w % 2) 0 && (every isHex w && leb (length w / 2) room))) e
+hex-is w e = go (leb 2 (length w) && (eqb (length w % 2) 0 && every isHex w)) e
   where
     go : (t : Bool) → there (cond t (some (bytesOf w)) none) ≡ true → cond t (some (bytesOf w)) none ≡ some (bytesOf w)
     go true e = refl
@@ -217,90 +217,111 @@ no-hex : (o : Option (List ℕ)) → there o ≡ false → o ≡ none
 no-hex none e = refl
 no-hex (some d) e = absurd (true≢false e)
 
-module _ (room q a : ℕ) (t : Kind) (y c : ℕ) (l : List ℕ) (from to : ℕ) where
-  pub data-none : to < from → dataForm room q a t y c (wordsFrom l from to) ≡ malformed
+module _ (q a : ℕ) (t : Kind) (y c : ℕ) (l : List ℕ) (from to : ℕ) where
+  pub data-none : to < from → dataForm q a t y c (wordsFrom l from to) ≡ malformed
   unfolding dataForm
-  data-none h = ap (next (hexIn room) (λ (d : List ℕ). last (mb q a t y c d))) (words-none l from to h)
+  data-none h = ap (next hexIn (λ (d : List ℕ). last (mb q a t y c d))) (words-none l from to h)
 
   module _ (h : from ≤ to) (in-line : to ≤ length l) (e : ℕ) (is : e ≡ endOf l from to) where
-    data-first : dataForm room q a t y c (wordsFrom l from to) ≡ given (hexIn room (part l from e)) (λ (d : List ℕ). last (mb q a t y c d) (wordsFrom l (e + 1) to))
+    data-first : dataForm q a t y c (wordsFrom l from to) ≡ given (hexIn (part l from e)) (λ (d : List ℕ). last (mb q a t y c d) (wordsFrom l (e + 1) to))
     unfolding dataForm
-    data-first = ap (next (hexIn room) (λ (d : List ℕ). last (mb q a t y c d))) (words-some l from to h in-line e is)
+    data-first = ap (next hexIn (λ (d : List ℕ). last (mb q a t y c d))) (words-some l from to h in-line e is)
 
     -- a word follows
-    pub data-more : e < to → dataForm room q a t y c (wordsFrom l from to) ≡ malformed
+    pub data-more : e < to → dataForm q a t y c (wordsFrom l from to) ≡ malformed
     data-more m =
         data-first
-        ∙ go (hexIn room (part l from e)) (wordsFrom l (e + 1) to) (words-some l (e + 1) to (omega arith) in-line (endOf l (e + 1) to) refl)
+        ∙ go (hexIn (part l from e)) (wordsFrom l (e + 1) to) (words-some l (e + 1) to (omega arith) in-line (endOf l (e + 1) to) refl)
       where
         go : (o : Option (List ℕ)) (ws : List (List ℕ)) {v : List ℕ} {vs : List (List ℕ)} → ws ≡ v ∷ vs → given o (λ (d : List ℕ). last (mb q a t y c d) ws) ≡ malformed
         go none ws s = refl
         go (some d) ws s = ap (last (mb q a t y c d)) s
 
-    data-last : to ≤ e → dataForm room q a t y c (wordsFrom l from to) ≡ given (hexIn room (part l from to)) (λ (d : List ℕ). mb q a t y c d)
+    data-last : to ≤ e → dataForm q a t y c (wordsFrom l from to) ≡ given (hexIn (part l from to)) (λ (d : List ℕ). mb q a t y c d)
     data-last m =
         let z : e ≡ to = omega (arith, end-le l from to in-line h) in
         data-first
-        ∙ ap₂ (λ (w : List ℕ) (ws : List (List ℕ)). given (hexIn room w) (λ (d : List ℕ). last (mb q a t y c d) ws)) (ap (part l from) z) (words-none l (e + 1) to (omega arith))
+        ∙ ap₂ (λ (w : List ℕ) (ws : List (List ℕ)). given (hexIn w) (λ (d : List ℕ). last (mb q a t y c d) ws)) (ap (part l from) z) (words-none l (e + 1) to (omega arith))
 
-    pub data-bad : to ≤ e → there (hexIn room (part l from to)) ≡ false → dataForm room q a t y c (wordsFrom l from to) ≡ malformed
-    data-bad m n = data-last m ∙ ap (λ (o : Option (List ℕ)). given o (λ (d : List ℕ). mb q a t y c d)) (no-hex (hexIn room (part l from to)) n)
+    pub data-bad : to ≤ e → there (hexIn (part l from to)) ≡ false → dataForm q a t y c (wordsFrom l from to) ≡ malformed
+    data-bad m n = data-last m ∙ ap (λ (o : Option (List ℕ)). given o (λ (d : List ℕ). mb q a t y c d)) (no-hex (hexIn (part l from to)) n)
 
-    pub data-is : to ≤ e → there (hexIn room (part l from to)) ≡ true → dataForm room q a t y c (wordsFrom l from to) ≡ mb q a t y c (bytesOf (part l from to))
-    data-is m n = data-last m ∙ ap (λ (o : Option (List ℕ)). given o (λ (d : List ℕ). mb q a t y c d)) (hex-is room (part l from to) n)
+    pub data-is : to ≤ e → there (hexIn (part l from to)) ≡ true → dataForm q a t y c (wordsFrom l from to) ≡ mb q a t y c (bytesOf (part l from to))
+    data-is m n = data-last m ∙ ap (λ (o : Option (List ℕ)). given o (λ (d : List ℕ). mb q a t y c d)) (hex-is (part l from to) n)
 
 -- ---- a line
 
-module _ (room : ℕ) (l : List ℕ) where
+module _ (l : List ℕ) where
   -- the answer by the tests of length and brackets
   shaped : Bool → Bool → Bool → Form
-  shaped n o c = cond n (cond o (cond c (formBy room (words (take (length l - 2) (drop 1 l)))) malformed) malformed) malformed
+  shaped n o c = cond n (cond o (cond c (formBy (words (take (length l - 2) (drop 1 l)))) malformed) malformed) malformed
 
-  tests : (n o c : Bool) → leb 2 (length l) ≡ n → eqb (getD l 0 0) 40 ≡ o → eqb (getD l (length l - 1) 0) 41 ≡ c → formOf room l ≡ shaped n o c
+  by-length : (t : Bool) → leb (length l) longest ≡ t → formOf l ≡ cond t (shaped (leb 2 (length l)) (eqb (getD l 0 0) 40) (eqb (getD l (length l - 1) 0) 41)) malformed
   unfolding formOf shaped
-  tests n o c e f g = ap₂ (λ (n o : Bool). shaped n o (eqb (getD l (length l - 1) 0) 41)) e f ∙ ap (shaped n o) g
+  by-length t e = ap (λ (t : Bool). cond t (shaped (leb 2 (length l)) (eqb (getD l 0 0) 40) (eqb (getD l (length l - 1) 0) 41)) malformed) e
 
-  pub line-short : length l < 2 → formOf room l ≡ malformed
+  pub line-long : longest < length l → formOf l ≡ malformed
+  line-long h = by-length false (lt-leb (length l) longest h)
+
+module _ (l : List ℕ) (short : length l ≤ longest) where
+  tests : (n o c : Bool) → leb 2 (length l) ≡ n → eqb (getD l 0 0) 40 ≡ o → eqb (getD l (length l - 1) 0) 41 ≡ c → formOf l ≡ shaped l n o c
+  tests n o c e f g =
+      by-length l true (le-leb (length l) longest short) ∙ ap₂ (λ (n o : Bool). shaped l n o (eqb (getD l (length l - 1) 0) 41)) e f ∙ ap (shaped l n o) g
+
+  pub line-short : length l < 2 → formOf l ≡ malformed
   unfolding shaped
   line-short h = tests false _ _ (lt-leb 2 (length l) h) refl refl
 
   module _ (h : 2 ≤ length l) where
-    pub line-open : (getD l 0 0 ≡ 40 → ⊥) → formOf room l ≡ malformed
+    pub line-open : (getD l 0 0 ≡ 40 → ⊥) → formOf l ≡ malformed
     unfolding shaped
     line-open o = tests true false _ (le-leb 2 (length l) h) (ne-eqb (getD l 0 0) 40 o) refl
 
     module _ (o : getD l 0 0 ≡ 40) where
-      pub line-close : (getD l (length l - 1) 0 ≡ 41 → ⊥) → formOf room l ≡ malformed
+      pub line-close : (getD l (length l - 1) 0 ≡ 41 → ⊥) → formOf l ≡ malformed
       unfolding shaped
       line-close c = tests true true false (le-leb 2 (length l) h) (eq-eqb (getD l 0 0) 40 o) (ne-eqb (getD l (length l - 1) 0) 41 c)
 
       module _ (c : getD l (length l - 1) 0 ≡ 41) (e : ℕ) (is : e ≡ endOf l 1 (length l - 1)) where
-        line-words : formOf room l ≡ formBy room (part l 1 e ∷ wordsFrom l (e + 1) (length l - 1))
+        line-words : formOf l ≡ formBy (part l 1 e ∷ wordsFrom l (e + 1) (length l - 1))
         unfolding shaped
         line-words =
             let n : length l - 2 ≡ length l - 1 - 1 = omega arith in
             tests true true true (le-leb 2 (length l) h) (eq-eqb (getD l 0 0) 40 o) (eq-eqb (getD l (length l - 1) 0) 41 c)
-            ∙ ap (λ (i : ℕ). formBy room (words (take i (drop 1 l)))) n
-            ∙ ap (formBy room) (ap (λ (t : Bool). cond t (words (part l 1 (length l - 1))) []) (sym (le-leb 1 (length l - 1) (omega arith))))
-            ∙ ap (formBy room) (words-some l 1 (length l - 1) (omega arith) (omega arith) e is)
+            ∙ ap (λ (i : ℕ). formBy (words (take i (drop 1 l)))) n
+            ∙ ap formBy (ap (λ (t : Bool). cond t (words (part l 1 (length l - 1))) []) (sym (le-leb 1 (length l - 1) (omega arith))))
+            ∙ ap formBy (words-some l 1 (length l - 1) (omega arith) (omega arith) e is)
 
         module _ {p : Bool} (first : p ≡ same (part l 1 e) pictureWord) where
-          line-first : formOf room l ≡ cond p (pictureForm (wordsFrom l (e + 1) (length l - 1))) (cond (same (part l 1 e) mbWord) (mbForm room (wordsFrom l (e + 1) (length l - 1))) malformed)
+          line-first : formOf l ≡ cond p (pictureForm (wordsFrom l (e + 1) (length l - 1))) (cond (same (part l 1 e) mbWord) (mbForm (wordsFrom l (e + 1) (length l - 1))) malformed)
           line-first =
               line-words
-              ∙ ap (λ (t : Bool). cond t (pictureForm (wordsFrom l (e + 1) (length l - 1))) (cond (same (part l 1 e) mbWord) (mbForm room (wordsFrom l (e + 1) (length l - 1))) malformed)) (sym first)
+              ∙ ap (λ (t : Bool). cond t (pictureForm (wordsFrom l (e + 1) (length l - 1))) (cond (same (part l 1 e) mbWord) (mbForm (wordsFrom l (e + 1) (length l - 1))) malformed)) (sym first)
 
-          pub line-picture : p ≡ true → formOf room l ≡ pictureForm (wordsFrom l (e + 1) (length l - 1))
-          line-picture y = line-first ∙ ap (λ (t : Bool). cond t (pictureForm (wordsFrom l (e + 1) (length l - 1))) (cond (same (part l 1 e) mbWord) (mbForm room (wordsFrom l (e + 1) (length l - 1))) malformed)) y
+          pub line-picture : p ≡ true → formOf l ≡ pictureForm (wordsFrom l (e + 1) (length l - 1))
+          line-picture y = line-first ∙ ap (λ (t : Bool). cond t (pictureForm (wordsFrom l (e + 1) (length l - 1))) (cond (same (part l 1 e) mbWord) (mbForm (wordsFrom l (e + 1) (length l - 1))) malformed)) y
 
           module _ (n : p ≡ false) {m : Bool} (second : m ≡ same (part l 1 e) mbWord) where
-            line-second : formOf room l ≡ cond m (mbForm room (wordsFrom l (e + 1) (length l - 1))) malformed
+            line-second : formOf l ≡ cond m (mbForm (wordsFrom l (e + 1) (length l - 1))) malformed
             line-second =
-                line-first ∙ ap (λ (t : Bool). cond t (pictureForm (wordsFrom l (e + 1) (length l - 1))) (cond (same (part l 1 e) mbWord) (mbForm room (wordsFrom l (e + 1) (length l - 1))) malformed)) n
-                ∙ ap (λ (t : Bool). cond t (mbForm room (wordsFrom l (e + 1) (length l - 1))) malformed) (sym second)
+                line-first ∙ ap (λ (t : Bool). cond t (pictureForm (wordsFrom l (e + 1) (length l - 1))) (cond (same (part l 1 e) mbWord) (mbForm (wordsFrom l (e + 1) (length l - 1))) malformed)) n
+                ∙ ap (λ (t : Bool). cond t (mbForm (wordsFrom l (e + 1) (length l - 1))) malformed) (sym second)
 
-            pub line-mb : m ≡ true → formOf room l ≡ mbForm room (wordsFrom l (e + 1) (length l - 1))
-            line-mb y = line-second ∙ ap (λ (t : Bool). cond t (mbForm room (wordsFrom l (e + 1) (length l - 1))) malformed) y
+            pub line-mb : m ≡ true → formOf l ≡ mbForm (wordsFrom l (e + 1) (length l - 1))
+            line-mb y = line-second ∙ ap (λ (t : Bool). cond t (mbForm (wordsFrom l (e + 1) (length l - 1))) malformed) y
 
-            pub line-other : m ≡ false → formOf room l ≡ malformed
-            line-other y = line-second ∙ ap (λ (t : Bool). cond t (mbForm room (wordsFrom l (e + 1) (length l - 1))) malformed) y
+            pub line-other : m ≡ false → formOf l ≡ malformed
+            line-other y = line-second ∙ ap (λ (t : Bool). cond t (mbForm (wordsFrom l (e + 1) (length l - 1))) malformed) y
+
+-- ---- the answer, where 16,384 bytes are lent for data and where fewer are
+
+module _ (l old : List ℕ) where
+  pub answered : {r : Line} {new : List ℕ} → roomForData ≤ length old → (r ≡ lineOf (formOf l)) × (new ≡ dataOf (formOf l) old) → (r ≡ parsed l old) × (new ≡ dataAfter l old)
+  answered h t =
+      let e = sym (le-leb roomForData (length old) h) in
+      (t .0 ∙ ap (λ (b : Bool). cond b (lineOf (formOf l)) TooShort) e, t .1 ∙ ap (λ (b : Bool). cond b (dataOf (formOf l) old) old) e)
+
+  pub too-short : length old < roomForData → (TooShort ≡ parsed l old) × (old ≡ dataAfter l old)
+  too-short h =
+      let e = sym (lt-leb roomForData (length old) h) in
+      (ap (λ (b : Bool). cond b (lineOf (formOf l)) TooShort) e, ap (λ (b : Bool). cond b (dataOf (formOf l) old) old) e)

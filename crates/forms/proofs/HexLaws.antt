@@ -15,9 +15,10 @@ use borrow.Author.Tests.{le-leb, lt-leb, leb-true, eq-eqb, ne-eqb, eqb-true}
 use Rattle.numbers.specs.Every.{every}
 use Rattle.numbers.proofs.Every.{every-fails, every-in}
 use Rattle.numbers.proofs.Fill.{lt-or-le}
-use Rattle.numbers.proofs.Tests.{both-true, and-false}
+use Rattle.numbers.proofs.Tests.{both-true}
 use Rattle.forms.proofs.PartLaws.{part-at, part-length}
-use Rattle.forms.specs.Reading.{part, there}
+use Rattle.forms.specs.Forms.{longest}
+use Rattle.forms.specs.Reading.{part, roomForData, there}
 use Rattle.forms.specs.Words.{byteOf, bytesOf, hexIn, hexOf, isHex}
 
 -- ---- a digit
@@ -139,52 +140,43 @@ there-cond : {A : Type 0} (t : Bool) (a : A) → there (cond t (some a) none) �
 there-cond true a = refl
 there-cond false a = refl
 
-and-true : (t : Bool) → (t && true) ≡ t
-and-true true = refl
-and-true false = refl
-
-module _ (room : ℕ) (w : List ℕ) where
-  data-tests : there (hexIn room w) ≡ (leb 2 (length w) && (eqb (length w % 2) 0 && (every isHex w && leb (length w / 2) room)))
+module _ (w : List ℕ) where
+  data-tests : there (hexIn w) ≡ (leb 2 (length w) && (eqb (length w % 2) 0 && every isHex w))
   unfolding hexIn
-  data-tests = there-cond (leb 2 (length w) && (eqb (length w % 2) 0 && (every isHex w && leb (length w / 2) room))) (bytesOf w)
+  data-tests = there-cond (leb 2 (length w) && (eqb (length w % 2) 0 && every isHex w)) (bytesOf w)
 
-module _ (room : ℕ) (l : List ℕ) (from to : ℕ) (in-l : to ≤ length l) where
+module _ (l : List ℕ) (from to : ℕ) (in-l : to ≤ length l) where
   -- the tests of a part, by its length
-  part-tests : there (hexIn room (part l from to)) ≡ (leb 2 (to - from) && (eqb ((to - from) % 2) 0 && (every isHex (part l from to) && leb ((to - from) / 2) room)))
+  part-tests : there (hexIn (part l from to)) ≡ (leb 2 (to - from) && (eqb ((to - from) % 2) 0 && every isHex (part l from to)))
   part-tests =
-      data-tests room (part l from to)
-      ∙ ap (λ (n : ℕ). leb 2 n && (eqb (n % 2) 0 && (every isHex (part l from to) && leb (n / 2) room))) (part-length l from to in-l)
+      data-tests (part l from to)
+      ∙ ap (λ (n : ℕ). leb 2 n && (eqb (n % 2) 0 && every isHex (part l from to))) (part-length l from to in-l)
 
-  pub no-data-short : to - from < 2 → there (hexIn room (part l from to)) ≡ false
+  pub no-data-short : to - from < 2 → there (hexIn (part l from to)) ≡ false
   no-data-short h = part-tests ∙ rw (lt-leb 2 (to - from) h)
 
   module _ (two : 2 ≤ to - from) where
-    pub no-data-odd : ((to - from) % 2 ≡ 0 → ⊥) → there (hexIn room (part l from to)) ≡ false
+    pub no-data-odd : ((to - from) % 2 ≡ 0 → ⊥) → there (hexIn (part l from to)) ≡ false
     no-data-odd h = part-tests ∙ rw (le-leb 2 (to - from) two, ne-eqb ((to - from) % 2) 0 h)
 
-    module _ (even : (to - from) % 2 ≡ 0) where
-      pub no-data-long : room < (to - from) / 2 → there (hexIn room (part l from to)) ≡ false
-      no-data-long h = part-tests ∙ rw (le-leb 2 (to - from) two, eq-eqb ((to - from) % 2) 0 even, lt-leb ((to - from) / 2) room h) (and-false (every isHex (part l from to)))
+    pub data-if : (to - from) % 2 ≡ 0 → there (hexIn (part l from to)) ≡ every isHex (part l from to)
+    data-if even = part-tests ∙ rw (le-leb 2 (to - from) two, eq-eqb ((to - from) % 2) 0 even)
 
-      pub data-if : (to - from) / 2 ≤ room → there (hexIn room (part l from to)) ≡ every isHex (part l from to)
-      data-if h = part-tests ∙ rw (le-leb 2 (to - from) two, eq-eqb ((to - from) % 2) 0 even, le-leb ((to - from) / 2) room h) (and-true (every isHex (part l from to)))
+  -- the data of a word in a line that is not too long fits into the room for data
+  pub data-fits : length l ≤ longest → (room : ℕ) → roomForData ≤ room → (to - from) / 2 ≤ room
+  data-fits short room h = omega arith
 
   -- what a word that is data tells of itself
-  module _ (up : from ≤ to) (e : there (hexIn room (part l from to)) ≡ true) where
-    told : ((to - from) % 2 ≡ 0) × (every isHex (part l from to) ≡ true) × ((to - from) / 2 ≤ room)
+  module _ (up : from ≤ to) (e : there (hexIn (part l from to)) ≡ true) where
+    told : ((to - from) % 2 ≡ 0) × (every isHex (part l from to) ≡ true)
     told =
         let even = eqb ((to - from) % 2) 0 in
         let digits = every isHex (part l from to) in
-        let fits = leb ((to - from) / 2) room in
-        let a = both-true even (digits && fits) (both-true (leb 2 (to - from)) (even && (digits && fits)) (sym part-tests ∙ e) .1) in
-        let b = both-true digits fits (a .1) in
-        (eqb-true ((to - from) % 2) 0 (a .0), b .0, leb-true ((to - from) / 2) room (b .1))
+        let a = both-true even digits (both-true (leb 2 (to - from)) (even && digits) (sym part-tests ∙ e) .1) in
+        (eqb-true ((to - from) % 2) 0 (a .0), a .1)
 
     pub data-even : from + 2 * ((to - from) / 2) ≡ to
     data-even = omega (arith, told)
-
-    pub data-fits : (to - from) / 2 ≤ room
-    data-fits = told .2
 
     pub data-digits : every isHex (part l from (from + 2 * ((to - from) / 2))) ≡ true
     data-digits = ap (λ (i : ℕ). every isHex (part l from i)) data-even ∙ told .1

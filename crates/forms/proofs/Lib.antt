@@ -4,3 +4,4 @@ pub mod WordLaws
 pub mod NumberLaws
 pub mod HexLaws
 pub mod FormLaws
+pub mod DataLaws

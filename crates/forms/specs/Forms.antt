@@ -71,17 +71,22 @@ methodIn w = notZero (numberIn 2 w)
 unfoldable pub pictureForm : List (List ℕ) → Form
 pictureForm = next (numberIn 65535) (λ w. next (numberIn 65535) (λ h. next (numberIn 65535) (λ d. next methodIn (λ m. last (picture w h d m)))))
 
-unfoldable pub mbForm : ℕ → List (List ℕ) → Form
-mbForm room =
-    next (numberIn 65535) (λ q. next (numberIn 1) (λ a. next kindIn (λ t. next (numberIn 255) (λ y. next (numberIn 255) (λ c. next (hexIn room) (λ d. last (mb q a t y c d)))))))
+unfoldable pub mbForm : List (List ℕ) → Form
+mbForm = next (numberIn 65535) (λ q. next (numberIn 1) (λ a. next kindIn (λ t. next (numberIn 255) (λ y. next (numberIn 255) (λ c. next hexIn (λ d. last (mb q a t y c d)))))))
 
-abbrev pub formBy : ℕ → List (List ℕ) → Form
-formBy room [] = malformed
-formBy room (k ∷ ws) = cond (same k pictureWord) (pictureForm ws) (cond (same k mbWord) (mbForm room ws) malformed)
+abbrev pub formBy : List (List ℕ) → Form
+formBy [] = malformed
+formBy (k ∷ ws) = cond (same k pictureWord) (pictureForm ws) (cond (same k mbWord) (mbForm ws) malformed)
 
--- a line: a bracket, words parted by one space, a bracket; `room` bytes of data can be held
-unfoldable pub formOf : ℕ → List ℕ → Form
-formOf room l =
-    cond (leb 2 (length l))
-    (cond (eqb (getD l 0 0) 40) (cond (eqb (getD l (length l - 1) 0) 41) (formBy room (words (take (length l - 2) (drop 1 l)))) malformed) malformed)
+-- the longest line that is no malformed one
+abbrev pub longest : ℕ
+longest = 32768
+
+-- a line of at most 32,768 bytes: a bracket, words parted by one space, a bracket
+unfoldable pub formOf : List ℕ → Form
+formOf l =
+    cond (leb (length l) longest)
+    (cond (leb 2 (length l))
+    (cond (eqb (getD l 0 0) 40) (cond (eqb (getD l (length l - 1) 0) 41) (formBy (words (take (length l - 2) (drop 1 l)))) malformed) malformed)
+    malformed)
     malformed

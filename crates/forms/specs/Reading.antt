@@ -7,7 +7,7 @@ use Prim.Native.Nat.{ℕ, _+_, _-_, _<_, _≤_}
 use lib.Dec.{eqb, leb}
 use lib.ListN.{drop, length, take}
 use lib.Seq.{paste}
-use Rattle.forms.specs.Forms.{Form, last, malformed, mb, next, picture}
+use Rattle.forms.specs.Forms.{Form, formOf, last, malformed, mb, next, picture}
 use Rattle.forms.specs.Words.{hexIn, numberIn, words}
 use Rattle.forms.specs.declared.field.Field.{Field}
 use Rattle.forms.specs.declared.field.Field.the-variants.{Bad, Value}
@@ -17,7 +17,7 @@ use Rattle.forms.specs.declared.kind.Kind.{Kind}
 use Rattle.forms.specs.declared.kind.KindRead.{KindRead}
 use Rattle.forms.specs.declared.kind.KindRead.the-variants.{Bad as NoKind, Is as KindIs}
 use Rattle.forms.specs.declared.line.Line.{Line}
-use Rattle.forms.specs.declared.line.Line.the-variants.{Macroblock, Malformed, Picture}
+use Rattle.forms.specs.declared.line.Line.the-variants.{Macroblock, Malformed, Picture, TooShort}
 
 -- the numbers of a form; of the data the number of bytes
 abbrev pub lineOf : Form → Line
@@ -26,10 +26,20 @@ lineOf (mb q a t y c d) = Macroblock q a t y c (length d)
 lineOf malformed = Malformed
 
 -- the lent data: its first bytes are the form's, the rest as before
-abbrev pub dataAfter : Form → List ℕ → List ℕ
-dataAfter (picture w h d m) old = old
-dataAfter (mb q a t y c d) old = paste old 0 d (length d)
-dataAfter malformed old = old
+abbrev pub dataOf : Form → List ℕ → List ℕ
+dataOf (picture w h d m) old = old
+dataOf (mb q a t y c d) old = paste old 0 d (length d)
+dataOf malformed old = old
+
+-- 16,384 bytes hold the data of every line that is a form; where fewer are lent that is the answer (14), whatever the line, and they stay as they were
+abbrev pub roomForData : ℕ
+roomForData = 16384
+
+abbrev pub parsed : List ℕ → List ℕ → Line
+parsed l old = cond (leb roomForData (length old)) (lineOf (formOf l)) TooShort
+
+abbrev pub dataAfter : List ℕ → List ℕ → List ℕ
+dataAfter l old = cond (leb roomForData (length old)) (dataOf (formOf l) old) old
 
 -- ---- inside the crate
 
@@ -75,8 +85,8 @@ there none = false
 there (some a) = true
 
 -- a macroblock's form from its data on, and from its pattern on
-unfoldable pub dataForm : ℕ → ℕ → ℕ → Kind → ℕ → ℕ → List (List ℕ) → Form
-dataForm room q a t y c = next (hexIn room) (λ d. last (mb q a t y c d))
+unfoldable pub dataForm : ℕ → ℕ → Kind → ℕ → ℕ → List (List ℕ) → Form
+dataForm q a t y c = next hexIn (λ d. last (mb q a t y c d))
 
-unfoldable pub patternForm : ℕ → ℕ → ℕ → Kind → List (List ℕ) → Form
-patternForm room q a t = next (numberIn 255) (λ y. next (numberIn 255) (λ c. dataForm room q a t y c))
+unfoldable pub patternForm : ℕ → ℕ → Kind → List (List ℕ) → Form
+patternForm q a t = next (numberIn 255) (λ y. next (numberIn 255) (λ c. dataForm q a t y c))

@@ -2,7 +2,7 @@
 use mathlib.Core.Bool.{Bool, cond, false, not, true, _&&_, _||_}
 use mathlib.Core.List.{List, [], _∷_}
 use mathlib.Core.Option.{Option, none, some}
-use Prim.Native.Nat.{ℕ, _%_, _*_, _+_, _-_, _/_}
+use Prim.Native.Nat.{ℕ, _%_, _*_, _+_, _-_}
 use lib.Dec.{eqb, leb}
 use lib.ListN.{length}
 use Rattle.numbers.specs.Every.{every}
@@ -59,6 +59,6 @@ bytesOf [] = []
 bytesOf (a ∷ []) = []
 bytesOf (a ∷ b ∷ bs) = byteOf a b ∷ bytesOf bs
 
--- an even number of digits, two or more, of which `room` bytes can be held
-unfoldable pub hexIn : ℕ → List ℕ → Option (List ℕ)
-hexIn room w = cond (leb 2 (length w) && (eqb (length w % 2) 0 && (every isHex w && leb (length w / 2) room))) (some (bytesOf w)) none
+-- an even number of digits, two or more
+unfoldable pub hexIn : List ℕ → Option (List ℕ)
+hexIn w = cond (leb 2 (length w) && (eqb (length w % 2) 0 && every isHex w)) (some (bytesOf w)) none

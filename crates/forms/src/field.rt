@@ -2,6 +2,7 @@
 ghost use mathlib.Core.Path.{_≡_};
 ghost use Prim.Native.Nat.{_+_, _≤_};
 ghost use lib.ListN.{length};
+ghost use Rattle.forms.specs.Forms.{longest};
 ghost use Rattle.forms.specs.Reading.{Says, endOf, part, valueRead};
 ghost use Rattle.forms.specs.Words.{numberIn};
 
@@ -65,7 +66,7 @@ fn value(line: &[u8], from: usize, to: usize, most: u32) -> Digits
 
 // The next word as a number up to `most`.
 pub(crate) fn number(line: &[u8], from: usize, to: usize, most: u32) -> Field
-    requires { ⌜ (from ≤ to + 1) × ((to ≤ length (now line)) × ((length (now line) ≤ 9223372036854775807) × (most ≤ 65535))) ⌝ }
+    requires { ⌜ (from ≤ to + 1) × ((to ≤ length (now line)) × ((length (now line) ≤ longest) × (most ≤ 65535))) ⌝ }
     ensures { λ r. ⌜ Says (numberIn most) (now (line .entry)) from to r ⌝ }
 {
     if to < from {

@@ -1,12 +1,13 @@
 // Hexadecimal data.
+ghost use mathlib.Core.Bool.{true};
 ghost use mathlib.Core.Path.{_≡_};
 ghost use Prim.Native.Nat.{_+_, _*_, _≤_, _<_};
 ghost use lib.ListN.{length};
 ghost use lib.Seq.{paste};
-ghost use Rattle.forms.specs.Reading.{part};
+ghost use Rattle.forms.specs.Forms.{longest};
+ghost use Rattle.forms.specs.Reading.{part, roomForData, there};
 ghost use Rattle.forms.specs.Words.{bytesOf, hexIn, hexOf, isHex};
 ghost use Rattle.numbers.specs.Every.{every};
-ghost use mathlib.Core.Bool.{true};
 
 fn is_hex(b: u8) -> bool
     ensures { λ r. ⌜ r ≡ isHex b ⌝ }
@@ -60,7 +61,7 @@ fn all_hex(line: &[u8], from: usize, to: usize) -> bool
 
 // The bytes that `n` pairs of digits from `from` on write, into the first `n` of `data`.
 fn decode(line: &[u8], from: usize, n: usize, data: &mut [u8])
-    requires { ⌜ (from + 2 * n ≤ length (now line)) × ((n ≤ length (now «data»)) × ((length (now line) ≤ 9223372036854775807) × (every isHex (part (now line) from (from + 2 * n)) ≡ true))) ⌝ }
+    requires { ⌜ (from + 2 * n ≤ length (now line)) × ((n ≤ length (now «data»)) × ((length (now line) ≤ longest) × (every isHex (part (now line) from (from + 2 * n)) ≡ true))) ⌝ }
     ensures { λ _. ⌜ now («data» .exit) ≡ paste (now («data» .entry)) 0 (bytesOf (part (now (line .entry)) from (from + 2 * n))) n ⌝ }
 {
     for k in 0..n {
@@ -70,10 +71,10 @@ fn decode(line: &[u8], from: usize, n: usize, data: &mut [u8])
     }
 }
 
-// Whether the bytes from `from` up to `to` are data of which `room` bytes can be held.
-pub(crate) fn is_data(line: &[u8], from: usize, to: usize, room: usize) -> bool
+// Whether the bytes from `from` up to `to` are data.
+pub(crate) fn is_data(line: &[u8], from: usize, to: usize) -> bool
     requires { ⌜ (from ≤ to) × (to ≤ length (now line)) ⌝ }
-    ensures { λ r. ⌜ r ≡ Rattle.forms.specs.Reading.there (hexIn room (part (now (line .entry)) from to)) ⌝ }
+    ensures { λ r. ⌜ r ≡ there (hexIn (part (now (line .entry)) from to)) ⌝ }
 {
     let n = to - from;
     if n < 2 {
@@ -82,15 +83,12 @@ pub(crate) fn is_data(line: &[u8], from: usize, to: usize, room: usize) -> bool
     if n % 2 != 0 {
         return false;
     }
-    if room < n / 2 {
-        return false;
-    }
     all_hex(line, from, to)
 }
 
 // The data of a word that is data; its number of bytes.
 pub(crate) fn data_of(line: &[u8], from: usize, to: usize, data: &mut [u8]) -> usize
-    requires { ⌜ (from ≤ to) × ((to ≤ length (now line)) × ((length (now line) ≤ 9223372036854775807) × (Rattle.forms.specs.Reading.there (hexIn (length (now «data»)) (part (now line) from to)) ≡ true))) ⌝ }
+    requires { ⌜ (from ≤ to) × ((to ≤ length (now line)) × ((length (now line) ≤ longest) × ((roomForData ≤ length (now «data»)) × (there (hexIn (part (now line) from to)) ≡ true)))) ⌝ }
     ensures { λ r. ⌜ (r ≡ length (bytesOf (part (now (line .entry)) from to))) × (now («data» .exit) ≡ paste (now («data» .entry)) 0 (bytesOf (part (now (line .entry)) from to)) (length (bytesOf (part (now (line .entry)) from to)))) ⌝ }
 {
     let n = (to - from) / 2;

@@ -2,21 +2,23 @@
 ghost use mathlib.Core.Path.{_≡_};
 ghost use Prim.Native.Nat.{_+_, _≤_};
 ghost use lib.ListN.{length};
-ghost use Rattle.forms.specs.Forms.{formOf, mbForm, pictureForm};
-ghost use Rattle.forms.specs.Reading.{dataAfter, lineOf, wordsFrom};
+ghost use Rattle.forms.specs.Forms.{longest, mbForm, pictureForm};
+ghost use Rattle.forms.specs.Reading.{dataAfter, dataForm, dataOf, lineOf, parsed, patternForm, roomForData, wordsFrom};
 use crate::field::Field;
 use crate::kind::Kind;
 use crate::kind::KindRead;
 
 // A picture: width, height, depth, method. A macroblock: quantiser, ac_pred, type, cbpy, cbpc, and how many bytes of data.
+// `TooShort` (14): fewer than 16,384 bytes were lent for data.
 pub enum Line {
     Malformed,
+    TooShort,
     Picture(u32, u32, u32, u32),
     Macroblock(u32, u32, Kind, u32, u32, usize),
 }
 
 fn picture(line: &[u8], from: usize, to: usize) -> Line
-    requires { ⌜ (from ≤ to + 1) × ((to ≤ length (now line)) × (length (now line) ≤ 9223372036854775807)) ⌝ }
+    requires { ⌜ (from ≤ to + 1) × ((to ≤ length (now line)) × (length (now line) ≤ longest)) ⌝ }
     ensures { λ r. ⌜ r ≡ lineOf (pictureForm (wordsFrom (now (line .entry)) from to)) ⌝ }
 {
     let w = crate::field::number(line, from, to, 65535);
@@ -64,9 +66,9 @@ fn with_data(
     cbpc: u32,
     data: &mut [u8],
 ) -> Line
-    requires { ⌜ (from ≤ to + 1) × ((to ≤ length (now line)) × (length (now line) ≤ 9223372036854775807)) ⌝ }
-    ensures { λ r. ⌜ r ≡ lineOf (Rattle.forms.specs.Reading.dataForm (length (now («data» .entry))) q «ac_pred» kind cbpy cbpc (wordsFrom (now (line .entry)) from to)) ⌝ }
-    ensures bytes { λ r. ⌜ now («data» .exit) ≡ dataAfter (Rattle.forms.specs.Reading.dataForm (length (now («data» .entry))) q «ac_pred» kind cbpy cbpc (wordsFrom (now (line .entry)) from to)) (now («data» .entry)) ⌝ }
+    requires { ⌜ (from ≤ to + 1) × ((to ≤ length (now line)) × ((length (now line) ≤ longest) × (roomForData ≤ length (now «data»)))) ⌝ }
+    ensures { λ r. ⌜ r ≡ lineOf (dataForm q «ac_pred» kind cbpy cbpc (wordsFrom (now (line .entry)) from to)) ⌝ }
+    ensures bytes { λ r. ⌜ now («data» .exit) ≡ dataOf (dataForm q «ac_pred» kind cbpy cbpc (wordsFrom (now (line .entry)) from to)) (now («data» .entry)) ⌝ }
 {
     if to < from {
         return Line::Malformed;
@@ -75,8 +77,7 @@ fn with_data(
     if e < to {
         return Line::Malformed;
     }
-    let room = data.len();
-    if !crate::hex::is_data(line, from, to, room) {
+    if !crate::hex::is_data(line, from, to) {
         return Line::Malformed;
     }
     let n = crate::hex::data_of(line, from, to, data);
@@ -93,9 +94,9 @@ fn with_pattern(
     kind: Kind,
     data: &mut [u8],
 ) -> Line
-    requires { ⌜ (from ≤ to + 1) × ((to ≤ length (now line)) × (length (now line) ≤ 9223372036854775807)) ⌝ }
-    ensures { λ r. ⌜ r ≡ lineOf (Rattle.forms.specs.Reading.patternForm (length (now («data» .entry))) q «ac_pred» kind (wordsFrom (now (line .entry)) from to)) ⌝ }
-    ensures bytes { λ r. ⌜ now («data» .exit) ≡ dataAfter (Rattle.forms.specs.Reading.patternForm (length (now («data» .entry))) q «ac_pred» kind (wordsFrom (now (line .entry)) from to)) (now («data» .entry)) ⌝ }
+    requires { ⌜ (from ≤ to + 1) × ((to ≤ length (now line)) × ((length (now line) ≤ longest) × (roomForData ≤ length (now «data»)))) ⌝ }
+    ensures { λ r. ⌜ r ≡ lineOf (patternForm q «ac_pred» kind (wordsFrom (now (line .entry)) from to)) ⌝ }
+    ensures bytes { λ r. ⌜ now («data» .exit) ≡ dataOf (patternForm q «ac_pred» kind (wordsFrom (now (line .entry)) from to)) (now («data» .entry)) ⌝ }
 {
     let y = crate::field::number(line, from, to, 255);
     match y {
@@ -113,9 +114,9 @@ fn with_pattern(
 }
 
 fn macroblock(line: &[u8], from: usize, to: usize, data: &mut [u8]) -> Line
-    requires { ⌜ (from ≤ to + 1) × ((to ≤ length (now line)) × (length (now line) ≤ 9223372036854775807)) ⌝ }
-    ensures { λ r. ⌜ r ≡ lineOf (mbForm (length (now («data» .entry))) (wordsFrom (now (line .entry)) from to)) ⌝ }
-    ensures bytes { λ r. ⌜ now («data» .exit) ≡ dataAfter (mbForm (length (now («data» .entry))) (wordsFrom (now (line .entry)) from to)) (now («data» .entry)) ⌝ }
+    requires { ⌜ (from ≤ to + 1) × ((to ≤ length (now line)) × ((length (now line) ≤ longest) × (roomForData ≤ length (now «data»)))) ⌝ }
+    ensures { λ r. ⌜ r ≡ lineOf (mbForm (wordsFrom (now (line .entry)) from to)) ⌝ }
+    ensures bytes { λ r. ⌜ now («data» .exit) ≡ dataOf (mbForm (wordsFrom (now (line .entry)) from to)) (now («data» .entry)) ⌝ }
 {
     let q = crate::field::number(line, from, to, 65535);
     match q {
@@ -142,12 +143,26 @@ fn macroblock(line: &[u8], from: usize, to: usize, data: &mut [u8]) -> Line
     }
 }
 
-// The form of a line; of a macroblock the data goes into the first bytes of `data`, else that is kept.
+impl Line {
+    // The longest line that is a form, and what its data fits into.
+    pub const LONGEST: usize = 32768;
+
+    pub const DATA: usize = 16384;
+}
+
+// The form of a line; of a macroblock the data goes into the first bytes of `data`, else that is kept. 14 where fewer
+// than 16,384 bytes are lent.
 pub fn parse(line: &[u8], data: &mut [u8]) -> Line
-    ensures { λ r. ⌜ r ≡ lineOf (formOf (length (now («data» .entry))) (now (line .entry))) ⌝ }
-    ensures bytes { λ r. ⌜ now («data» .exit) ≡ dataAfter (formOf (length (now («data» .entry))) (now (line .entry))) (now («data» .entry)) ⌝ }
+    ensures { λ r. ⌜ r ≡ parsed (now (line .entry)) (now («data» .entry)) ⌝ }
+    ensures bytes { λ r. ⌜ now («data» .exit) ≡ dataAfter (now (line .entry)) (now («data» .entry)) ⌝ }
 {
+    if data.len() < Line::DATA {
+        return Line::TooShort;
+    }
     let n = line.len();
+    if Line::LONGEST < n {
+        return Line::Malformed;
+    }
     if n < 2 {
         return Line::Malformed;
     }

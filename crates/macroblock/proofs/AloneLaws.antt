@@ -1,22 +1,29 @@
 -- A macroblock read alone: its answer, its samples and demand 3, by what the state and the reader say. Assumes nothing.
 use mathlib.Core.Bool.{Bool}
-use mathlib.Core.List.{List}
-use mathlib.Core.Path.{_≡_, ap, ap₂, subst, subst⁻¹, sym, _∙_}
+use mathlib.Core.List.{List, _++_, _∷_}
+use mathlib.Core.Path.{_≡_, ap, ap₂, refl, subst, subst⁻¹, sym, _∙_}
 use Prim.Native.Nat.{ℕ, _+_, _-_}
 use native.Mathlib.Omega.{arith}
+use lib.Dec.{leb}
 use lib.IntN.{ℤ}
 use lib.ListN.{length}
+use Rattle.numbers.specs.Outcome.{checked}
 use Rattle.bits.proofs.CursorLaws.{in-data-yes}
-use Rattle.bits.specs.Cursor.{cursorAt}
+use Rattle.bits.specs.Cursor.{cursorAt, inData}
 use Rattle.bits.specs.declared.cursor.Cursor.{Cursor}
+use Rattle.coefficients.specs.Level.{predictorsFine}
 use Rattle.coefficients.specs.declared.predictor.BlockPredictors.{BlockPredictors}
 use Rattle.texture.specs.Answer.{after}
 use Rattle.texture.specs.Macroblock.{Parts}
 use Rattle.texture.specs.Reader.{Res}
+use Rattle.block.proofs.OutcomeLaws.{answered, read-by}
 use Rattle.block.proofs.ValueLaws.{depth-fine}
+use Rattle.block.specs.Answer.{testsOf}
 use Rattle.block.specs.Rows.{rowsOf}
+use Rattle.block.specs.Values.{contextFine}
 use Rattle.block.specs.declared.context.MacroblockTextureContext.{MacroblockTextureContext}
 use Rattle.block.specs.declared.error.BlockAssemblyError.{BlockAssemblyError}
+use Rattle.block.specs.declared.error.BlockAssemblyError.the-variants.{TooShort}
 use Rattle.block.specs.declared.error.Checked.{Checked}
 use Rattle.block.specs.declared.error.Checked.the-variants.{Bad, Fine}
 use Rattle.macroblock.proofs.DemandLaws.{Call, demand}
@@ -24,7 +31,8 @@ use Rattle.macroblock.proofs.SixLaws.{values-six-fine}
 use Rattle.macroblock.proofs.StateLaws.{StateFine, state-fine}
 use Rattle.macroblock.specs.Alone.{Accepted, DemandAlone, Told}
 use Rattle.macroblock.specs.Answer.{answerBy, keptBy, macroblockAnswer, samplesOut, samplesTold, sentenceOf, stateOf, told, valuesAlone}
-use Rattle.macroblock.specs.Header.{patternBy}
+use Rattle.macroblock.specs.Header.{headerTests, patternBy}
+use Rattle.macroblock.specs.Outcomes.{bitsSaid, headerNumbers, macroblockDue, macroblockOutcome}
 use Rattle.macroblock.specs.declared.decode.MacroblockDecoded.{MacroblockDecoded}
 use Rattle.macroblock.specs.declared.decode.MacroblockDecoded.the-variants.{Decoded, Refused}
 use Rattle.macroblock.specs.declared.header.MacroblockHeader.{MacroblockHeader}
@@ -34,17 +42,29 @@ module _ (d : List ℕ) (at : ℕ) (h : MacroblockHeader) (dcCoded rev : Bool) (
   abbrev pub Meets : MacroblockDecoded → List ℤ → Type 0
   Meets r out =
       (r ≡ macroblockAnswer d at h dcCoded rev x p w old)
-      × ((out ≡ samplesOut d at h dcCoded rev x p w old) × DemandAlone d at h dcCoded rev x p w old r out)
+      × ((out ≡ samplesOut d at h dcCoded rev x p w old)
+      × (DemandAlone d at h dcCoded rev x p w old r out × (macroblockOutcome r ≡ macroblockDue d at h dcCoded rev x p w (length old))))
+
+  -- the answer by number
+  by-number : {r : MacroblockDecoded} → r ≡ macroblockAnswer d at h dcCoded rev x p w old → macroblockOutcome r ≡ macroblockDue d at h dcCoded rev x p w (length old)
+  unfolding macroblockAnswer stateOf
+  by-number e =
+      ap macroblockOutcome e
+      ∙ answered macroblockOutcome (λ (k : Checked). answerBy k (told d at (sentenceOf d at h dcCoded rev))) (λ e. refl)
+      (testsOf d at x p w ++ ((leb 384 (length old), TooShort) ∷ headerTests h)) (refl, (refl, (refl, (refl, (refl, (refl, tt))))))
+      ∙ ap (checked ((inData (length d) at, 11) ∷ (contextFine x w, 12) ∷ (predictorsFine p, 13) ∷ (leb 384 (length old), 14) ∷ headerNumbers h))
+      (read-by macroblockOutcome (told d at) (bitsSaid at) d (λ a r. refl) (λ e. refl) (sentenceOf d at h dcCoded rev))
 
   pub refused : {e : BlockAssemblyError} → stateOf d at h x p w (length old) ≡ Bad e → Meets (Refused e) old
   unfolding macroblockAnswer samplesOut
-  refused {e} q = (
-    sym (ap (λ (s : Checked). answerBy s (told d at (sentenceOf d at h dcCoded rev))) q),
-    (
-      sym (ap (λ (s : Checked). keptBy s (samplesTold h dcCoded x p w (sentenceOf d at h dcCoded rev) old) old) q),
-      λ f. absurd (let z : _≡_ {A = ℕ} 0 1 = cc in omega arith),
-    ),
-  )
+  refused {e} q =
+      let a = sym (ap (λ (s : Checked). answerBy s (told d at (sentenceOf d at h dcCoded rev))) q) in (
+        a,
+        (
+          sym (ap (λ (s : Checked). keptBy s (samplesTold h dcCoded x p w (sentenceOf d at h dcCoded rev) old) old) q),
+          (λ f. absurd (let z : _≡_ {A = ℕ} 0 1 = cc in omega arith), by-number a),
+        ),
+      )
 
   module _ (q : stateOf d at h x p w (length old) ≡ Fine) (r : MacroblockDecoded) (out : List ℤ)
       (e : r ≡ told d at (sentenceOf d at h dcCoded rev)) (f : out ≡ samplesTold h dcCoded x p w (sentenceOf d at h dcCoded rev) old) where
@@ -65,13 +85,15 @@ module _ (d : List ℕ) (at : ℕ) (h : MacroblockHeader) (dcCoded rev : Bool) (
       writes = λ s b g. f ∙ ap (λ (y : Res (List Parts)). samplesTold h dcCoded x p w y old) g;
     }
 
-    pub checked : Meets r out
+    pub whole : Meets r out
     unfolding macroblockAnswer samplesOut
-    checked = (
-      e ∙ sym (ap (λ (s : Checked). answerBy s (told d at (sentenceOf d at h dcCoded rev))) q),
+    whole =
+      let a = e ∙ sym (ap (λ (s : Checked). answerBy s (told d at (sentenceOf d at h dcCoded rev))) q) in (
+      a,
       (
         f ∙ sym (ap (λ (s : Checked). keptBy s (samplesTold h dcCoded x p w (sentenceOf d at h dcCoded rev) old) old) q),
-        λ _. demand d at dcCoded rev (patternBy h) x (valuesAlone h dcCoded x p w) (Accepted r) (Told at r) old out
+        (λ _. demand d at dcCoded rev (patternBy h) x (valuesAlone h dcCoded x p w) (Accepted r) (Told at r) old out
             (in-data-yes (length d) at (fine .inside) .1) (depth-fine x w (fine .context)) (λ s i l. values-six-fine x p w (rowsOf dcCoded (patternBy h) s) i l) (fine .roomy) call,
+        by-number a),
       ),
     )

@@ -22,7 +22,7 @@ use Rattle.texture.specs.Reader.{Res, no, ok}
 use Rattle.texture.specs.declared.error.TextureParseError.{TextureParseError}
 use Rattle.block.specs.declared.context.MacroblockTextureContext.{MacroblockTextureContext}
 use Rattle.macroblock.proofs.SixLaws.{samples-at}
-use Rattle.macroblock.specs.Demand.{Begins, Demand3, Sample}
+use Rattle.macroblock.specs.Demand.{BeginsAt, Demand3, Sample}
 use Rattle.macroblock.specs.Six.{blockAt, samplesOfSix}
 
 module _ (d : List ℕ) (at : ℕ) (dcCoded rev : Bool) (pattern : List Bool) where
@@ -30,7 +30,7 @@ module _ (d : List ℕ) (at : ℕ) (dcCoded rev : Bool) (pattern : List Bool) wh
   readBy = readMacroblock dcCoded rev pattern (bitsFrom d at)
 
   -- the reader accepts what begins with a sentence
-  pub read-of : (s : List Parts) → (b : Begins d at dcCoded rev pattern s) → readBy ≡ ok s (b .1 .0)
+  pub read-of : (s : List Parts) → (b : BeginsAt d at dcCoded rev pattern s) → readBy ≡ ok s (b .1 .0)
   read-of s b = ap (readMacroblock dcCoded rev pattern) (b .1 .1) ∙ macroblock-sentences dcCoded rev pattern .own s (b .1 .0) (b .0)
 
   module _ (x : MacroblockTextureContext) (values : List Parts → List (List (List ℤ))) (Accepted : Type 0) (Told : ℕ → Type 0) (before out : List ℤ) where
@@ -43,11 +43,11 @@ module _ (d : List ℕ) (at : ℕ) (dcCoded rev : Bool) (pattern : List Bool) wh
 
     module _ (inside : at ≤ 8 * length d) (depth : depthFine (x .«bits_per_pixel») ≡ true)
         (fine : (s : List Parts) (i : ℕ) → i < 6 → valuesFine (x .«bits_per_pixel») (blockAt (values s) i) ≡ true) (room : 384 ≤ length before) (c : Call) where
-      begun : (y : Res (List Parts)) → readBy ≡ y → Accepted → (s : List Parts) × Begins d at dcCoded rev pattern s
+      begun : (y : Res (List Parts)) → readBy ≡ y → Accepted → (s : List Parts) × BeginsAt d at dcCoded rev pattern s
       begun (ok s r) e a = let b = macroblock-sentences dcCoded rev pattern .begins (bitsFrom d at) s r e in (s, (b .0, (r, b .1)))
       begun (no e) f a = absurd (c .refuses e f a)
 
-      sample : (s : List Parts) → Begins d at dcCoded rev pattern s → (i y u : ℕ) → i < 6 → y < 8 → u < 8 → Sample x (blockAt (values s) i) out i y u
+      sample : (s : List Parts) → BeginsAt d at dcCoded rev pattern s → (i y u : ℕ) → i < 6 → y < 8 → u < 8 → Sample x (blockAt (values s) i) out i y u
       sample s b i y u li ly lu = record {
         limited = ap (λ (o : List ℤ). getD o (placeOf i y u) (pos 0)) (c .writes s (b .1 .0) (read-of s b))
             ∙ sample-at (samplesOfSix x (values s)) before i y u li ly lu room

@@ -1,7 +1,7 @@
 -- The checks of the state, those of a block first, and what a state that passes is. Assumes nothing.
 use mathlib.Core.Bool.{Bool, cond, not, true}
 use mathlib.Core.List.{List, _++_, _∷_}
-use mathlib.Core.Path.{_≡_, ap, ap₂, _∙_}
+use mathlib.Core.Path.{_≡_, ap, ap₂, refl, _∙_}
 use Prim.Native.Nat.{ℕ, _≤_}
 use lib.Dec.{leb}
 use lib.ListN.{length}
@@ -9,15 +9,19 @@ use borrow.Author.Tests.{leb-true}
 use Rattle.bits.specs.Cursor.{inData}
 use Rattle.coefficients.specs.Level.{predictorsFine}
 use Rattle.coefficients.specs.declared.predictor.BlockPredictors.{BlockPredictors}
+use Rattle.block.proofs.OutcomeLaws.{answered}
 use Rattle.block.proofs.TestLaws.{all-pass, bad-first, fine-first}
 use Rattle.block.specs.Answer.{checkOf, testsOf}
+use Rattle.block.specs.Outcomes.{checkedOutcome}
 use Rattle.block.specs.Values.{contextFine}
 use Rattle.block.specs.declared.context.MacroblockTextureContext.{MacroblockTextureContext}
 use Rattle.block.specs.declared.error.BlockAssemblyError.{BlockAssemblyError}
 use Rattle.block.specs.declared.error.BlockAssemblyError.the-variants.{NotCoded, NotIntra, TooShort}
+use Rattle.block.specs.declared.error.Checked.{Checked}
 use Rattle.block.specs.declared.error.Checked.the-variants.{Bad, Fine}
 use Rattle.macroblock.specs.Answer.{stateOf}
 use Rattle.macroblock.specs.Header.{headerCheck, headerTests, isIntra}
+use Rattle.macroblock.specs.Outcomes.{headerDue}
 use Rattle.macroblock.specs.declared.header.MacroblockHeader.{MacroblockHeader}
 
 pub header-by : (h : MacroblockHeader) (a b : Bool) → h .«not_coded» ≡ a → isIntra (h .«mb_type») ≡ b → headerCheck h ≡ cond (not a) (cond b Fine (Bad NotIntra)) (Bad NotCoded)
@@ -46,3 +50,7 @@ module _ (d : List ℕ) (at : ℕ) (h : MacroblockHeader) (x : MacroblockTexture
   state-fine q =
       let t = all-pass (testsOf d at x p w ++ later) q in
       record { inside = t .0; context = t .1 .0; predictors = t .1 .1 .0; roomy = leb-true 384 room (t .1 .1 .1 .0) }
+
+-- 9 and 10 by number
+pub header-due : (h : MacroblockHeader) → checkedOutcome (headerCheck h) ≡ headerDue h
+header-due h = answered checkedOutcome (λ (k : Checked). k) (λ e. refl) (headerTests h) (refl, (refl, tt))

@@ -1,67 +1,13 @@
-// Reads forms from standard input, one a line, and writes what is said to each; the work is in `still_lines`.
+// Reads standard input and writes what is said to it; the work is in `still_lines`.
 use libc::STDIN_FILENO;
 use libc::STDOUT_FILENO;
-use still_lines::Fed;
-use still_lines::Still;
-use still_lines::Text;
+use still_lines::Reading;
+use still_lines::Stepped;
 
-// Between two bytes: the state, how many bytes of a line came, and whether to go on: not after a write that failed, nor at the end.
-struct Reading {
-    still: Still,
-    n: usize,
-    written: bool,
-}
-
-fn say(t: Text) -> bool {
-    let bytes = t.bytes;
-    let n = still_lines::within(t.len, &bytes);
-    io::write_all(STDOUT_FILENO, &bytes[..n])
-}
-
-fn answer(
-    s: Still,
-    line: &[u8],
-    data: &mut [u8],
-    samples: &mut [i32],
-    store: &mut [i32],
-) -> Reading {
-    let said = still_lines::answer(s, line, data, samples, store);
-    let text = said.text;
-    let still = said.still;
-    let written = say(text);
-    Reading {
-        still,
-        n: 0,
-        written,
-    }
-}
-
-// After a byte, or at the end of the input.
-fn told(
-    r: Reading,
-    fed: Fed,
-    line: &[u8],
-    data: &mut [u8],
-    samples: &mut [i32],
-    store: &mut [i32],
-) -> Reading {
-    match fed {
-        Fed::Kept(n) => {
-            let mut kept = r;
-            kept.n = n;
-            kept
-        }
-        Fed::Skipped => {
-            let mut none = r;
-            none.n = 0;
-            none
-        }
-        Fed::Ended(k) => {
-            let m = still_lines::within(k, line);
-            let still = r.still;
-            answer(still, &line[..m], data, samples, store)
-        }
-    }
+// Where reading stands, and whether it goes on: not after a read or a write that failed, nor at the end.
+struct Going {
+    reading: Reading,
+    on: bool,
 }
 
 fn byte(
@@ -71,9 +17,19 @@ fn byte(
     data: &mut [u8],
     samples: &mut [i32],
     store: &mut [i32],
-) -> Reading {
-    let fed = still_lines::feed(line, r.n, b);
-    told(r, fed, &*line, data, samples, store)
+    out: &mut [u8],
+) -> Going {
+    let s = still_lines::step(r, b, line, data, samples, store, out);
+    match s {
+        Stepped::TooShort => Going {
+            reading: r,
+            on: false,
+        },
+        Stepped::Went(next, n) => {
+            let on = io::write_all(STDOUT_FILENO, &out[..n]);
+            Going { reading: next, on }
+        }
+    }
 }
 
 fn bytes(
@@ -83,27 +39,40 @@ fn bytes(
     data: &mut [u8],
     samples: &mut [i32],
     store: &mut [i32],
-) -> Reading {
-    let mut now_at = r;
+    out: &mut [u8],
+) -> Going {
+    let mut g = Going {
+        reading: r,
+        on: true,
+    };
     let mut i = 0;
     while i < chunk.len() {
-        if !now_at.written {
-            return now_at;
+        if !g.on {
+            return g;
         }
-        now_at = byte(now_at, chunk[i], line, data, samples, store);
+        let reading = g.reading;
+        g = byte(reading, chunk[i], line, data, samples, store, out);
         i += 1;
     }
-    now_at
+    g
 }
 
-fn end(r: Reading) {
-    if r.written {
-        let still = r.still;
-        say(still_lines::finish(still));
+fn end(
+    r: Reading,
+    line: &[u8],
+    data: &mut [u8],
+    samples: &mut [i32],
+    store: &mut [i32],
+    out: &mut [u8],
+) -> bool {
+    let s = still_lines::finish(r, line, data, samples, store, out);
+    match s {
+        Stepped::TooShort => false,
+        Stepped::Went(_, n) => io::write_all(STDOUT_FILENO, &out[..n]),
     }
 }
 
-// One read.
+// One read. One that fails is not the end of the input: nothing more is said.
 fn turn(
     r: Reading,
     buffer: &mut [u8],
@@ -111,17 +80,24 @@ fn turn(
     data: &mut [u8],
     samples: &mut [i32],
     store: &mut [i32],
-) -> Reading {
+    out: &mut [u8],
+) -> Going {
     let got = libc::read(STDIN_FILENO, buffer);
+    if got < 0 {
+        return Going {
+            reading: r,
+            on: false,
+        };
+    }
     let n = io::count(got, &*buffer);
     if n == 0 {
-        let fed = still_lines::rest(&*line, r.n);
-        let mut last = told(r, fed, &*line, data, samples, store);
-        end(last);
-        last.written = false;
-        return last;
+        end(r, &*line, data, samples, store, out);
+        return Going {
+            reading: r,
+            on: false,
+        };
     }
-    bytes(r, &buffer[..n], line, data, samples, store)
+    bytes(r, &buffer[..n], line, data, samples, store, out)
 }
 
 // A proved loop has to end: it counts its turns down, from a number that no run uses up.
@@ -131,19 +107,20 @@ fn run(
     data: &mut [u8],
     samples: &mut [i32],
     store: &mut [i32],
+    out: &mut [u8],
 ) {
-    let still = still_lines::start();
-    let mut r = Reading {
-        still,
-        n: 0,
-        written: true,
+    let r = still_lines::start();
+    let mut g = Going {
+        reading: r,
+        on: true,
     };
     let mut turns = u64::MAX;
     while turns > 0 {
-        if !r.written {
+        if !g.on {
             return;
         }
-        r = turn(r, buffer, line, data, samples, store);
+        let reading = g.reading;
+        g = turn(reading, buffer, line, data, samples, store, out);
         turns -= 1;
     }
 }
@@ -154,5 +131,13 @@ fn main() {
     let mut data = [0u8; 16384];
     let mut samples = [0i32; 384];
     let mut store = [0i32; 8640];
-    run(&mut buffer, &mut line, &mut data, &mut samples, &mut store);
+    let mut out = [0u8; 512];
+    run(
+        &mut buffer,
+        &mut line,
+        &mut data,
+        &mut samples,
+        &mut store,
+        &mut out,
+    );
 }

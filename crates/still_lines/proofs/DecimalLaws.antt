@@ -1,16 +1,19 @@
--- The fewest digits that hold a number are its digits without leading zeros. Assumes nothing.
-use mathlib.Core.Bool.{Bool, cond}
-use mathlib.Core.List.{List, [], _++_, _∷_}
+-- The fewest digits that hold a number are its digits without leading zeros; an integer is its sign and the digits of its magnitude. Assumes nothing.
+use mathlib.Core.Bool.{Bool, cond, false, true}
+use mathlib.Core.List.{List, [], append-assoc, _++_, _∷_}
 use mathlib.Core.Logic.{⊎-elim}
 use mathlib.Core.Path.{_≡_, ap, ap₂, refl, subst, subst⁻¹, sym, _∙_}
 use Prim.Native.Nat.{ℕ, suc, zero, _%_, _*_, _+_, _-_, _/_, _<_, _^_, _≤_}
 use native.Mathlib.Nat.{mul-le-mul-left}
 use native.Mathlib.Omega.{arith}
+use lib.IntN.{natAbs, negsuc, pos, ℤ}
 use lib.Pow.{pow-add}
+use lib.Signed.{ltZ}
 use borrow.Author.Tests.{le-ltb, lt-ltb}
 use Rattle.numbers.proofs.Fill.{lt-or-le}
+use Rattle.numbers.proofs.Integers.{dn, lt-no, lt-yes, up}
 use Rattle.io.specs.Digits.{Fewest, digits, glyph}
-use Rattle.still_lines.specs.Decimal.{decimalOf, digitsUpTo}
+use Rattle.still_lines.specs.Decimal.{decimalOf, digitsUpTo, integerOf}
 
 glyph-is : (d : ℕ) → d < 10 → glyph d ≡ 48 + d
 glyph-is d h = ap (λ (t : Bool). cond t (48 + d) (87 + d)) (lt-ltb d 10 h)
@@ -71,3 +74,20 @@ twenty n k f h = ⊎-elim (λ (a : k < 21). omega arith) (λ (a : 21 ≤ k). abs
         let p = pow-add 10 20 j in
         let q = mul-le-mul-left {m = 1} {n = 10 ^ j} 100000000000000000000 (least j) in
         omega arith
+
+-- ---- an integer with its sign, after some bytes
+
+module _ (before : List ℕ) (z : ℤ) where
+  pub integer-up : ltZ z (pos 0) ≡ false → before ++ decimalOf (natAbs z) ≡ before ++ integerOf z
+  integer-up e = go z (lt-no z (pos 0) e)
+    where
+      go : (z : ℤ) → up (pos 0) + dn z ≤ up z + dn (pos 0) → before ++ decimalOf (natAbs z) ≡ before ++ integerOf z
+      go (pos n) h = refl
+      go (negsuc n) h = absurd (omega arith)
+
+  pub integer-down : ltZ z (pos 0) ≡ true → before ++ (45 ∷ []) ++ decimalOf (natAbs z) ≡ before ++ integerOf z
+  integer-down e = go z (lt-yes z (pos 0) e)
+    where
+      go : (z : ℤ) → up z + dn (pos 0) < up (pos 0) + dn z → before ++ (45 ∷ []) ++ decimalOf (natAbs z) ≡ before ++ integerOf z
+      go (pos n) h = absurd (omega arith)
+      go (negsuc n) h = append-assoc before (45 ∷ []) (decimalOf (suc n))

@@ -5,4 +5,6 @@ pub mod DecimalLaws
 pub mod SpanLaws
 pub mod StillLaws
 pub mod AnswerLaws
+pub mod RoomLaws
+pub mod StepLaws
 pub mod StreamLaws

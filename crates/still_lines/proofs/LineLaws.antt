@@ -1,23 +1,58 @@
--- One byte of a line, test by test. Assumes nothing.
-use mathlib.Core.Bool.{Bool, cond}
+-- One byte of a line, and the end of the input, test by test. Assumes nothing.
+use mathlib.Core.Bool.{Bool, cond, false, true}
 use mathlib.Core.List.{List}
-use mathlib.Core.Path.{_≡_, ap₂}
-use Prim.Native.Nat.{ℕ, _+_}
+use mathlib.Core.Path.{_≡_, ap₂, refl}
+use Prim.Native.Nat.{ℕ, _+_, _≤_}
+use native.Mathlib.Omega.{arith}
 use lib.Dec.{eqb, leb, ltb}
-use lib.ListN.{length, set}
-use Rattle.still_lines.specs.Lines.{fedOf, lineAfter, restOf}
+use lib.ListN.{length, length-set, set}
+use borrow.Author.Tests.{leb-true}
+use Rattle.forms.specs.Forms.{longest}
+use Rattle.still_lines.specs.Steps.{Inside, fedOf, lineAfter, longer, restOf}
 use Rattle.still_lines.specs.declared.lines.Fed.the-variants.{Ended, Kept, Skipped}
 
-module _ (l : List ℕ) (n b : ℕ) where
-  pub fed-by : (s t : Bool) → eqb b 10 ≡ s → leb n (length l) ≡ t → fedOf (length l) n b ≡ cond s (cond t (Ended n) Skipped) (Kept (cond t (n + 1) n))
-  unfolding fedOf
-  fed-by s t e f = ap₂ (λ (y z : Bool). cond y (cond z (Ended n) Skipped) (Kept (cond z (n + 1) n))) e f
+pub fed-by : (n b : ℕ) (s t : Bool) → eqb b 10 ≡ s → leb n longest ≡ t → fedOf n b ≡ cond s (cond t (Ended n) Skipped) (Kept (cond t (n + 1) n))
+unfolding fedOf
+fed-by n b s t e f = ap₂ (λ (y z : Bool). cond y (cond z (Ended n) Skipped) (Kept (cond z (n + 1) n))) e f
 
-  pub line-by : (s t : Bool) → eqb b 10 ≡ s → ltb n (length l) ≡ t → lineAfter l n b ≡ cond s l (cond t (set l n b) l)
+pub rest-by : (n : ℕ) (s t : Bool) → eqb n 0 ≡ s → leb n longest ≡ t → restOf n ≡ cond s (Kept 0) (cond t (Ended n) Skipped)
+unfolding restOf
+rest-by n s t e f = ap₂ (λ (y z : Bool). cond y (Kept 0) (cond z (Ended n) Skipped)) e f
+
+module _ (l : List ℕ) (n b : ℕ) where
+  pub line-by : (s t : Bool) → eqb b 10 ≡ s → ltb n longest ≡ t → lineAfter l n b ≡ cond s l (cond t (set l n b) l)
   unfolding lineAfter
   line-by s t e f = ap₂ (λ (y z : Bool). cond y l (cond z (set l n b) l)) e f
 
--- the end of a stream, test by test
-pub rest-by : (l : List ℕ) (n : ℕ) (s t : Bool) → eqb n 0 ≡ s → leb n (length l) ≡ t → restOf (length l) n ≡ cond s (Kept 0) (cond t (Ended n) Skipped)
-unfolding restOf
-rest-by l n s t e f = ap₂ (λ (y z : Bool). cond y (Kept 0) (cond z (Ended n) Skipped)) e f
+  -- the lent line keeps its length
+  pub line-long : length (lineAfter l n b) ≡ length l
+  unfolding lineAfter
+  line-long = go (eqb b 10) (ltb n longest)
+    where
+      go : (s t : Bool) → length (cond s l (cond t (set l n b) l)) ≡ length l
+      go true t = refl
+      go false true = length-set l n b
+      go false false = refl
+
+-- ---- a line that ended has at most 32,768 bytes
+
+module _ (room : ℕ) (h : longest ≤ room) where
+  ends-inside : (n : ℕ) (t : Bool) → leb n longest ≡ t → Inside room (cond t (Ended n) Skipped)
+  ends-inside n true e = let k = leb-true n longest e in omega arith
+  ends-inside n false e = tt
+
+  pub fed-inside : (n b : ℕ) → Inside room (fedOf n b)
+  unfolding fedOf
+  fed-inside n b = go (eqb b 10)
+    where
+      go : (s : Bool) → Inside room (cond s (cond (leb n longest) (Ended n) Skipped) (Kept (longer n)))
+      go true = ends-inside n (leb n longest) refl
+      go false = tt
+
+  pub rest-inside : (n : ℕ) → Inside room (restOf n)
+  unfolding restOf
+  rest-inside n = go (eqb n 0)
+    where
+      go : (s : Bool) → Inside room (cond s (Kept 0) (cond (leb n longest) (Ended n) Skipped))
+      go true = tt
+      go false = ends-inside n (leb n longest) refl

@@ -4,7 +4,7 @@ use mathlib.Core.Path.{_≡_, ap, sym, _∙_}
 use Prim.Native.Nat.{ℕ, suc, _+_, _-_, _<_, _≤_}
 use native.Mathlib.Numerals.{add-one}
 use native.Mathlib.Omega.{arith}
-use lib.IntN.{natAbs, pos, ℤ}
+use lib.IntN.{pos, ℤ}
 use lib.ListN.{drop, getD, length, take}
 use lib.Seq.{drop-cons}
 use Rattle.still_lines.specs.Spans.{part, spanFrom, spanOf, widenedBy}
@@ -21,7 +21,7 @@ part-none : (s : List ℤ) (k to : ℕ) → to ≤ k → part s k to ≡ []
 part-none s k to h = ap (λ (n : ℕ). take n (drop k s)) (let z : to - k ≡ 0 = omega arith in z)
 
 pub span-begins : (s : List ℤ) (from to : ℕ) → from < to → to ≤ length s
-    → spanOf (part s from to) ≡ spanFrom (record { least = natAbs (getD s from (pos 0)); greatest = natAbs (getD s from (pos 0)) }) (part s (from + 1) to)
+    → spanOf (part s from to) ≡ spanFrom (record { least = getD s from (pos 0); greatest = getD s from (pos 0) }) (part s (from + 1) to)
 span-begins s from to h l = ap spanOf (part-cons s from to h l)
 
 pub span-more : (s : List ℤ) (x : Span) (k to : ℕ) → k < to → to ≤ length s → spanFrom x (part s k to) ≡ spanFrom (widenedBy x (getD s k (pos 0))) (part s (k + 1) to)

@@ -1,103 +1,163 @@
--- Feeding a stream byte after byte tells its lines. Assumes nothing.
+-- Steps byte after byte write what the input's lines are answered with. Assumes nothing.
 use mathlib.Core.Bool.{Bool, cond, false, true}
 use mathlib.Core.List.{List, [], _++_, _∷_}
 use mathlib.Core.Logic.{_⊎_, inl, inr, ⊎-elim}
-use mathlib.Core.Path.{_≡_, ap, ap₂, refl, sym, _∙_}
+use mathlib.Core.Path.{_≡_, ap, refl, _∙_}
 use Prim.Native.Nat.{ℕ, suc, _+_, _<_, _≤_}
 use native.Mathlib.Numerals.{add-one}
 use native.Mathlib.Omega.{arith}
-use lib.Dec.{eqb, leb, ltb}
-use lib.ListN.{length, length-append, length-set, set, take}
+use lib.Dec.{eqb}
+use lib.IntN.{ℤ}
+use lib.ListN.{length, length-append, set, take}
 use lib.Seq.{take-suc-set}
-use borrow.Author.Tests.{eq-eqb, le-leb, le-ltb, lt-leb, lt-ltb, ne-eqb}
+use borrow.Author.Tests.{eq-eqb, le-leb, lt-leb, lt-ltb, ne-eqb}
 use Rattle.numbers.proofs.Fill.{lt-or-le}
+use Rattle.forms.proofs.FormLaws.{line-long}
+use Rattle.forms.specs.Forms.{longest, malformed}
+use Rattle.still_lines.proofs.AnswerLaws.{Left, left-by}
 use Rattle.still_lines.proofs.LineLaws.{fed-by, line-by, rest-by}
-use Rattle.still_lines.specs.Lines.{Event, eventOf, fedLines, fedOf, line, lineAfter, linesOf, restOf, toldBy, tooLong, unended}
+use Rattle.still_lines.proofs.LineLaws as Lines
+use Rattle.still_lines.specs.Lines.{linesAfter, unended}
+use Rattle.still_lines.specs.Steps.{countFed, fedOf, lineAfter, restOf, samplesFed, stepped, stillFed, storeFed, textEnded, textFed}
+use Rattle.still_lines.specs.Still.{endSaid, samplesAfter, stillAfter, storeAfter, textAfter, unopened}
+use Rattle.still_lines.specs.Transcript.{transcript, writtenTo}
 use Rattle.still_lines.specs.declared.lines.Fed.{Fed}
 use Rattle.still_lines.specs.declared.lines.Fed.the-variants.{Ended, Kept, Skipped}
+use Rattle.still_lines.specs.declared.still.Still.{Still}
 
--- n bytes of a line came, and as many as there is room for are held
+-- ---- n bytes of a line came, and they are held; or too many came
+
 pub record Held (l : List ℕ) (n : ℕ) (p : List ℕ) : Type 0 where
   pub count : n ≡ length p
   pub bytes : take n l ≡ p
 
-pub record Over (l : List ℕ) (n : ℕ) (p : List ℕ) : Type 0 where
-  pub count : length l < n
-  pub many : length l < length p
+pub record Over (n : ℕ) (p : List ℕ) : Type 0 where
+  pub count : longest < n
+  pub many : longest < length p
 
 abbrev pub State : List ℕ → ℕ → List ℕ → Type 0
-State l n p = ((n ≤ length l) × Held l n p) ⊎ Over l n p
+State l n p = ((n ≤ longest) × Held l n p) ⊎ Over n p
 
-module _ (l : List ℕ) (n b : ℕ) (p : List ℕ) where
-  longer : length (p ++ (b ∷ [])) ≡ length p + 1
-  longer = length-append p (b ∷ [])
+fresh : (l : List ℕ) → State l 0 []
+fresh l = inl (omega arith, record { count = refl; bytes = refl })
 
-  -- a byte more
-  more : eqb b 10 ≡ false → State l n p → (m : ℕ) × ((fedOf (length l) n b ≡ Kept m) × State (lineAfter l n b) m (p ++ (b ∷ [])))
+-- a byte more
+module _ (l : List ℕ) (roomy : longest ≤ length l) (n b : ℕ) (p : List ℕ) where
+  longer-by : length (p ++ (b ∷ [])) ≡ length p + 1
+  longer-by = length-append p (b ∷ [])
+
+  more : eqb b 10 ≡ false → State l n p → (m : ℕ) × ((fedOf n b ≡ Kept m) × State (lineAfter l n b) m (p ++ (b ∷ [])))
   more e (inl (h, k)) =
       ⊎-elim
-      (λ (a : n < length l).
-      let s = line-by l n b false true e (lt-ltb n (length l) a) in
-      (n + 1, (fed-by l n b false true e (le-leb n (length l) h), inl (room a s, record { count = omega (arith, k .count, longer); bytes = held a s }))))
-      (λ (a : length l ≤ n).
-      let s = line-by l n b false false e (le-ltb n (length l) a) in
-      (n + 1, (fed-by l n b false true e (le-leb n (length l) h), inr (record { count = omega (arith, ap length s); many = omega (arith, ap length s, longer, k .count) }))))
-      (lt-or-le n (length l))
+      (λ (a : n < longest). (
+        n + 1,
+        (
+          fed-by n b false true e (le-leb n longest h),
+          inl (omega arith, record { count = omega (arith, k .count, longer-by); bytes = held a (line-by l n b false true e (lt-ltb n longest a)) }),
+        ),
+      ))
+      (λ (a : longest ≤ n).
+      (n + 1, (fed-by n b false true e (le-leb n longest h), inr (record { count = omega arith; many = omega (arith, longer-by, k .count) }))))
+      (lt-or-le n longest)
     where
-      room : n < length l → lineAfter l n b ≡ set l n b → n + 1 ≤ length (lineAfter l n b)
-      room a s = omega (arith, ap length s, length-set l n b)
+      held : n < longest → lineAfter l n b ≡ set l n b → take (n + 1) (lineAfter l n b) ≡ p ++ (b ∷ [])
+      held a s =
+          ap (λ (i : ℕ). take i (lineAfter l n b)) (add-one n) ∙ ap (take (suc n)) s ∙ take-suc-set l n b (omega arith) ∙ ap (λ (q : List ℕ). q ++ (b ∷ [])) (k .bytes)
+  more e (inr o) = (n, (fed-by n b false false e (lt-leb n longest (o .count)), inr (record { count = o .count; many = omega (arith, o .many, longer-by) })))
 
-      held : n < length l → lineAfter l n b ≡ set l n b → take (n + 1) (lineAfter l n b) ≡ p ++ (b ∷ [])
-      held a s = ap (λ (i : ℕ). take i (lineAfter l n b)) (add-one n) ∙ ap (take (suc n)) s ∙ take-suc-set l n b a ∙ ap (λ (q : List ℕ). q ++ (b ∷ [])) (k .bytes)
-  more e (inr o) =
-      let s = line-by l n b false false e (le-ltb n (length l) (let c = o .count in omega arith)) in
-      (n, (fed-by l n b false false e (lt-leb n (length l) (o .count)), inr (record { count = omega (arith, o .count, ap length s); many = omega (arith, o .many, ap length s, longer) })))
+-- ---- a line that ended is answered; one that is too long is malformed, and nothing is said
 
-  -- a newline
-  ended : eqb b 10 ≡ true → State l n p → (k : ℕ → List Event) → toldBy (fedOf (length l) n b) l k ≡ eventOf (length l) p ∷ k 0
-  ended e (inl (h, j)) k =
-      ap (λ (f : Fed). toldBy f l k) (fed-by l n b true true e (le-leb n (length l) h))
-      ∙ ap (λ (q : List ℕ). line q ∷ k 0) (j .bytes)
-      ∙ sym (ap (λ (t : Bool). cond t (line p) tooLong ∷ k 0) (le-leb (length p) (length l) (let c = j .count in omega arith)))
-  ended e (inr o) k =
-      ap (λ (f : Fed). toldBy f l k) (fed-by l n b true false e (lt-leb n (length l) (o .count)))
-      ∙ sym (ap (λ (t : Bool). cond t (line p) tooLong ∷ k 0) (lt-leb (length p) (length l) (o .many)))
+module _ (s : Still) (samples store : List ℤ) where
+  -- what follows of it, as of the line itself
+  record Answers (l : List ℕ) (f : Fed) (p : List ℕ) : Type 0 where
+    text : textFed s l samples store f ≡ textAfter s samples store p
+    still : stillFed s l samples store f ≡ stillAfter s samples store p
+    out : samplesFed s l samples store f ≡ samplesAfter s samples store p
+    kept : storeFed s l samples store f ≡ storeAfter s samples store p
+    zero : countFed f ≡ 0
 
--- the end
-rested : (l : List ℕ) (n : ℕ) (p : List ℕ) → State l n p → toldBy (restOf (length l) n) l (λ m. []) ≡ unended (length l) p
-rested l n [] (inl (h, j)) = ap (λ (f : Fed). toldBy f l (λ m. [])) (rest-by l n true _ (eq-eqb n 0 (j .count)) refl)
-rested l n (b ∷ bs) (inl (h, j)) =
-    ap (λ (f : Fed). toldBy f l (λ m. [])) (rest-by l n false true (ne-eqb n 0 (λ z. let c = j .count in omega arith)) (le-leb n (length l) h))
-    ∙ ap (λ (q : List ℕ). line q ∷ []) (j .bytes)
-    ∙ sym (ap (λ (t : Bool). cond t (line (b ∷ bs)) tooLong ∷ []) (le-leb (length (b ∷ bs)) (length l) (let c = j .count in omega arith)))
-rested l n [] (inr o) = absurd (let c = o .many in omega arith)
-rested l n (b ∷ bs) (inr o) =
-    ap (λ (f : Fed). toldBy f l (λ m. [])) (rest-by l n false false (ne-eqb n 0 (λ z. let c = o .count in omega arith)) (lt-leb n (length l) (o .count)))
-    ∙ sym (ap (λ (t : Bool). cond t (line (b ∷ bs)) tooLong ∷ []) (lt-leb (length (b ∷ bs)) (length l) (o .many)))
+  skips : (l p : List ℕ) {f : Fed} → longest < length p → f ≡ Skipped → Answers l f p
+  skips l p h e =
+      let b : Left s samples store p malformed = left-by s samples store p malformed (line-long p h) in
+      record {
+        text = ap (textFed s l samples store) e ∙ b .text-is;
+        still = ap (stillFed s l samples store) e ∙ b .still-is;
+        out = ap (samplesFed s l samples store) e ∙ b .samples-are;
+        kept = ap (storeFed s l samples store) e ∙ b .store-is;
+        zero = ap countFed e;
+      }
 
-kept-length : (l : List ℕ) (n b : ℕ) → length (lineAfter l n b) ≡ length l
-unfolding lineAfter
-kept-length l n b = go (eqb b 10) (ltb n (length l))
+  ends : (l p : List ℕ) {f : Fed} {n : ℕ} → take n l ≡ p → f ≡ Ended n → Answers l f p
+  ends l p h e =
+      record {
+        text = ap (textFed s l samples store) e ∙ ap (textAfter s samples store) h;
+        still = ap (stillFed s l samples store) e ∙ ap (stillAfter s samples store) h;
+        out = ap (samplesFed s l samples store) e ∙ ap (samplesAfter s samples store) h;
+        kept = ap (storeFed s l samples store) e ∙ ap (storeAfter s samples store) h;
+        zero = ap countFed e;
+      }
+
+  -- at a newline
+  newline : (l : List ℕ) (n b : ℕ) (p : List ℕ) → eqb b 10 ≡ true → State l n p → Answers (lineAfter l n b) (fedOf n b) p
+  newline l n b p e (inl (h, j)) = ends (lineAfter l n b) p (ap (take n) (line-by l n b true _ e refl) ∙ j .bytes) (fed-by n b true true e (le-leb n longest h))
+  newline l n b p e (inr o) = skips (lineAfter l n b) p (o .many) (fed-by n b true false e (lt-leb n longest (o .count)))
+
+  -- at the end of the input
+  closed : (l p : List ℕ) {f : Fed} → Answers l f p → textEnded s l samples store f ≡ textAfter s samples store p ++ endSaid (stillAfter s samples store p)
+  closed l p a = λ i. a .text i ++ endSaid (a .still i)
+
+  rested : (l : List ℕ) (n : ℕ) (p : List ℕ) → State l n p → textEnded s l samples store (restOf n) ≡ writtenTo s samples store (unended p)
+  unfolding writtenTo
+  rested l n [] (inl (h, j)) = ap (textEnded s l samples store) (rest-by n true _ (eq-eqb n 0 (j .count)) refl)
+  rested l n [] (inr o) = absurd (let c = o .many in omega arith)
+  rested l n (b ∷ bs) (inl (h, j)) =
+      closed l (b ∷ bs) (ends l (b ∷ bs) (j .bytes) (rest-by n false true (ne-eqb n 0 (λ z. let c = j .count in omega arith)) (le-leb n longest h)))
+  rested l n (b ∷ bs) (inr o) =
+      closed l (b ∷ bs) (skips l (b ∷ bs) (o .many) (rest-by n false false (ne-eqb n 0 (λ z. let c = o .count in omega arith)) (lt-leb n longest (o .count))))
+
+-- ---- the whole input
+
+-- one step more, by what was fed
+abbrev onward : Still → List ℤ → List ℤ → List ℕ → List ℕ → Fed → List ℕ
+onward s samples store l bs f =
+    textFed s l samples store f
+    ++ stepped (stillFed s l samples store f) (countFed f) l (samplesFed s l samples store f) (storeFed s l samples store f) bs
+
+-- from any state of reading, the steps for some bytes write what their lines are answered with
+abbrev pub Meets : List ℕ → Type 0
+Meets bs =
+    (s : Still) (samples store : List ℤ) (l : List ℕ) (n : ℕ) (p : List ℕ) → longest ≤ length l → State l n p
+    → stepped s n l samples store bs ≡ writtenTo s samples store (linesAfter p bs)
+
+none-left : Meets []
+unfolding stepped linesAfter
+none-left s samples store l n p roomy h = rested s samples store l n p h
+
+one-more : (b : ℕ) (bs : List ℕ) → Meets bs → Meets (b ∷ bs)
+unfolding stepped linesAfter writtenTo
+one-more b bs f s samples store l n p roomy h = go (eqb b 10) refl
   where
-    go : (s t : Bool) → length (cond s l (cond t (set l n b) l)) ≡ length l
-    go true t = refl
-    go false true = length-set l n b
-    go false false = refl
+    still-roomy : longest ≤ length (lineAfter l n b)
+    still-roomy = omega (arith, Lines.line-long l n b)
 
-pub fed-is : (bs l : List ℕ) (n : ℕ) (p : List ℕ) → State l n p → fedLines l n bs ≡ linesOf (length l) p bs
-unfolding fedLines linesOf
-fed-is [] l n p h = rested l n p h
-fed-is (b ∷ bs) l n p h = go (eqb b 10) refl (λ l′ n′ p′ h′. fed-is bs l′ n′ p′ h′)
-  where
-    go : (t : Bool) → eqb b 10 ≡ t → ((l′ : List ℕ) (n′ : ℕ) (p′ : List ℕ) → State l′ n′ p′ → fedLines l′ n′ bs ≡ linesOf (length l′) p′ bs)
-        → toldBy (fedOf (length l) n b) l (λ m. fedLines (lineAfter l n b) m bs) ≡ cond t (eventOf (length l) p ∷ linesOf (length l) [] bs) (linesOf (length l) (p ++ (b ∷ [])) bs)
-    go true e f =
-        ended l n b p e h (λ m. fedLines (lineAfter l n b) m bs)
-        ∙ ap (λ (es : List Event). eventOf (length l) p ∷ es) (f (lineAfter l n b) 0 [] (inl (omega arith, record { count = refl; bytes = refl })) ∙ ap (λ (r : ℕ). linesOf r [] bs) (kept-length l n b))
-    go false e f =
-        let w = more l n b p e h in
-        ap (λ (x : Fed). toldBy x l (λ m. fedLines (lineAfter l n b) m bs)) (w .1 .0) ∙ f (lineAfter l n b) (w .0) (p ++ (b ∷ [])) (w .1 .1) ∙ ap (λ (r : ℕ). linesOf r (p ++ (b ∷ [])) bs) (kept-length l n b)
+    newlines : Answers s samples store (lineAfter l n b) (fedOf n b) p
+        → onward s samples store (lineAfter l n b) bs (fedOf n b) ≡ writtenTo s samples store (p ∷ linesAfter [] bs)
+    newlines a =
+        (λ i. a .text i ++ stepped (a .still i) (a .zero i) (lineAfter l n b) (a .out i) (a .kept i) bs)
+        ∙ ap (λ (r : List ℕ). textAfter s samples store p ++ r)
+        (f (stillAfter s samples store p) (samplesAfter s samples store p) (storeAfter s samples store p) (lineAfter l n b) 0 [] still-roomy (fresh (lineAfter l n b)))
 
--- from the start of a stream, whatever the lent line holds
-pub stream : (bs l : List ℕ) → fedLines l 0 bs ≡ linesOf (length l) [] bs
-stream bs l = fed-is bs l 0 [] (inl (omega arith, record { count = refl; bytes = refl }))
+    go : (t : Bool) → eqb b 10 ≡ t
+        → onward s samples store (lineAfter l n b) bs (fedOf n b) ≡ writtenTo s samples store (cond t (p ∷ linesAfter [] bs) (linesAfter (p ++ (b ∷ [])) bs))
+    go true e = newlines (newline s samples store l n b p e h)
+    go false e =
+        let w = more l roomy n b p e h in
+        ap (onward s samples store (lineAfter l n b) bs) (w .1 .0) ∙ f s samples store (lineAfter l n b) (w .0) (p ++ (b ∷ [])) still-roomy (w .1 .1)
+
+pub steps-are : (bs : List ℕ) → Meets bs
+steps-are [] = none-left
+steps-are (b ∷ bs) = one-more b bs (steps-are bs)
+
+-- from the start, whatever the lent line holds: what the steps write is the transcript
+pub transcript-met : (input line : List ℕ) (samples store : List ℤ) → longest ≤ length line → stepped unopened 0 line samples store input ≡ transcript samples store input
+transcript-met input line samples store h = steps-are input unopened samples store line 0 [] h (fresh line)

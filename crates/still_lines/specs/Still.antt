@@ -14,7 +14,7 @@ use Rattle.macroblock.specs.declared.header.DerivedMbType.{DerivedMbType}
 use Rattle.macroblock.specs.declared.header.DerivedMbType.the-variants.{Inter as TypeInter, Inter4V as TypeInter4V, InterQ as TypeInterQ, Intra as TypeIntra, IntraQ as TypeIntraQ, Missing as NoType}
 use Rattle.macroblock.specs.declared.header.MacroblockHeader.{MacroblockHeader}
 use Rattle.picture.specs.Call.{Input, answerOut, given, samplesOut, storeOut}
-use Rattle.picture.specs.Picture.{openOf}
+use Rattle.picture.specs.Picture.{openOf, pictureOf}
 use Rattle.picture.specs.declared.call.PictureDecoded.{PictureDecoded}
 use Rattle.picture.specs.declared.call.PictureDecoded.the-variants.{Decoded, Refused}
 use Rattle.picture.specs.declared.picture.MacroblockContext.{MacroblockContext}
@@ -24,6 +24,10 @@ use Rattle.picture.specs.declared.picture.PictureOpened.the-variants.{Opened, R
 use Rattle.still_lines.specs.Spans.{part, spanOf}
 use Rattle.still_lines.specs.Text.{endText, mbRefusedText, mbText, pictureRefusedText, pictureText}
 use Rattle.still_lines.specs.declared.still.Still.{Still}
+
+-- before any line: no picture
+abbrev pub unopened : Still
+unopened = record { «has_picture» = false; picture = pictureOf 1 1 8 false 0 }
 
 -- the `end` line of an open picture
 abbrev pub endSaid : Still → List ℕ
@@ -98,7 +102,7 @@ textDecoded p after (Decoded n c q) =
     (spanOf (part after 320 384) .least) (spanOf (part after 320 384) .greatest)
 textDecoded p after (Refused e) = mbRefusedText (columnOf p) (rowOf p) (numberOf e)
 
--- ---- a line, with `room` bytes for its data, the samples and the store
+-- ---- a line, with the samples and the store
 
 module _ (s : Still) (samples store : List ℤ) where
   abbrev pub stillBy : Form → Still
@@ -122,14 +126,14 @@ module _ (s : Still) (samples store : List ℤ) where
   storeBy (picture w h d m) = store
   storeBy (mb q a k y c bytes) = cond (s .«has_picture») (storeOut (s .picture) (inputOf q a k y c bytes samples) store) store
 
-  unfoldable pub stillAfter : ℕ → List ℕ → Still
-  stillAfter room l = stillBy (formOf room l)
+  unfoldable pub stillAfter : List ℕ → Still
+  stillAfter l = stillBy (formOf l)
 
-  unfoldable pub textAfter : ℕ → List ℕ → List ℕ
-  textAfter room l = textBy (formOf room l)
+  unfoldable pub textAfter : List ℕ → List ℕ
+  textAfter l = textBy (formOf l)
 
-  unfoldable pub samplesAfter : ℕ → List ℕ → List ℤ
-  samplesAfter room l = samplesBy (formOf room l)
+  unfoldable pub samplesAfter : List ℕ → List ℤ
+  samplesAfter l = samplesBy (formOf l)
 
-  unfoldable pub storeAfter : ℕ → List ℕ → List ℤ
-  storeAfter room l = storeBy (formOf room l)
+  unfoldable pub storeAfter : List ℕ → List ℤ
+  storeAfter l = storeBy (formOf l)

@@ -1,8 +1,9 @@
 -- The lines that are said, as bytes. Definitions only.
 use mathlib.Core.List.{List, [], _++_, _∷_}
 use Prim.Native.Nat.{ℕ}
+use lib.IntN.{ℤ}
 use lib.ListN.{take}
-use Rattle.still_lines.specs.Decimal.{decimalOf}
+use Rattle.still_lines.specs.Decimal.{decimalOf, integerOf}
 use Rattle.still_lines.specs.declared.text.Text.{Text}
 
 -- what a text says
@@ -82,10 +83,10 @@ abbrev pub mbRefusedText : ℕ → ℕ → ℕ → List ℕ
 mbRefusedText column row n = placeText column row ++ wordRefused ++ decimalOf n ++ closingTwo
 
 -- a word, then the least and the greatest, after what was said before
-abbrev pub spanText : List ℕ → List ℕ → ℕ → ℕ → List ℕ
-spanText before w a b = before ++ w ++ decimalOf a ++ space ++ decimalOf b
+abbrev pub spanText : List ℕ → List ℕ → ℤ → ℤ → List ℕ
+spanText before w a b = before ++ w ++ integerOf a ++ space ++ integerOf b
 
 -- (mb COLUMN ROW (bits N) (luma LEAST GREATEST) (cb LEAST GREATEST) (cr LEAST GREATEST))
-abbrev pub mbText : ℕ → ℕ → ℕ → ℕ → ℕ → ℕ → ℕ → ℕ → ℕ → List ℕ
+abbrev pub mbText : ℕ → ℕ → ℕ → ℤ → ℤ → ℤ → ℤ → ℤ → ℤ → List ℕ
 mbText column row n a b c d e f =
     spanText (spanText (spanText (placeText column row ++ wordBits ++ decimalOf n) wordLuma a b) wordCb c d) wordCr e f ++ closingTwo

@@ -1,18 +1,15 @@
 // The lines of `still`, proved; the program itself only reads, hands on and writes.
+//
+// No public function has a `requires`: any byte is a step, and where too little is lent that is the answer.
 mod lines;
 mod say;
 mod span;
+mod steps;
 mod still;
 mod text;
 
-pub use lines::Fed;
-pub use lines::feed;
-pub use lines::rest;
-pub use lines::within;
-pub use span::Span;
-pub use still::Said;
-pub use still::Still;
-pub use still::answer;
-pub use still::finish;
-pub use still::start;
-pub use text::Text;
+pub use steps::Reading;
+pub use steps::Stepped;
+pub use steps::finish;
+pub use steps::start;
+pub use steps::step;

@@ -17,7 +17,7 @@ pub(crate) fn end_line(accepted: u32) -> Text
 // After what was said before it.
 pub(crate) fn picture_line(before: Text, w: u32, h: u32, d: u32, m: u32) -> Text
     requires { ⌜ before .len ≤ 27 ⌝ }
-    ensures { λ r. ⌜ said r ≡ pictureText (said before) w h d m ⌝ }
+    ensures { λ r. ⌜ (said r ≡ pictureText (said before) w h d m) × (r .len ≤ 256) ⌝ }
 {
     let width = crate::text::numbered(before, b"(picture ", w as u64);
     let height = crate::text::numbered(width, b" ", h as u64);
@@ -27,7 +27,7 @@ pub(crate) fn picture_line(before: Text, w: u32, h: u32, d: u32, m: u32) -> Text
 }
 
 pub(crate) fn picture_refused(n: u32) -> Text
-    ensures { λ r. ⌜ said r ≡ pictureRefusedText n ⌝ }
+    ensures { λ r. ⌜ (said r ≡ pictureRefusedText n) × (r .len ≤ 256) ⌝ }
 {
     let t = crate::text::empty();
     let number = crate::text::numbered(t, b"(picture refused ", n as u64);
@@ -44,7 +44,7 @@ fn place(column: u32, row: u32) -> Text
 }
 
 pub(crate) fn mb_refused(column: u32, row: u32, n: u32) -> Text
-    ensures { λ r. ⌜ said r ≡ mbRefusedText column row n ⌝ }
+    ensures { λ r. ⌜ (said r ≡ mbRefusedText column row n) × (r .len ≤ 256) ⌝ }
 {
     let at = place(column, row);
     let number = crate::text::numbered(at, b" (refused ", n as u64);
@@ -53,15 +53,15 @@ pub(crate) fn mb_refused(column: u32, row: u32, n: u32) -> Text
 
 // The least and the greatest sample after a word.
 fn spanned(t: Text, w: &[u8], s: Span) -> Text
-    requires { ⌜ t .len + length (now w) + 41 ≤ 256 ⌝ }
-    ensures { λ r. ⌜ (said r ≡ spanText (said t) (now (w .entry)) (s .least) (s .greatest)) × (r .len ≤ t .len + length (now (w .entry)) + 41) ⌝ }
+    requires { ⌜ t .len + length (now w) + 43 ≤ 256 ⌝ }
+    ensures { λ r. ⌜ (said r ≡ spanText (said t) (now (w .entry)) (s .least) (s .greatest)) × (r .len ≤ t .len + length (now (w .entry)) + 43) ⌝ }
 {
-    let low = crate::text::numbered(t, w, s.least as u64);
-    crate::text::numbered(low, b" ", s.greatest as u64)
+    let low = crate::text::signed(t, w, s.least);
+    crate::text::signed(low, b" ", s.greatest)
 }
 
 pub(crate) fn mb_line(column: u32, row: u32, bits: usize, luma: Span, cb: Span, cr: Span) -> Text
-    ensures { λ r. ⌜ said r ≡ mbText column row bits (luma .least) (luma .greatest) (cb .least) (cb .greatest) (cr .least) (cr .greatest) ⌝ }
+    ensures { λ r. ⌜ (said r ≡ mbText column row bits (luma .least) (luma .greatest) (cb .least) (cb .greatest) (cr .least) (cr .greatest)) × (r .len ≤ 256) ⌝ }
 {
     let at = place(column, row);
     let counted = crate::text::numbered(at, b" (bits ", bits as u64);

@@ -1,23 +1,24 @@
 // The least and the greatest of some samples.
+ghost use mathlib.Core.Bool.{cond};
 ghost use mathlib.Core.Path.{_≡_};
-ghost use Prim.Native.Nat.{_<_, _≤_, min, max};
+ghost use Prim.Native.Nat.{_<_, _≤_};
 ghost use lib.ListN.{length};
+ghost use lib.Signed.{ltZ};
 ghost use Rattle.still_lines.specs.Spans.{part, spanOf, widenedBy};
 
-// Samples are 0 and above, so magnitudes are taken.
-pub struct Span {
-    pub least: u32,
-    pub greatest: u32,
+pub(crate) struct Span {
+    pub least: i32,
+    pub greatest: i32,
 }
 
-fn smaller(a: u32, b: u32) -> u32
-    ensures { λ r. ⌜ r ≡ min a b ⌝ }
+fn smaller(a: i32, b: i32) -> i32
+    ensures { λ r. ⌜ r ≡ cond (ltZ b a) b a ⌝ }
 {
-    if a < b { a } else { b }
+    if b < a { b } else { a }
 }
 
-fn greater(a: u32, b: u32) -> u32
-    ensures { λ r. ⌜ r ≡ max a b ⌝ }
+fn greater(a: i32, b: i32) -> i32
+    ensures { λ r. ⌜ r ≡ cond (ltZ a b) b a ⌝ }
 {
     if a < b { b } else { a }
 }
@@ -25,9 +26,8 @@ fn greater(a: u32, b: u32) -> u32
 fn widened(s: Span, z: i32) -> Span
     ensures { λ r. ⌜ r ≡ widenedBy s z ⌝ }
 {
-    let v = numbers::abs(z);
-    let least = smaller(s.least, v);
-    let greatest = greater(s.greatest, v);
+    let least = smaller(s.least, z);
+    let greatest = greater(s.greatest, z);
     Span { least, greatest }
 }
 
@@ -35,7 +35,7 @@ pub(crate) fn span_of(samples: &[i32], from: usize, to: usize) -> Span
     requires { ⌜ (from < to) × (to ≤ length (now samples)) ⌝ }
     ensures { λ r. ⌜ r ≡ spanOf (part (now (samples .entry)) from to) ⌝ }
 {
-    let first = numbers::abs(samples[from]);
+    let first = samples[from];
     let mut s = Span {
         least: first,
         greatest: first,

@@ -1,12 +1,10 @@
 // What is said to each line, and the state between lines.
-ghost use mathlib.Core.Bool.{false};
 ghost use mathlib.Core.Path.{_≡_};
 ghost use Prim.Native.Nat.{_≤_};
 ghost use lib.ListN.{length};
-ghost use Rattle.forms.specs.Forms.{formOf};
-ghost use Rattle.forms.specs.Reading.{dataAfter};
+ghost use Rattle.forms.specs.Reading.{dataAfter, roomForData};
 ghost use Rattle.picture.specs.Call.{answerOut, samplesOut, storeOut};
-ghost use Rattle.still_lines.specs.Still.{columnOf, contextOf, endSaid, headerOf, inputOf, isSkipped, openedBy, rowOf, samplesAfter, stillAfter, stillDecoded, stillOpened, storeAfter, textAfter, textDecoded, textOpened, typeOf};
+ghost use Rattle.still_lines.specs.Still.{columnOf, contextOf, endSaid, headerOf, inputOf, isSkipped, openedBy, rowOf, samplesAfter, stillAfter, stillDecoded, stillOpened, storeAfter, textAfter, textDecoded, textOpened, typeOf, unopened};
 ghost use Rattle.still_lines.specs.Text.{said};
 use crate::text::Text;
 use bits::Cursor;
@@ -27,14 +25,14 @@ pub struct Still {
 }
 
 // The state after a line, and what is said to it.
-pub struct Said {
+pub(crate) struct Said {
     pub still: Still,
     pub text: Text,
 }
 
 // No picture yet.
-pub fn start() -> Still
-    ensures { λ r. ⌜ r .«has_picture» ≡ false ⌝ }
+pub(crate) fn start() -> Still
+    ensures { λ r. ⌜ r ≡ unopened ⌝ }
 {
     Still {
         has_picture: false,
@@ -48,8 +46,8 @@ pub fn start() -> Still
     }
 }
 
-// The `end` line of an open picture, also at the end of the input.
-pub fn finish(s: Still) -> Text
+// The `end` line of an open picture, before the next and at the end of the input.
+pub(crate) fn ended(s: Still) -> Text
     ensures { λ r. ⌜ (said r ≡ endSaid s) × (r .len ≤ 27) ⌝ }
 {
     let p = s.picture;
@@ -60,7 +58,7 @@ pub fn finish(s: Still) -> Text
 }
 
 fn opened(s: Still, w: u32, h: u32, d: u32, m: u32) -> Said
-    ensures { λ r. ⌜ (r .still ≡ stillOpened s (openedBy w h d m)) × (said (r .text) ≡ textOpened s w h d m (openedBy w h d m)) ⌝ }
+    ensures { λ r. ⌜ (r .still ≡ stillOpened s (openedBy w h d m)) × ((said (r .text) ≡ textOpened s w h d m (openedBy w h d m)) × (r .text .len ≤ 256)) ⌝ }
 {
     let answer = Picture::open(w, h, d, m == 1);
     match answer {
@@ -69,7 +67,7 @@ fn opened(s: Still, w: u32, h: u32, d: u32, m: u32) -> Said
             Said { still: s, text }
         }
         PictureOpened::Opened(p) => {
-            let before = finish(s);
+            let before = ended(s);
             let text = crate::say::picture_line(before, w, h, d, m);
             let still = Still {
                 has_picture: true,
@@ -165,7 +163,7 @@ fn decoded(
     samples: &mut [i32],
     store: &mut [i32],
 ) -> Said
-    ensures { λ r. ⌜ (r .still ≡ stillDecoded s (answerOut (s .picture) (inputOf q «ac_pred» kind cbpy cbpc (now («data» .entry)) (now (samples .entry))) (now (store .entry)))) × (said (r .text) ≡ textDecoded (s .picture) (samplesOut (s .picture) (inputOf q «ac_pred» kind cbpy cbpc (now («data» .entry)) (now (samples .entry))) (now (store .entry))) (answerOut (s .picture) (inputOf q «ac_pred» kind cbpy cbpc (now («data» .entry)) (now (samples .entry))) (now (store .entry)))) ⌝ }
+    ensures { λ r. ⌜ (r .still ≡ stillDecoded s (answerOut (s .picture) (inputOf q «ac_pred» kind cbpy cbpc (now («data» .entry)) (now (samples .entry))) (now (store .entry)))) × ((said (r .text) ≡ textDecoded (s .picture) (samplesOut (s .picture) (inputOf q «ac_pred» kind cbpy cbpc (now («data» .entry)) (now (samples .entry))) (now (store .entry))) (answerOut (s .picture) (inputOf q «ac_pred» kind cbpy cbpc (now («data» .entry)) (now (samples .entry))) (now (store .entry)))) × (r .text .len ≤ 256)) ⌝ }
     ensures samples { λ r. ⌜ now (samples .exit) ≡ samplesOut (s .picture) (inputOf q «ac_pred» kind cbpy cbpc (now («data» .entry)) (now (samples .entry))) (now (store .entry)) ⌝ }
     ensures store { λ r. ⌜ now (store .exit) ≡ storeOut (s .picture) (inputOf q «ac_pred» kind cbpy cbpc (now («data» .entry)) (now (samples .entry))) (now (store .entry)) ⌝ }
 {
@@ -197,21 +195,26 @@ fn decoded(
 }
 
 // One line.
-pub fn answer(
+pub(crate) fn answer(
     s: Still,
     line: &[u8],
     data: &mut [u8],
     samples: &mut [i32],
     store: &mut [i32],
 ) -> Said
-    ensures { λ r. ⌜ (r .still ≡ stillAfter s (now (samples .entry)) (now (store .entry)) (length (now («data» .entry))) (now (line .entry))) × (said (r .text) ≡ textAfter s (now (samples .entry)) (now (store .entry)) (length (now («data» .entry))) (now (line .entry))) ⌝ }
-    ensures bytes { λ r. ⌜ now («data» .exit) ≡ dataAfter (formOf (length (now («data» .entry))) (now (line .entry))) (now («data» .entry)) ⌝ }
-    ensures samples { λ r. ⌜ now (samples .exit) ≡ samplesAfter s (now (samples .entry)) (now (store .entry)) (length (now («data» .entry))) (now (line .entry)) ⌝ }
-    ensures store { λ r. ⌜ now (store .exit) ≡ storeAfter s (now (samples .entry)) (now (store .entry)) (length (now («data» .entry))) (now (line .entry)) ⌝ }
+    requires { ⌜ roomForData ≤ length (now «data») ⌝ }
+    ensures { λ r. ⌜ (r .still ≡ stillAfter s (now (samples .entry)) (now (store .entry)) (now (line .entry))) × ((said (r .text) ≡ textAfter s (now (samples .entry)) (now (store .entry)) (now (line .entry))) × (r .text .len ≤ 256)) ⌝ }
+    ensures bytes { λ r. ⌜ now («data» .exit) ≡ dataAfter (now (line .entry)) (now («data» .entry)) ⌝ }
+    ensures samples { λ r. ⌜ now (samples .exit) ≡ samplesAfter s (now (samples .entry)) (now (store .entry)) (now (line .entry)) ⌝ }
+    ensures store { λ r. ⌜ now (store .exit) ≡ storeAfter s (now (samples .entry)) (now (store .entry)) (now (line .entry)) ⌝ }
 {
     let form = forms::parse(line, data);
     match form {
         Line::Malformed => {
+            let text = crate::text::empty();
+            Said { still: s, text }
+        }
+        Line::TooShort => {
             let text = crate::text::empty();
             Said { still: s, text }
         }

@@ -7,17 +7,18 @@ use Rattle.still.proofs.run.Statement.{statement}
 use Rattle.still.proofs.run.Tie as tie
 
 abbrev Inv-loop : tie.InvT-loop
-Inv-loop buffer₀ line₀ data₀ samples₀ store₀ r₀ turns₀ buffer line «data» samples store r turns =
-    (length buffer ≡ length buffer₀) × (length line ≡ length line₀) × (length «data» ≡ length data₀) × (length samples ≡ length samples₀) × (length store ≡ length store₀)
+Inv-loop buffer₀ line₀ data₀ samples₀ store₀ out₀ g₀ turns₀ buffer line «data» samples store out g turns =
+    (length buffer ≡ length buffer₀) × (length line ≡ length line₀) × (length «data» ≡ length data₀) × (length samples ≡ length samples₀) ×
+    (length store ≡ length store₀) × (length out ≡ length out₀)
 
 abbrev μ-loop : tie.MeasureT-loop
-μ-loop buffer₀ line₀ data₀ samples₀ store₀ r₀ turns₀ buffer line «data» samples store r turns = turns
+μ-loop buffer₀ line₀ data₀ samples₀ store₀ out₀ g₀ turns₀ buffer line «data» samples store out g turns = turns
 
 start-requires : tie.Need-start-requires Inv-loop μ-loop
 start-requires c κs = search needs
 
 loop-holds : tie.Need-loop-holds Inv-loop μ-loop
-loop-holds c = (refl, refl, refl, refl, refl)
+loop-holds c = (refl, refl, refl, refl, refl, refl)
 
 same-length : tie.Need-same-length Inv-loop μ-loop
 same-length c = omega arith
@@ -34,6 +35,9 @@ same-length-4 c = omega arith
 same-length-5 : tie.Need-same-length-5 Inv-loop μ-loop
 same-length-5 c = omega arith
 
+same-length-6 : tie.Need-same-length-6 Inv-loop μ-loop
+same-length-6 c = omega arith
+
 returns : tie.Need-returns Inv-loop μ-loop
 returns c = search needs
 
@@ -47,10 +51,7 @@ loop-less : tie.Need-loop-less Inv-loop μ-loop
 loop-less c = omega arith
 
 loop-again : tie.Need-loop-again Inv-loop μ-loop
-loop-again c = (search needs, search needs, search needs, search needs, search needs)
-
-same-length-6 : tie.Need-same-length-6 Inv-loop μ-loop
-same-length-6 c = omega arith
+loop-again c = (search needs, search needs, search needs, search needs, search needs, search needs)
 
 same-length-7 : tie.Need-same-length-7 Inv-loop μ-loop
 same-length-7 c = omega arith
@@ -63,6 +64,12 @@ same-length-9 c = omega arith
 
 same-length-10 : tie.Need-same-length-10 Inv-loop μ-loop
 same-length-10 c = omega arith
+
+same-length-11 : tie.Need-same-length-11 Inv-loop μ-loop
+same-length-11 c = omega arith
+
+same-length-12 : tie.Need-same-length-12 Inv-loop μ-loop
+same-length-12 c = omega arith
 
 returns-2 : tie.Need-returns-2 Inv-loop μ-loop
 returns-2 c = search needs
@@ -80,14 +87,16 @@ run-spec =
     same-length-3
     same-length-4
     same-length-5
+    same-length-6
     returns
     turn-requires
     sub-turns
     loop-less
     loop-again
-    same-length-6
     same-length-7
     same-length-8
     same-length-9
     same-length-10
+    same-length-11
+    same-length-12
     returns-2)

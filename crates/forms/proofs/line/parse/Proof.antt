@@ -1,8 +1,8 @@
--- `forms::line::parse` meets its contract: brackets, and the first word says which form. Assumes nothing.
+-- `forms::line::parse` meets its contract: room, length, brackets, and the first word says which form. Assumes nothing.
+use native.Mathlib.Omega.{arith}
 use borrow.Author.Needs.{needs}
 use denote.Ref.{now}
-use lib.ListN.{length}
-use Rattle.forms.proofs.FormLaws.{goes-on, line-close, line-mb, line-open, line-other, line-picture, line-short, picture-keeps, refuses}
+use Rattle.forms.proofs.FormLaws.{answered, goes-on, line-close, line-long, line-mb, line-open, line-other, line-picture, line-short, picture-keeps, refuses, too-short}
 use Rattle.forms.specs.Forms.{mbWord, pictureWord}
 use Rattle.forms.proofs.line.parse.Statement.{statement}
 use Rattle.forms.proofs.line.parse.Tie as tie
@@ -10,28 +10,45 @@ use Rattle.forms.proofs.line.parse.Tie as tie
 returns : tie.Need-returns
 returns c =
     let a = c .before .before .before .args in
-    refuses (now (a .«data»)) (line-short (length (now (a .«data»))) (now (a .line)) (c .if1 .taken))
-
-shared-slice-read-if2 : tie.Need-shared-slice-read-if2
-shared-slice-read-if2 c = search needs
+    too-short (now (a .line)) (now (a .«data»)) (c .if1 .taken)
 
 returns-2 : tie.Need-returns-2
 returns-2 c =
+    let r = c .before in
+    let a = r .before .before .before .args in
+    answered (now (a .line)) (now (a .«data»)) (r .if1 .left) (refuses (now (a .«data»)) (line-long (now (a .line)) (omega (arith, c .if2 .taken))))
+
+returns-3 : tie.Need-returns-3
+returns-3 c =
+    let s = c .before in
+    let a = s .before .before .before .before .args in
+    answered (now (a .line)) (now (a .«data»)) (s .before .if1 .left) (refuses (now (a .«data»)) (line-short (now (a .line)) (s .if2 .left) (c .if3 .taken)))
+
+shared-slice-read-if4 : tie.Need-shared-slice-read-if4
+shared-slice-read-if4 c = search needs
+
+returns-4 : tie.Need-returns-4
+returns-4 c =
     let k = c .before .before in
-    let a = k .before .before .before .args in
-    refuses (now (a .«data»)) (line-open (length (now (a .«data»))) (now (a .line)) (k .if1 .left) (c .if2 .taken))
+    let s = k .before in
+    let a = s .before .before .before .before .args in
+    answered (now (a .line)) (now (a .«data»)) (s .before .if1 .left)
+    (refuses (now (a .«data»)) (line-open (now (a .line)) (s .if2 .left) (k .if3 .left) (c .if4 .taken)))
 
 sub-to : tie.Need-sub-to
 sub-to c = search needs
 
-shared-slice-read-if3 : tie.Need-shared-slice-read-if3
-shared-slice-read-if3 c = search needs
+shared-slice-read-if5 : tie.Need-shared-slice-read-if5
+shared-slice-read-if5 c = search needs
 
-returns-3 : tie.Need-returns-3
-returns-3 c =
-    let k = c .before .before .before .before in
-    let a = k .before .before .before .args in
-    refuses (now (a .«data»)) (line-close (length (now (a .«data»))) (now (a .line)) (k .if1 .left) (c .before .before .if2 .left) (c .if3 .taken))
+returns-5 : tie.Need-returns-5
+returns-5 c =
+    let o = c .before .before in
+    let k = o .before .before in
+    let s = k .before in
+    let a = s .before .before .before .before .args in
+    answered (now (a .line)) (now (a .«data»)) (s .before .if1 .left)
+    (refuses (now (a .«data»)) (line-close (now (a .line)) (s .if2 .left) (k .if3 .left) (o .if4 .left) (c .if5 .taken)))
 
 word-end-requires : tie.Need-word-end-requires
 word-end-requires c κs = search needs
@@ -48,15 +65,19 @@ add-picture c = search needs
 picture-requires : tie.Need-picture-requires
 picture-requires c κs = search needs
 
-returns-4 : tie.Need-returns-4
+returns-6 : tie.Need-returns-6
 unfolding pictureWord
-returns-4 c =
+returns-6 c =
     let i = c .before .before in
     let w = i .before .before in
-    let k = w .before in
-    let a = k .before .before .before .before .before .before .before .args in
-    let is = line-picture (length (now (a .«data»))) (now (a .line)) (k .before .before .before .before .if1 .left) (k .before .before .if2 .left) (k .if3 .left) _ (w .word-end .ensures .0) (i .is-word .ensures) (c .before .if4 .taken) in
-    goes-on (now (a .«data»)) is (c .picture .ensures, picture-keeps _ (now (a .«data»)))
+    let b = w .before in
+    let o = b .before .before in
+    let k = o .before .before in
+    let s = k .before in
+    let a = s .before .before .before .before .args in
+    let is = line-picture (now (a .line)) (s .if2 .left) (k .if3 .left) (o .if4 .left) (b .if5 .left) _ (w .word-end .ensures .0) (i .is-word .ensures)
+    (c .before .if6 .taken) in
+    answered (now (a .line)) (now (a .«data»)) (s .before .if1 .left) (goes-on (now (a .«data»)) is (c .picture .ensures, picture-keeps _ (now (a .«data»))))
 
 slice-aggregate-is-word-2 : tie.Need-slice-aggregate-is-word-2
 slice-aggregate-is-word-2 c = search needs
@@ -73,52 +94,60 @@ macroblock-requires c κs = search needs
 same-length : tie.Need-same-length
 same-length c = search needs
 
-returns-5 : tie.Need-returns-5
+returns-7 : tie.Need-returns-7
 unfolding pictureWord mbWord
-returns-5 c =
+returns-7 c =
     let d = c .before .before in
     let t = d .before .before in
     let j = t .before in
     let i = j .before .before .before in
     let w = i .before .before in
-    let k = w .before in
-    let a = k .before .before .before .before .before .before .before .args in
-    let is = line-mb (length (now (a .«data»))) (now (a .line)) (k .before .before .before .before .if1 .left) (k .before .before .if2 .left) (k .if3 .left) _ (w .word-end .ensures .0)
-    (i .is-word .ensures) (j .before .before .if4 .left) (j .is-word2 .ensures) (t .if5 .taken) in
-    goes-on (now (a .«data»)) is (d .macroblock .ensures)
+    let b = w .before in
+    let o = b .before .before in
+    let k = o .before .before in
+    let s = k .before in
+    let a = s .before .before .before .before .args in
+    let is = line-mb (now (a .line)) (s .if2 .left) (k .if3 .left) (o .if4 .left) (b .if5 .left) _ (w .word-end .ensures .0) (i .is-word .ensures)
+    (j .before .before .if6 .left) (j .is-word2 .ensures) (t .if7 .taken) in
+    answered (now (a .line)) (now (a .«data»)) (s .before .if1 .left) (goes-on (now (a .«data»)) is (d .macroblock .ensures))
 
-returns-6 : tie.Need-returns-6
+returns-8 : tie.Need-returns-8
 unfolding pictureWord mbWord
-returns-6 c =
+returns-8 c =
     let j = c .before in
     let i = j .before .before .before in
     let w = i .before .before in
-    let k = w .before in
-    let a = k .before .before .before .before .before .before .before .args in
-    let is = line-other (length (now (a .«data»))) (now (a .line)) (k .before .before .before .before .if1 .left) (k .before .before .if2 .left) (k .if3 .left) _ (w .word-end .ensures .0)
-    (i .is-word .ensures) (j .before .before .if4 .left) (j .is-word2 .ensures) (c .if5 .left) in
-    refuses (now (a .«data»)) is
+    let b = w .before in
+    let o = b .before .before in
+    let k = o .before .before in
+    let s = k .before in
+    let a = s .before .before .before .before .args in
+    let is = line-other (now (a .line)) (s .if2 .left) (k .if3 .left) (o .if4 .left) (b .if5 .left) _ (w .word-end .ensures .0) (i .is-word .ensures)
+    (j .before .before .if6 .left) (j .is-word2 .ensures) (c .if7 .left) in
+    answered (now (a .line)) (now (a .«data»)) (s .before .if1 .left) (refuses (now (a .«data»)) is)
 
 pub parse-spec : {M : Type 1} → statement M
 parse-spec =
     tie.close
     (tie.spec
     returns
-    shared-slice-read-if2
     returns-2
-    sub-to
-    shared-slice-read-if3
     returns-3
+    shared-slice-read-if4
+    returns-4
+    sub-to
+    shared-slice-read-if5
+    returns-5
     word-end-requires
     slice-aggregate-is-word
     is-word-requires
     add-picture
     picture-requires
-    returns-4
+    returns-6
     slice-aggregate-is-word-2
     is-word-requires-2
     add-macroblock
     macroblock-requires
     same-length
-    returns-5
-    returns-6)
+    returns-7
+    returns-8)

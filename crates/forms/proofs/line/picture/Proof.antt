@@ -26,7 +26,8 @@ width k =
     let a = k .before .before .before .before .before .args in
     field-is (numberIn 65535) (now (a .line)) (a .from) (a .to) (k .before .before .before .number .ensures) (k .before .w .given .1) afterWidth
 
-height : (k : tie.After-known-told2) → let j = k .before .before .before .before in let s = j .before .before .before .before .before in let w = j .before .w .given .0 in let h = k .before .h .given .0 in
+height : (k : tie.After-known-told2) → let j = k .before .before .before .before in let s = j .before .before .before .before .before in
+    let w = j .before .w .given .0 in let h = k .before .h .given .0 in
     form s ≡ afterHeight (w .0) (h .0) (rest s (h .1 .0))
 height k =
     let j = k .before .before .before .before in
@@ -34,7 +35,8 @@ height k =
     let w = j .before .w .given .0 in
     width j ∙ field-is (numberIn 65535) (now (a .line)) (w .1 .0) (a .to) (k .before .before .before .number2 .ensures) (k .before .h .given .1) (afterHeight (w .0))
 
-depth : (k : tie.After-known-told3) → let j = k .before .before .before .before in let i = j .before .before .before .before in let s = i .before .before .before .before .before in
+depth : (k : tie.After-known-told3) → let j = k .before .before .before .before in let i = j .before .before .before .before in
+    let s = i .before .before .before .before .before in
     let w = i .before .w .given .0 in let h = j .before .h .given .0 in let d = k .before .d .given .0 in form s ≡ afterDepth (w .0) (h .0) (d .0) (rest s (d .1 .0))
 depth k =
     let j = k .before .before .before .before in
@@ -42,9 +44,11 @@ depth k =
     let a = i .before .before .before .before .before .args in
     let w = i .before .w .given .0 in
     let h = j .before .h .given .0 in
-    height j ∙ field-is (numberIn 65535) (now (a .line)) (h .1 .0) (a .to) (k .before .before .before .number3 .ensures) (k .before .d .given .1) (afterDepth (w .0) (h .0))
+    height j ∙ field-is (numberIn 65535) (now (a .line)) (h .1 .0) (a .to) (k .before .before .before .number3 .ensures) (k .before .d .given .1)
+    (afterDepth (w .0) (h .0))
 
-method : (c : tie.Else1) → let k = c .before in let j = k .before .before .before .before in let i = j .before .before .before .before in let h = i .before .before .before .before in let s = h .before .before .before .before .before in let m = k .before .m .given .0 in
+method : (c : tie.Else1) → let k = c .before in let j = k .before .before .before .before in let i = j .before .before .before .before in
+    let h = i .before .before .before .before in let s = h .before .before .before .before .before in let m = k .before .m .given .0 in
     form s ≡ last (picture (h .before .w .given .0 .0) (i .before .h .given .0 .0) (j .before .d .given .0 .0) (m .0)) (rest s (m .1 .0))
 method c =
     let k = c .before in
@@ -54,7 +58,8 @@ method c =
     let a = h .before .before .before .before .before .args in
     let d = j .before .d .given .0 in
     depth j
-    ∙ method-is (now (a .line)) (d .1 .0) (a .to) (k .before .before .before .number4 .ensures) (λ m. last (picture (h .before .w .given .0 .0) (i .before .h .given .0 .0) (d .0) m)) (k .before .m .given .1) (c .if1 .left)
+    ∙ method-is (now (a .line)) (d .1 .0) (a .to) (k .before .before .before .number4 .ensures)
+    (λ m. last (picture (h .before .w .given .0 .0) (i .before .h .given .0 .0) (d .0) m)) (k .before .m .given .1) (c .if1 .left)
 
 number-requires : tie.Need-number-requires
 number-requires c κs = search needs
@@ -68,8 +73,10 @@ enum-known-w c = search needs
 number-requires-2 : tie.Need-number-requires-2
 number-requires-2 c κs =
     let s = c .before .before .before .before .before in
-    let a = s .args in
-    (field-at (numberIn 65535) (now (a .line)) (a .from) (a .to) (c .before .before .before .number .ensures) (c .before .w .given .1), (s .pre .1 .0, (s .pre .1 .1, lit≤ tt)))
+    let a = s .args in (
+      field-at (numberIn 65535) (now (a .line)) (a .from) (a .to) (c .before .before .before .number .ensures) (c .before .w .given .1),
+      (s .pre .1 .0, (s .pre .1 .1, lit≤ tt)),
+    )
 
 enum-told-2 : tie.Need-enum-told-2
 enum-told-2 c = search needs
@@ -81,8 +88,10 @@ number-requires-3 : tie.Need-number-requires-3
 number-requires-3 c κs =
     let j = c .before .before .before .before in
     let s = j .before .before .before .before .before in
-    let a = s .args in
-    (field-at (numberIn 65535) (now (a .line)) (j .before .w .given .0 .1 .0) (a .to) (c .before .before .before .number2 .ensures) (c .before .h .given .1), (s .pre .1 .0, (s .pre .1 .1, lit≤ tt)))
+    let a = s .args in (
+      field-at (numberIn 65535) (now (a .line)) (j .before .w .given .0 .1 .0) (a .to) (c .before .before .before .number2 .ensures) (c .before .h .given .1),
+      (s .pre .1 .0, (s .pre .1 .1, lit≤ tt)),
+    )
 
 enum-told-3 : tie.Need-enum-told-3
 enum-told-3 c = search needs
@@ -94,8 +103,10 @@ number-requires-4 : tie.Need-number-requires-4
 number-requires-4 c κs =
     let j = c .before .before .before .before in
     let s = j .before .before .before .before .before .before .before .before .before in
-    let a = s .args in
-    (field-at (numberIn 65535) (now (a .line)) (j .before .h .given .0 .1 .0) (a .to) (c .before .before .before .number3 .ensures) (c .before .d .given .1), (s .pre .1 .0, (s .pre .1 .1, lit≤ tt)))
+    let a = s .args in (
+      field-at (numberIn 65535) (now (a .line)) (j .before .h .given .0 .1 .0) (a .to) (c .before .before .before .number3 .ensures) (c .before .d .given .1),
+      (s .pre .1 .0, (s .pre .1 .1, lit≤ tt)),
+    )
 
 enum-told-4 : tie.Need-enum-told-4
 enum-told-4 c = search needs
@@ -110,7 +121,8 @@ returns c =
     let i = j .before .before .before .before in
     let h = i .before .before .before .before in
     let a = h .before .before .before .before .before .args in
-    let zero = method-0 (now (a .line)) (j .before .d .given .0 .1 .0) (a .to) (k .before .before .before .number4 .ensures) (λ m. last (picture (h .before .w .given .0 .0) (i .before .h .given .0 .0) (j .before .d .given .0 .0) m)) (k .before .m .given .1) (c .if1 .taken) in
+    let zero = method-0 (now (a .line)) (j .before .d .given .0 .1 .0) (a .to) (k .before .before .before .number4 .ensures)
+    (λ m. last (picture (h .before .w .given .0 .0) (i .before .h .given .0 .0) (j .before .d .given .0 .0) m)) (k .before .m .given .1) (c .if1 .taken) in
     sym (ap lineOf (depth j ∙ zero))
 
 returns-2 : tie.Need-returns-2
@@ -121,7 +133,8 @@ returns-2 c =
     let h = i .before .before .before .before in
     let s = h .before .before .before .before .before in
     let m = k .before .m .given .0 in
-    sym (ap lineOf (method (c .before) ∙ last-more (picture (h .before .w .given .0 .0) (i .before .h .given .0 .0) (j .before .d .given .0 .0) (m .0)) (now (s .args .line)) (m .1 .0) (s .args .to) (c .if2 .taken) (s .pre .1 .0)))
+    sym (ap lineOf (method (c .before) ∙ last-more (picture (h .before .w .given .0 .0) (i .before .h .given .0 .0) (j .before .d .given .0 .0) (m .0))
+    (now (s .args .line)) (m .1 .0) (s .args .to) (c .if2 .taken) (s .pre .1 .0)))
 
 returns-3 : tie.Need-returns-3
 unfolding pictureForm
@@ -134,7 +147,8 @@ returns-4 c =
     let k = c .before .before .before in
     let a = k .before .before .before .before .before .args in
     let w = k .before .w .given .0 in
-    sym (ap lineOf (width k ∙ field-bad (numberIn 65535) (now (a .line)) (w .1 .0) (a .to) (c .before .before .number2 .ensures) (afterHeight (w .0)) (c .enum-told2 .given .1)))
+    sym (ap lineOf (width k ∙ field-bad (numberIn 65535) (now (a .line)) (w .1 .0) (a .to) (c .before .before .number2 .ensures) (afterHeight (w .0))
+    (c .enum-told2 .given .1)))
 
 returns-5 : tie.Need-returns-5
 returns-5 c =
@@ -142,7 +156,8 @@ returns-5 c =
     let j = k .before .before .before .before in
     let a = j .before .before .before .before .before .args in
     let h = k .before .h .given .0 in
-    let bad = field-bad (numberIn 65535) (now (a .line)) (h .1 .0) (a .to) (c .before .before .number3 .ensures) (afterDepth (j .before .w .given .0 .0) (h .0)) (c .enum-told3 .given .1) in
+    let bad = field-bad (numberIn 65535) (now (a .line)) (h .1 .0) (a .to) (c .before .before .number3 .ensures) (afterDepth (j .before .w .given .0 .0) (h .0))
+    (c .enum-told3 .given .1) in
     sym (ap lineOf (height k ∙ bad))
 
 returns-6 : tie.Need-returns-6
@@ -151,7 +166,8 @@ returns-6 c =
     let i = j .before .before .before .before in
     let h = i .before .before .before .before in
     let a = h .before .before .before .before .before .args in
-    let bad = no-method (now (a .line)) (j .before .d .given .0 .1 .0) (a .to) (c .before .before .number4 .ensures) (λ m. last (picture (h .before .w .given .0 .0) (i .before .h .given .0 .0) (j .before .d .given .0 .0) m)) (c .enum-told4 .given .1) in
+    let bad = no-method (now (a .line)) (j .before .d .given .0 .1 .0) (a .to) (c .before .before .number4 .ensures)
+    (λ m. last (picture (h .before .w .given .0 .0) (i .before .h .given .0 .0) (j .before .d .given .0 .0) m)) (c .enum-told4 .given .1) in
     sym (ap lineOf (depth j ∙ bad))
 
 returns-7 : tie.Need-returns-7
@@ -162,7 +178,8 @@ returns-7 c =
     let h = i .before .before .before .before in
     let a = h .before .before .before .before .before .args in
     let m = k .before .m .given .0 in
-    sym (ap lineOf (method (c .before) ∙ last-none (picture (h .before .w .given .0 .0) (i .before .h .given .0 .0) (j .before .d .given .0 .0) (m .0)) (now (a .line)) (m .1 .0) (a .to) (c .if2 .left)))
+    sym (ap lineOf (method (c .before) ∙ last-none (picture (h .before .w .given .0 .0) (i .before .h .given .0 .0) (j .before .d .given .0 .0) (m .0)) (now (a .line))
+    (m .1 .0) (a .to) (c .if2 .left)))
 
 pub picture-spec : {M : Type 1} → statement M
 picture-spec =

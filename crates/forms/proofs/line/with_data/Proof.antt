@@ -2,7 +2,6 @@
 use mathlib.Core.Path.{ap}
 use borrow.Author.Needs.{needs}
 use denote.Ref.{now}
-use lib.ListN.{length}
 use Rattle.numbers.proofs.Tests.{flag-passes, flag-refuses}
 use Rattle.forms.proofs.FormLaws.{data-bad, data-is, data-more, data-none, goes-on, refuses}
 use Rattle.forms.specs.declared.line.Line.the-variants.{Macroblock}
@@ -12,7 +11,7 @@ use Rattle.forms.proofs.line.with_data.Tie as tie
 returns : tie.Need-returns
 returns c =
     let a = c .before .before .before .args in
-    refuses (now (a .«data»)) (data-none (length (now (a .«data»))) (a .q) (a .ac-pred) (a .kind) (a .cbpy) (a .cbpc) (now (a .line)) (a .from) (a .to) (c .if1 .taken))
+    refuses (now (a .«data»)) (data-none (a .q) (a .ac-pred) (a .kind) (a .cbpy) (a .cbpc) (now (a .line)) (a .from) (a .to) (c .if1 .taken))
 
 word-end-requires : tie.Need-word-end-requires
 word-end-requires c κs = search needs
@@ -22,7 +21,8 @@ returns-2 c =
     let k = c .before in
     let s = k .before .before .before .before in
     let a = s .args in
-    refuses (now (a .«data»)) (data-more (length (now (a .«data»))) (a .q) (a .ac-pred) (a .kind) (a .cbpy) (a .cbpc) (now (a .line)) (a .from) (a .to) (k .before .if1 .left) (s .pre .1 .0) _ (k .word-end .ensures .0) (c .if2 .taken))
+    refuses (now (a .«data»)) (data-more (a .q) (a .ac-pred) (a .kind) (a .cbpy) (a .cbpc) (now (a .line)) (a .from) (a .to) (k .before .if1 .left) (s .pre .1 .0) _
+    (k .word-end .ensures .0) (c .if2 .taken))
 
 is-data-requires : tie.Need-is-data-requires
 is-data-requires c κs = search needs
@@ -33,14 +33,14 @@ returns-3 c =
     let s = k .before .before .before .before in
     let a = s .args in
     refuses (now (a .«data»))
-    (data-bad (length (now (a .«data»))) (a .q) (a .ac-pred) (a .kind) (a .cbpy) (a .cbpc) (now (a .line)) (a .from) (a .to) (k .before .if1 .left) (s .pre .1 .0) _ (k .word-end .ensures .0)
+    (data-bad (a .q) (a .ac-pred) (a .kind) (a .cbpy) (a .cbpc) (now (a .line)) (a .from) (a .to) (k .before .if1 .left) (s .pre .1 .0) _ (k .word-end .ensures .0)
     (c .before .before .if2 .left) (flag-refuses (c .before .is-data .ensures) (c .if3 .taken)))
 
 data-of-requires : tie.Need-data-of-requires
 data-of-requires c κs =
     let k = c .before in
     let s = k .before .before .before .before .before .before .before in
-    (k .before .before .before .before .if1 .left, (s .pre .1 .0, (s .pre .1 .1, flag-passes (k .before .is-data .ensures) (k .if3 .left))))
+    (k .before .before .before .before .if1 .left, (s .pre .1 .0, (s .pre .1 .1 .0, (s .pre .1 .1 .1, flag-passes (k .before .is-data .ensures) (k .if3 .left)))))
 
 same-length : tie.Need-same-length
 same-length c = search needs
@@ -53,7 +53,7 @@ returns-4 c =
     let s = k .before .before .before .before in
     let a = s .args in
     goes-on (now (a .«data»))
-    (data-is (length (now (a .«data»))) (a .q) (a .ac-pred) (a .kind) (a .cbpy) (a .cbpc) (now (a .line)) (a .from) (a .to) (k .before .if1 .left) (s .pre .1 .0) _ (k .word-end .ensures .0)
+    (data-is (a .q) (a .ac-pred) (a .kind) (a .cbpy) (a .cbpc) (now (a .line)) (a .from) (a .to) (k .before .if1 .left) (s .pre .1 .0) _ (k .word-end .ensures .0)
     (t .before .before .if2 .left) (flag-passes (t .before .is-data .ensures) (t .if3 .left)))
     (ap (Macroblock (a .q) (a .ac-pred) (a .kind) (a .cbpy) (a .cbpc)) (d .data-of .ensures .0), d .data-of .ensures .1)
 

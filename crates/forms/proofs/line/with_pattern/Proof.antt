@@ -5,7 +5,6 @@ use Prim.Native.Nat.{ℕ}
 use borrow.Author.Needs.{needs}
 use denote.Ref.{now}
 use lib.Dec.{lit≤}
-use lib.ListN.{length}
 use Rattle.forms.proofs.FormLaws.{afterCbpy, field-at, field-bad, field-is, goes-on, refuses}
 use Rattle.forms.specs.Forms.{Form}
 use Rattle.forms.specs.Reading.{dataForm, patternForm, wordsFrom}
@@ -18,23 +17,26 @@ abbrev rest : tie.Start → ℕ → List (List ℕ)
 rest s i = wordsFrom (now (s .args .line)) i (s .args .to)
 
 abbrev form : tie.Start → Form
-form s = let a = s .args in patternForm (length (now (a .«data»))) (a .q) (a .ac-pred) (a .kind) (rest s (a .from))
+form s = let a = s .args in patternForm (a .q) (a .ac-pred) (a .kind) (rest s (a .from))
 
 abbrev after-1 : tie.Start → ℕ → List (List ℕ) → Form
-after-1 s = let a = s .args in afterCbpy (length (now (a .«data»))) (a .q) (a .ac-pred) (a .kind)
+after-1 s = let a = s .args in afterCbpy (a .q) (a .ac-pred) (a .kind)
 
 abbrev after-2 : tie.Start → ℕ → ℕ → List (List ℕ) → Form
-after-2 s = let a = s .args in dataForm (length (now (a .«data»))) (a .q) (a .ac-pred) (a .kind)
+after-2 s = let a = s .args in dataForm (a .q) (a .ac-pred) (a .kind)
 
 -- the form once a word was read
-luminance : (k : tie.After-known-told) → let s = k .before .before .before .before .before .before in let y = k .before .y .given .0 in form s ≡ after-1 s (y .0) (rest s (y .1 .0))
+luminance : (k : tie.After-known-told) → let s = k .before .before .before .before .before .before in let y = k .before .y .given .0 in form s ≡ after-1 s (y .0)
+    (rest s (y .1 .0))
 unfolding patternForm
 luminance k =
     let s = k .before .before .before .before .before .before in
     let a = s .args in
     field-is (numberIn 255) (now (a .line)) (a .from) (a .to) (k .before .before .before .number .ensures) (k .before .y .given .1) (after-1 s)
 
-chrominance : (k : tie.After-known-told2) → let j = k .before .before .before .before in let s = j .before .before .before .before .before .before in let y = j .before .y .given .0 in let c = k .before .c .given .0 in
+chrominance : (k : tie.After-known-told2)
+    → let j = k .before .before .before .before in let s = j .before .before .before .before .before .before in let y = j .before .y .given .0 in
+    let c = k .before .c .given .0 in
     form s ≡ after-2 s (y .0) (c .0) (rest s (c .1 .0))
 chrominance k =
     let j = k .before .before .before .before in
@@ -55,8 +57,10 @@ enum-known-y c = search needs
 number-requires-2 : tie.Need-number-requires-2
 number-requires-2 c κs =
     let s = c .before .before .before .before .before .before in
-    let a = s .args in
-    (field-at (numberIn 255) (now (a .line)) (a .from) (a .to) (c .before .before .before .number .ensures) (c .before .y .given .1), (s .pre .1 .0, (s .pre .1 .1, lit≤ tt)))
+    let a = s .args in (
+      field-at (numberIn 255) (now (a .line)) (a .from) (a .to) (c .before .before .before .number .ensures) (c .before .y .given .1),
+      (s .pre .1 .0, (s .pre .1 .1 .0, lit≤ tt)),
+    )
 
 enum-told-2 : tie.Need-enum-told-2
 enum-told-2 c = search needs
@@ -69,8 +73,10 @@ with-data-requires c κs =
     let k = c .before in
     let j = k .before .before .before .before in
     let s = j .before .before .before .before .before .before in
-    let a = s .args in
-    (field-at (numberIn 255) (now (a .line)) (j .before .y .given .0 .1 .0) (a .to) (k .before .before .before .number2 .ensures) (k .before .c .given .1), (s .pre .1 .0, s .pre .1 .1))
+    let a = s .args in (
+      field-at (numberIn 255) (now (a .line)) (j .before .y .given .0 .1 .0) (a .to) (k .before .before .before .number2 .ensures) (k .before .c .given .1),
+      (s .pre .1 .0, s .pre .1 .1),
+    )
 
 returns : tie.Need-returns
 unfolding patternForm

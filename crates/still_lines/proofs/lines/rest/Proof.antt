@@ -2,8 +2,7 @@
 use mathlib.Core.Bool.{false, true}
 use mathlib.Core.Path.{refl, sym}
 use borrow.Author.Tests.{eq-eqb, le-leb, lt-leb, ne-eqb}
-use denote.Ref.{now}
-use lib.ListN.{length}
+use Rattle.forms.specs.Forms.{longest}
 use Rattle.still_lines.proofs.LineLaws.{rest-by}
 use Rattle.still_lines.proofs.lines.rest.Statement.{statement}
 use Rattle.still_lines.proofs.lines.rest.Tie as tie
@@ -11,19 +10,17 @@ use Rattle.still_lines.proofs.lines.rest.Tie as tie
 returns : tie.Need-returns
 returns c =
     let a = c .before .args in
-    sym (rest-by (now (a .line)) (a .n) true _ (eq-eqb (a .n) 0 (c .if1 .taken)) refl)
+    sym (rest-by (a .n) true _ (eq-eqb (a .n) 0 (c .if1 .taken)) refl)
 
 returns-2 : tie.Need-returns-2
 returns-2 c =
     let a = c .before .before .args in
-    let l = now (a .line) in
-    sym (rest-by l (a .n) false true (ne-eqb (a .n) 0 (c .before .if1 .left)) (le-leb (a .n) (length l) (c .if2 .taken)))
+    sym (rest-by (a .n) false true (ne-eqb (a .n) 0 (c .before .if1 .left)) (le-leb (a .n) longest (c .if2 .taken)))
 
 returns-3 : tie.Need-returns-3
 returns-3 c =
     let a = c .before .before .args in
-    let l = now (a .line) in
-    sym (rest-by l (a .n) false false (ne-eqb (a .n) 0 (c .before .if1 .left)) (lt-leb (a .n) (length l) (c .if2 .left)))
+    sym (rest-by (a .n) false false (ne-eqb (a .n) 0 (c .before .if1 .left)) (lt-leb (a .n) longest (c .if2 .left)))
 
 pub rest-spec : {M : Type 1} → statement M
 rest-spec = tie.close (tie.spec returns returns-2 returns-3)

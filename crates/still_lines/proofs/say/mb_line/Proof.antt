@@ -2,6 +2,7 @@
 use mathlib.Core.List.{List, _++_}
 use mathlib.Core.Path.{ap, _∙_}
 use Prim.Native.Nat.{ℕ}
+use native.Mathlib.Omega.{arith}
 use borrow.Author.Needs.{needs}
 use Rattle.still_lines.specs.Decimal.{decimalOf}
 use Rattle.still_lines.specs.Text.{closingTwo, spanText, wordBits, wordCb, wordCr, wordLuma}
@@ -49,13 +50,15 @@ returns c =
     let l = c .before .before .before .before .before .before .spanned in
     let n = c .before .before .before .before .before .before .before .before .numbered in
     let p = c .before .before .before .before .before .before .before .before .before .before .place in
-    let a = c .before .before .before .before .before .before .before .before .before .before .before .args in
-    c .word .ensures .0
-    ∙ ap (λ (xs : List ℕ). xs ++ closingTwo) (r .ensures .0
-    ∙ ap (λ (xs : List ℕ). spanText xs wordCr (a .cr .least) (a .cr .greatest)) (b .ensures .0
-    ∙ ap (λ (xs : List ℕ). spanText xs wordCb (a .cb .least) (a .cb .greatest)) (l .ensures .0
-    ∙ ap (λ (xs : List ℕ). spanText xs wordLuma (a .luma .least) (a .luma .greatest)) (n .ensures .0
-    ∙ ap (λ (xs : List ℕ). xs ++ wordBits ++ decimalOf (a .bits)) (p .ensures .0)))))
+    let a = c .before .before .before .before .before .before .before .before .before .before .before .args in (
+      c .word .ensures .0
+          ∙ ap (λ (xs : List ℕ). xs ++ closingTwo) (r .ensures .0
+          ∙ ap (λ (xs : List ℕ). spanText xs wordCr (a .cr .least) (a .cr .greatest)) (b .ensures .0
+          ∙ ap (λ (xs : List ℕ). spanText xs wordCb (a .cb .least) (a .cb .greatest)) (l .ensures .0
+          ∙ ap (λ (xs : List ℕ). spanText xs wordLuma (a .luma .least) (a .luma .greatest)) (n .ensures .0
+          ∙ ap (λ (xs : List ℕ). xs ++ wordBits ++ decimalOf (a .bits)) (p .ensures .0))))),
+      omega (arith, c .word .ensures .1, r .ensures .1, b .ensures .1, l .ensures .1, n .ensures .1, p .ensures .1),
+    )
 
 pub mb-line-spec : {M : Type 1} → statement M
 mb-line-spec = tie.close (tie.spec place-requires slice-aggregate-numbered numbered-requires slice-aggregate-spanned spanned-requires slice-aggregate-spanned-2 spanned-requires-2 slice-aggregate-spanned-3 spanned-requires-3 slice-aggregate-word word-requires returns)

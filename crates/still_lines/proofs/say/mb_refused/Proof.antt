@@ -2,6 +2,7 @@
 use mathlib.Core.List.{List, _++_}
 use mathlib.Core.Path.{ap, _∙_}
 use Prim.Native.Nat.{ℕ}
+use native.Mathlib.Omega.{arith}
 use borrow.Author.Needs.{needs}
 use Rattle.still_lines.specs.Decimal.{decimalOf}
 use Rattle.still_lines.specs.Text.{closingTwo, wordRefused}
@@ -29,7 +30,8 @@ returns c =
     let n = c .before .before .numbered in
     let e = c .before .before .before .before .place in
     let a = c .before .before .before .before .before .args in
-    c .word .ensures .0 ∙ ap (λ (xs : List ℕ). xs ++ closingTwo) (n .ensures .0 ∙ ap (λ (xs : List ℕ). xs ++ wordRefused ++ decimalOf (a .n)) (e .ensures .0))
+    let number = n .ensures .0 ∙ ap (λ (xs : List ℕ). xs ++ wordRefused ++ decimalOf (a .n)) (e .ensures .0) in
+    (c .word .ensures .0 ∙ ap (λ (xs : List ℕ). xs ++ closingTwo) number, omega (arith, c .word .ensures .1, n .ensures .1, e .ensures .1))
 
 pub mb-refused-spec : {M : Type 1} → statement M
 mb-refused-spec = tie.close (tie.spec place-requires slice-aggregate-numbered numbered-requires slice-aggregate-word word-requires returns)

@@ -2,6 +2,7 @@
 use mathlib.Core.List.{List, _++_}
 use mathlib.Core.Path.{ap, _∙_}
 use Prim.Native.Nat.{ℕ}
+use native.Mathlib.Omega.{arith}
 use borrow.Author.Needs.{needs}
 use Rattle.still_lines.specs.Decimal.{decimalOf}
 use Rattle.still_lines.specs.Text.{closing, space, wordPicture}
@@ -45,12 +46,14 @@ returns c =
     let e = c .before .before .before .before .numbered3 in
     let f = c .before .before .before .before .before .before .numbered2 in
     let g = c .before .before .before .before .before .before .before .before .numbered in
-    let a = c .before .before .before .before .before .before .before .before .before .before .args in
-    c .word .ensures .0
-    ∙ ap (λ (xs : List ℕ). xs ++ closing) (d .ensures .0
-    ∙ ap (λ (xs : List ℕ). xs ++ space ++ decimalOf (a .m)) (e .ensures .0
-    ∙ ap (λ (xs : List ℕ). xs ++ space ++ decimalOf (a .d)) (f .ensures .0
-    ∙ ap (λ (xs : List ℕ). xs ++ space ++ decimalOf (a .h)) (g .ensures .0))))
+    let a = c .before .before .before .before .before .before .before .before .before .before .args in (
+      c .word .ensures .0
+          ∙ ap (λ (xs : List ℕ). xs ++ closing) (d .ensures .0
+          ∙ ap (λ (xs : List ℕ). xs ++ space ++ decimalOf (a .m)) (e .ensures .0
+          ∙ ap (λ (xs : List ℕ). xs ++ space ++ decimalOf (a .d)) (f .ensures .0
+          ∙ ap (λ (xs : List ℕ). xs ++ space ++ decimalOf (a .h)) (g .ensures .0)))),
+      omega (arith, c .word .ensures .1, d .ensures .1, e .ensures .1, f .ensures .1, g .ensures .1, c .before .before .before .before .before .before .before .before .before .before .pre),
+    )
 
 pub picture-line-spec : {M : Type 1} → statement M
 picture-line-spec = tie.close (tie.spec slice-aggregate-numbered numbered-requires slice-aggregate-numbered-2 numbered-requires-2 slice-aggregate-numbered-3 numbered-requires-3 slice-aggregate-numbered-4 numbered-requires-4 slice-aggregate-word word-requires returns)

@@ -2,6 +2,7 @@
 use mathlib.Core.List.{List, _++_}
 use mathlib.Core.Path.{ap, _∙_}
 use Prim.Native.Nat.{ℕ}
+use native.Mathlib.Omega.{arith}
 use borrow.Author.Needs.{needs}
 use Rattle.still_lines.specs.Decimal.{decimalOf}
 use Rattle.still_lines.specs.Text.{closing, wordPictureRefused}
@@ -29,7 +30,7 @@ returns c =
     let n = c .before .before .numbered in
     let e = c .before .before .before .before .empty in
     let said-number = n .ensures .0 ∙ ap (λ (xs : List ℕ). xs ++ wordPictureRefused ++ decimalOf (c .before .before .before .before .before .args .n)) (e .ensures .0) in
-    c .word .ensures .0 ∙ ap (λ (xs : List ℕ). xs ++ closing) said-number
+    (c .word .ensures .0 ∙ ap (λ (xs : List ℕ). xs ++ closing) said-number, omega (arith, c .word .ensures .1, n .ensures .1, e .ensures .1))
 
 pub picture-refused-spec : {M : Type 1} → statement M
 picture-refused-spec = tie.close (tie.spec empty-requires slice-aggregate-numbered numbered-requires slice-aggregate-word word-requires returns)

@@ -29,7 +29,8 @@ unfolding space wordMb
 returns c =
     let m = c .before .before .numbered in
     let e = c .before .before .before .before .empty in (
-      c .numbered2 .ensures .0 ∙ ap (λ (xs : List ℕ). xs ++ space ++ decimalOf (c .before .before .before .before .before .args .row)) (m .ensures .0 ∙ ap (λ (xs : List ℕ). xs ++ wordMb ++ decimalOf (c .before .before .before .before .before .args .column)) (e .ensures .0)),
+      c .numbered2 .ensures .0 ∙ ap (λ (xs : List ℕ). xs ++ space ++ decimalOf (c .before .before .before .before .before .args .row))
+          (m .ensures .0 ∙ ap (λ (xs : List ℕ). xs ++ wordMb ++ decimalOf (c .before .before .before .before .before .args .column)) (e .ensures .0)),
       omega (arith, c .numbered2 .ensures .1, m .ensures .1, e .ensures .1),
     )
 

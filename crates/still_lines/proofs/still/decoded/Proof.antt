@@ -102,10 +102,13 @@ returns c =
     let e = sym (c .before .before .before .answer .given .1) ∙ d .0 ∙ ap (λ (y : Input). answerOut p y (now (a .store))) x in (
       (
         ap (stillDecoded (a .s)) e,
-        c .mb-refused .ensures
-            ∙ ap₂ (λ (u v : ℕ). mbRefusedText u v (c .before .number .result)) (m .before .before .before .before .column-of .ensures) (m .before .before .before .row-of .ensures)
-            ∙ ap (λ (n : ℕ). mbRefusedText (columnOf p) (rowOf p) n) (c .before .number .ensures)
-            ∙ ap (textDecoded p (samplesOut p (brought s) (now (a .store)))) e,
+        (
+          c .mb-refused .ensures .0
+              ∙ ap₂ (λ (u v : ℕ). mbRefusedText u v (c .before .number .result)) (m .before .before .before .before .column-of .ensures) (m .before .before .before .row-of .ensures)
+              ∙ ap (λ (n : ℕ). mbRefusedText (columnOf p) (rowOf p) n) (c .before .number .ensures)
+              ∙ ap (textDecoded p (samplesOut p (brought s) (now (a .store)))) e,
+          c .mb-refused .ensures .1,
+        ),
       ),
       (d .1 .0 ∙ ap (λ (y : Input). samplesOut p y (now (a .store))) x, d .1 .1 .0 ∙ ap (λ (y : Input). storeOut p y (now (a .store))) x),
     )
@@ -135,9 +138,12 @@ returns-2 c =
     let e = sym (j .before .answer2 .given .1) ∙ d .0 ∙ ap (λ (y : Input). answerOut p y (now (a .store))) x in (
       (
         ap (stillDecoded (a .s)) e,
-        c .mb-line .ensures
-            ∙ (λ i. mbText (column i) (row i) (j .before .answer2 .given .0 .0) (luma i .least) (luma i .greatest) (cb i .least) (cb i .greatest) (cr i .least) (cr i .greatest))
-            ∙ ap (textDecoded p (samplesOut p (brought s) (now (a .store)))) e,
+        (
+          c .mb-line .ensures .0
+              ∙ (λ i. mbText (column i) (row i) (j .before .answer2 .given .0 .0) (luma i .least) (luma i .greatest) (cb i .least) (cb i .greatest) (cr i .least) (cr i .greatest))
+              ∙ ap (textDecoded p (samplesOut p (brought s) (now (a .store)))) e,
+          c .mb-line .ensures .1,
+        ),
       ),
       (after, d .1 .1 .0 ∙ ap (λ (y : Input). storeOut p y (now (a .store))) x),
     )

@@ -23,8 +23,8 @@ picture-refused-requires c κs = search needs
 enum-known-answer-2 : tie.Need-enum-known-answer-2
 enum-known-answer-2 c = search needs
 
-finish-requires : tie.Need-finish-requires
-finish-requires c κs = search needs
+ended-requires : tie.Need-ended-requires
+ended-requires c κs = search needs
 
 picture-line-requires : tie.Need-picture-line-requires
 picture-line-requires c κs = search needs
@@ -36,7 +36,10 @@ returns c =
     let a = o .before .args in
     let e = sym (k .before .answer .given .1) ∙ o .open .ensures in (
       ap (stillOpened (a .s)) e,
-      c .picture-refused .ensures ∙ ap pictureRefusedText (c .before .number .ensures) ∙ ap (textOpened (a .s) (a .w) (a .h) (a .d) (a .m)) e,
+      (
+        c .picture-refused .ensures .0 ∙ ap pictureRefusedText (c .before .number .ensures) ∙ ap (textOpened (a .s) (a .w) (a .h) (a .d) (a .m)) e,
+        c .picture-refused .ensures .1,
+      ),
     )
 
 returns-2 : tie.Need-returns-2
@@ -46,7 +49,11 @@ returns-2 c =
     let a = o .before .args in
     let e = sym (k .before .answer2 .given .1) ∙ o .open .ensures in (
       ap (stillOpened (a .s)) e,
-      c .picture-line .ensures ∙ ap (λ (xs : List ℕ). pictureText xs (a .w) (a .h) (a .d) (a .m)) (c .before .finish .ensures .0) ∙ ap (textOpened (a .s) (a .w) (a .h) (a .d) (a .m)) e,
+      (
+        c .picture-line .ensures .0 ∙ ap (λ (xs : List ℕ). pictureText xs (a .w) (a .h) (a .d) (a .m)) (c .before .ended .ensures .0) ∙ ap
+            (textOpened (a .s) (a .w) (a .h) (a .d) (a .m)) e,
+        c .picture-line .ensures .1,
+      ),
     )
 
 pub opened-spec : {M : Type 1} → statement M
@@ -58,7 +65,7 @@ opened-spec =
     number-requires
     picture-refused-requires
     enum-known-answer-2
-    finish-requires
+    ended-requires
     picture-line-requires
     returns
     returns-2)

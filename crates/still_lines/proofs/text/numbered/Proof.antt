@@ -14,7 +14,11 @@ number-requires : tie.Need-number-requires
 number-requires c κs = omega (arith, c .word .ensures .1)
 
 returns : tie.Need-returns
-returns c = (c .number .ensures .0 ∙ ap (λ (xs : List ℕ). xs ++ decimalOf (c .before .before .before .args .n)) (c .before .word .ensures .0), omega (arith, c .number .ensures .1, c .before .word .ensures .1))
+returns c = (
+  c .number .ensures .0 ∙ ap (λ (xs : List ℕ). xs ++ decimalOf (c .before .before .before .args .n)) (c .before .word .ensures .0),
+  omega
+      (arith, c .number .ensures .1, c .before .word .ensures .1),
+)
 
 pub numbered-spec : {M : Type 1} → statement M
 numbered-spec = tie.close (tie.spec word-requires number-requires returns)

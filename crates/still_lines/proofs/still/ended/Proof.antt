@@ -1,12 +1,12 @@
--- `still_lines::still::finish` meets its contract. Assumes nothing.
+-- `still_lines::still::ended` meets its contract. Assumes nothing.
 use mathlib.Core.Bool.{Bool, cond}
 use mathlib.Core.List.{[]}
 use mathlib.Core.Path.{ap, sym, _∙_}
 use native.Mathlib.Omega.{arith}
 use borrow.Author.Needs.{needs}
 use Rattle.still_lines.specs.Text.{endText}
-use Rattle.still_lines.proofs.still.finish.Statement.{statement}
-use Rattle.still_lines.proofs.still.finish.Tie as tie
+use Rattle.still_lines.proofs.still.ended.Statement.{statement}
+use Rattle.still_lines.proofs.still.ended.Tie as tie
 
 end-line-requires : tie.Need-end-line-requires
 end-line-requires c κs = search needs
@@ -24,5 +24,5 @@ returns-2 c =
     let a = c .before .before .before .args in
     (c .empty .ensures .0 ∙ sym (ap (λ (t : Bool). cond t (endText (a .s .picture .accepted)) []) (c .before .if1 .left)), omega (arith, c .empty .ensures .1))
 
-pub finish-spec : {M : Type 1} → statement M
-finish-spec = tie.close (tie.spec end-line-requires returns empty-requires returns-2)
+pub ended-spec : {M : Type 1} → statement M
+ended-spec = tie.close (tie.spec end-line-requires returns empty-requires returns-2)

@@ -1,0 +1,97 @@
+-- `still::byte`: what is said lies within the lent bytes. Assumes nothing.
+use mathlib.Core.Path.{sym, _∙_}
+use borrow.Author.Needs.{needs}
+use denote.Ref.{now}
+use lib.Seq.{length-take-le}
+use Rattle.still_lines.proofs.StepLaws.{said-fits}
+use Rattle.still_lines.specs.Steps.{fedOf, lineAfter, roomy, textFed}
+use Rattle.still.proofs.byte.Statement.{statement}
+use Rattle.still.proofs.byte.Tie as tie
+
+step-requires : tie.Need-step-requires
+step-requires c κs = search needs
+
+enum-told : tie.Need-enum-told
+enum-told c = search needs
+
+enum-known-s : tie.Need-enum-known-s
+enum-known-s c = search needs
+
+slice-reshare-prefix-write-all : tie.Need-slice-reshare-prefix-write-all
+slice-reshare-prefix-write-all c =
+    let k = c .before .before .before .before .before .before .before .before .before .before .before in
+    let a = k .before .before .before .before .before .before .before .before .before .args in
+    let l = lineAfter (now (a .line)) (a .r .n) (a .b) in
+    said-fits (roomy (now (a .line)) (now (a .«data»)) (now (a .out))) _ _ (textFed (a .r .still) l (now (a .samples)) (now (a .store)) (fedOf (a .r .n) (a .b)))
+    (now (a .out)) (sym (c .before .s .given .1) ∙ k .step .ensures .0) (k .step .ensures .1 .1 .1 .1 .1)
+
+slice-aggregate-write-all : tie.Need-slice-aggregate-write-all
+slice-aggregate-write-all c =
+    let k = c .before .before .before .before .before .before .before .before .before .before .before .before in
+    let a = k .before .before .before .before .before .before .before .before .before .args in
+    let l = lineAfter (now (a .line)) (a .r .n) (a .b) in
+    sym (length-take-le _ _ (said-fits (roomy (now (a .line)) (now (a .«data»)) (now (a .out))) _ _
+    (textFed (a .r .still) l (now (a .samples)) (now (a .store)) (fedOf (a .r .n) (a .b))) (now (a .out)) (sym (c .before .before .s .given .1) ∙ k .step .ensures .0)
+    (k .step .ensures .1 .1 .1 .1 .1)))
+
+write-all-requires : tie.Need-write-all-requires
+write-all-requires c κs = search needs
+
+same-length : tie.Need-same-length
+same-length c = search needs
+
+same-length-2 : tie.Need-same-length-2
+same-length-2 c = search needs
+
+same-length-3 : tie.Need-same-length-3
+same-length-3 c = search needs
+
+same-length-4 : tie.Need-same-length-4
+same-length-4 c = search needs
+
+same-length-5 : tie.Need-same-length-5
+same-length-5 c = search needs
+
+returns : tie.Need-returns
+returns c = search needs
+
+same-length-6 : tie.Need-same-length-6
+same-length-6 c = search needs
+
+same-length-7 : tie.Need-same-length-7
+same-length-7 c = search needs
+
+same-length-8 : tie.Need-same-length-8
+same-length-8 c = search needs
+
+same-length-9 : tie.Need-same-length-9
+same-length-9 c = search needs
+
+same-length-10 : tie.Need-same-length-10
+same-length-10 c = search needs
+
+returns-2 : tie.Need-returns-2
+returns-2 c = search needs
+
+pub byte-spec : {M : Type 1} → statement M
+byte-spec =
+    tie.close
+    (tie.spec
+    step-requires
+    enum-told
+    enum-known-s
+    slice-reshare-prefix-write-all
+    slice-aggregate-write-all
+    write-all-requires
+    same-length
+    same-length-2
+    same-length-3
+    same-length-4
+    same-length-5
+    returns
+    same-length-6
+    same-length-7
+    same-length-8
+    same-length-9
+    same-length-10
+    returns-2)

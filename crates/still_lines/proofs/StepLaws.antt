@@ -1,0 +1,78 @@
+-- What one step tells and leaves, by what was fed and by the room that is lent. Assumes nothing.
+use mathlib.Core.Bool.{Bool, cond, false, true}
+use mathlib.Core.List.{List}
+use mathlib.Core.Path.{_≡_, ap, refl, subst, subst⁻¹}
+use Prim.Native.Nat.{ℕ, _≤_}
+use native.Mathlib.Omega.{arith}
+use lib.IntN.{ℤ}
+use lib.ListN.{drop, length, length-append}
+use Rattle.forms.specs.Forms.{longest}
+use Rattle.still_lines.proofs.LineLaws.{fed-inside, line-long, rest-inside}
+use Rattle.still_lines.proofs.RoomLaws.{done, undone}
+use Rattle.still_lines.specs.Steps.{Inside, countFed, dataFed, fedOf, lineAfter, restOf, saidInto, samplesFed, stillFed, storeFed, textFed, went}
+use Rattle.still_lines.specs.declared.lines.Fed.{Fed}
+use Rattle.still_lines.specs.declared.lines.Fed.the-variants.{Ended, Kept, Skipped}
+use Rattle.still_lines.specs.declared.steps.Reading.{Reading}
+use Rattle.still_lines.specs.declared.steps.Stepped.the-variants.{TooShort, Went}
+use Rattle.still_lines.specs.declared.still.Still.{Still}
+
+-- ---- what is fed is no longer than the lent line
+
+pub fed-fits : {l : List ℕ} {f : Fed} (line : List ℕ) (n b : ℕ) → longest ≤ length line → f ≡ fedOf n b → l ≡ lineAfter line n b → Inside (length l) f
+fed-fits {l} line n b h e p =
+    let k : length l ≡ length (lineAfter line n b) = ap length p in
+    subst⁻¹ (Inside (length l)) e (fed-inside (length l) (omega (arith, line-long line n b)) n b)
+
+pub rest-fits : {f : Fed} (line : List ℕ) (n : ℕ) → longest ≤ length line → f ≡ restOf n → Inside (length line) f
+rest-fits line n h e = subst⁻¹ (Inside (length line)) e (rest-inside (length line) h n)
+
+pub ended-fits : (room : ℕ) {f : Fed} {n : ℕ} → Inside room f → f ≡ Ended n → n ≤ room
+ended-fits room i e = subst (Inside room) e i
+
+-- ---- what a step tells and leaves where there is room
+
+module _ (s : Still) (samples store : List ℤ) (old out : List ℕ) where
+  abbrev pub Tells : List ℕ → Fed → Still → ℕ → ℕ → List ℕ → List ℤ → List ℤ → List ℕ → Type 0
+  Tells line f still n said bytes ss st text =
+      ((still ≡ stillFed s line samples store f) × ((n ≡ countFed f) × ((said ≡ length (textFed s line samples store f)) × (said ≤ 256))))
+      × ((bytes ≡ dataFed line old f) × ((ss ≡ samplesFed s line samples store f) ×
+      ((st ≡ storeFed s line samples store f) × (text ≡ saidInto (textFed s line samples store f) out))))
+
+  pub told-kept : (line : List ℕ) {f : Fed} {n : ℕ} → f ≡ Kept n → Tells line f s n 0 old samples store out
+  told-kept line {f} {n} e = subst⁻¹ (λ (g : Fed). Tells line g s n 0 old samples store out) e ((refl, (refl, (refl, omega arith))), (refl, (refl, (refl, refl))))
+
+  pub told-skipped : (line : List ℕ) {f : Fed} → f ≡ Skipped → Tells line f s 0 0 old samples store out
+  told-skipped line e = subst⁻¹ (λ (g : Fed). Tells line g s 0 0 old samples store out) e ((refl, (refl, (refl, omega arith))), (refl, (refl, (refl, refl))))
+
+  module _ {still : Still} {n said : ℕ} {bytes : List ℕ} {ss st : List ℤ} {text : List ℕ} where
+    pub told-ended : (line : List ℕ) {f : Fed} {k : ℕ} → f ≡ Ended k → Tells line (Ended k) still n said bytes ss st text → Tells line f still n said bytes ss st text
+    told-ended line e t = subst⁻¹ (λ (g : Fed). Tells line g still n said bytes ss st text) e t
+
+    -- the line and what was fed, by their equations
+    pub moved : {line new : List ℕ} {f g : Fed} → line ≡ new → f ≡ g → Tells line f still n said bytes ss st text → Tells new g still n said bytes ss st text
+    moved {new = new} {f} p q t = subst (λ (h : Fed). Tells new h still n said bytes ss st text) q (subst (λ (l : List ℕ). Tells l f still n said bytes ss st text) p t)
+
+-- ---- what is left of the lent memory, with room and without
+
+module _ (room : Bool) (s : Still) (line : List ℕ) (samples store : List ℤ) (f : Fed) (old out said : List ℕ) where
+  abbrev pub Left : List ℕ → List ℤ → List ℤ → List ℕ → Type 0
+  Left bytes ss st text =
+      (bytes ≡ cond room (dataFed line old f) old) ×
+      ((ss ≡ cond room (samplesFed s line samples store f) samples) ×
+      ((st ≡ cond room (storeFed s line samples store f) store) × (text ≡ cond room (saidInto said out) out)))
+
+  pub left-alone : room ≡ false → Left old samples store out
+  left-alone e = (undone _ _ e, (undone _ _ e, (undone _ _ e, undone _ _ e)))
+
+  pub left-done : {bytes : List ℕ} {ss st : List ℤ} {text : List ℕ} → room ≡ true
+      → bytes ≡ dataFed line old f → ss ≡ samplesFed s line samples store f → st ≡ storeFed s line samples store f → text ≡ saidInto said out → Left bytes ss st text
+  left-done e a b c d = (done _ _ e a, (done _ _ e b, (done _ _ e c, done _ _ e d)))
+
+-- ---- what is said lies within the lent bytes
+
+pub said-fits : (room : Bool) (s : Still) (m : ℕ) (text out : List ℕ) {r : Reading} {n : ℕ} {new : List ℕ}
+    → Went r n ≡ cond room (went s m text) TooShort → new ≡ cond room (saidInto text out) out → n ≤ length new
+said-fits true s m text out {n = n} e f =
+    let k : n ≡ length text = cc in
+    omega (arith, ap length f, length-append text (drop (length text) out))
+said-fits false s m text out e f = absurd (let z : _≡_ {A = ℕ} 0 1 = cc in omega arith)
