@@ -5,6 +5,8 @@
  *
  * Every function ends for every input. Where `state`, `matrix`, `neighbours` or `answer` is shorter than it has to be, the function
  * gives VAXEMBRO_TOO_SHORT and writes nothing.
+ *
+ * docs/REFUSALS.md says when each number is given, with which figure, and in which order the tests are asked.
  */
 #ifndef VAXEMBRO_H
 #define VAXEMBRO_H

@@ -1,5 +1,5 @@
 // The decoder from Rust: a crate of one file with safe types over its C interface, without std and without allocation. The folder of
-// libc_interface.a goes by -L.
+// libc_interface.a goes by -L. docs/REFUSALS.md says when each number of a refusal is given, with which figure, and in which order.
 #![no_std]
 
 use core::fmt;

@@ -1,17 +1,19 @@
 -- A call in a picture: its answer, samples and store, and demand 3, by what the state and the reader say. Assumes nothing.
 use mathlib.Core.Bool.{Bool}
-use mathlib.Core.List.{List}
-use mathlib.Core.Path.{_≡_, ap, subst, subst⁻¹, sym, _∙_}
+use mathlib.Core.List.{List, _++_}
+use mathlib.Core.Path.{_≡_, ap, refl, subst, subst⁻¹, sym, _∙_}
 use Prim.Native.Nat.{ℕ, _+_, _-_, _*_, _<_, _≤_}
 use native.Mathlib.Omega.{arith}
 use lib.IntN.{ℤ}
 use lib.ListN.{length}
+use Rattle.numbers.specs.Outcome.{checked}
 use Rattle.bits.proofs.CursorLaws.{in-data-yes}
 use Rattle.bits.specs.Cursor.{cursorAt}
 use Rattle.bits.specs.declared.cursor.Cursor.{Cursor}
 use Rattle.texture.specs.Answer.{after}
 use Rattle.texture.specs.Macroblock.{Parts}
 use Rattle.texture.specs.Reader.{Res}
+use Rattle.block.proofs.OutcomeLaws.{answered, read-by}
 use Rattle.block.proofs.ValueLaws.{depth-fine}
 use Rattle.block.specs.Rows.{rowsOf}
 use Rattle.block.specs.declared.error.BlockAssemblyError.{BlockAssemblyError}
@@ -27,8 +29,10 @@ use Rattle.picture.proofs.SerialLaws.{kept-is, turn-fine, up-sound}
 use Rattle.picture.proofs.StateLaws.{FirstFine, state-first}
 use Rattle.picture.specs.Call.{Input, answerBy, answerOut, answerTold, aroundHere, contextHere, recordHere, samplesOut, samplesTold, sentenceHere, stateHere, storeOut, storeTold, valuesHere}
 use Rattle.picture.specs.InPicture.{Accepted, Begun, DemandInPicture, Promise, Told, kept}
+use Rattle.picture.specs.Outcomes.{callDue, callNumbers, callSaid, pictureOutcome}
 use Rattle.picture.specs.Picture.{onward}
 use Rattle.picture.specs.Ring.{offset}
+use Rattle.picture.specs.State.{firstTests, laterTests, stateBy}
 use Rattle.picture.specs.declared.call.PictureDecoded.{PictureDecoded}
 use Rattle.picture.specs.declared.call.PictureDecoded.the-variants.{Decoded, Refused}
 use Rattle.picture.specs.declared.picture.Picture.{Picture}
@@ -49,20 +53,32 @@ module _ (p : Picture) (x : Input) (store : List ℤ) where
   -- what the public contract says
   abbrev pub Meets : PictureDecoded → List ℤ → List ℤ → Type 0
   Meets r out st =
-      (r ≡ answerOut p x store) × ((out ≡ samplesOut p x store) × ((st ≡ storeOut p x store) × DemandInPicture p x store r out st))
+      (r ≡ answerOut p x store)
+      × ((out ≡ samplesOut p x store) × ((st ≡ storeOut p x store) × (DemandInPicture p x store r out st × (pictureOutcome r ≡ callDue p x store))))
+
+  -- the answer by number
+  by-number : {r : PictureDecoded} → r ≡ answerOut p x store → pictureOutcome r ≡ callDue p x store
+  unfolding answerOut stateBy
+  by-number e =
+      ap pictureOutcome e
+      ∙ answered pictureOutcome (λ (k : Checked). answerBy k (answerTold p (x .bytes) (x .start) (sentenceHere p x))) (λ e. refl)
+      (firstTests p (x .bytes) (x .start) (contextHere p x) (x .matrix) (length (x .samples)) (length store) ++ laterTests p (x .bytes) (x .start) (x .header) (contextHere p x) (aroundHere p x store))
+      (refl, (refl, (refl, (refl, (refl, (refl, (refl, (refl, (refl, tt)))))))))
+      ∙ ap (checked (callNumbers p x store)) (read-by pictureOutcome (answerTold p (x .bytes) (x .start)) (callSaid p x store) (x .bytes) (λ a r. refl) (λ e. refl) (sentenceHere p x))
 
   pub refused : {e : BlockAssemblyError} → stateHere p x store ≡ Bad e → Meets (Refused e) (x .samples) store
   unfolding answerOut samplesOut storeOut
-  refused {e} q = (
-    sym (ap (λ (s : Checked). answerBy s (answerTold p (x .bytes) (x .start) (sentenceHere p x))) q),
-    (
-      sym (ap (λ (s : Checked). keptBy s (samplesRead (sentenceHere p x)) (x .samples)) q),
-      (
-        sym (ap (λ (s : Checked). keptBy s (storeRead (sentenceHere p x)) store) q),
-        λ f. absurd (let z : _≡_ {A = ℕ} 0 1 = cc in omega arith),
-      ),
-    ),
-  )
+  refused {e} q =
+      let a = sym (ap (λ (s : Checked). answerBy s (answerTold p (x .bytes) (x .start) (sentenceHere p x))) q) in (
+        a,
+        (
+          sym (ap (λ (s : Checked). keptBy s (samplesRead (sentenceHere p x)) (x .samples)) q),
+          (
+            sym (ap (λ (s : Checked). keptBy s (storeRead (sentenceHere p x)) store) q),
+            (λ f. absurd (let z : _≡_ {A = ℕ} 0 1 = cc in omega arith), by-number a),
+          ),
+        ),
+      )
 
   module _ (q : stateHere p x store ≡ Fine) (r : PictureDecoded) (out st : List ℤ)
       (e : r ≡ answerTold p (x .bytes) (x .start) (sentenceHere p x)) (f : out ≡ samplesRead (sentenceHere p x)) (g : st ≡ storeRead (sentenceHere p x)) where
@@ -121,15 +137,16 @@ module _ (p : Picture) (x : Input) (store : List ℤ) where
       earlier = earlier-is;
     }
 
-    pub checked : Meets r out st
+    pub whole : Meets r out st
     unfolding answerOut samplesOut storeOut
-    checked = (
-      e ∙ sym (ap (λ (s : Checked). answerBy s (answerTold p (x .bytes) (x .start) (sentenceHere p x))) q),
-      (
-        f ∙ sym (ap (λ (s : Checked). keptBy s (samplesRead (sentenceHere p x)) (x .samples)) q),
-        (
-          g ∙ sym (ap (λ (s : Checked). keptBy s (storeRead (sentenceHere p x)) store) q),
-          λ _. promise,
-        ),
-      ),
-    )
+    whole =
+        let a = e ∙ sym (ap (λ (s : Checked). answerBy s (answerTold p (x .bytes) (x .start) (sentenceHere p x))) q) in (
+          a,
+          (
+            f ∙ sym (ap (λ (s : Checked). keptBy s (samplesRead (sentenceHere p x)) (x .samples)) q),
+            (
+              g ∙ sym (ap (λ (s : Checked). keptBy s (storeRead (sentenceHere p x)) store) q),
+              (λ _. promise, by-number a),
+            ),
+          ),
+        )

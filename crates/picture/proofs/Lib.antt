@@ -3,3 +3,4 @@ pub mod StateLaws
 pub mod RingLaws
 pub mod SerialLaws
 pub mod CallLaws
+pub mod TurnLaws

@@ -1,5 +1,5 @@
 -- Six blocks one after the other: nothing is refused, the record is sound, and it gives back what was worked out. Assumes nothing.
-use mathlib.Core.Bool.{Bool, cond, true}
+use mathlib.Core.Bool.{true}
 use mathlib.Core.List.{List, []}
 use mathlib.Core.Logic.{⊎-elim}
 use mathlib.Core.Path.{_≡_, ap, ap₂, refl, subst, subst⁻¹, sym, _∙_}
@@ -9,25 +9,23 @@ use native.Mathlib.Numerals.{add-one}
 use native.Mathlib.Omega.{arith}
 use lib.IntN.{ℤ, natAbs, pos}
 use lib.ListN.{getD}
-use borrow.Author.Tests.{le-leb}
 use Rattle.coefficients.proofs.BlockTests.{test-at}
 use Rattle.coefficients.proofs.LevelLaws.{levels-fine}
-use Rattle.coefficients.proofs.RangeLaws.{abs-dc, quantiser-range}
-use Rattle.coefficients.specs.Level.{blockFine, placesFine}
+use Rattle.coefficients.proofs.RangeLaws.{abs-dc}
+use Rattle.coefficients.specs.Level.{blockFine, predictorsFine}
 use Rattle.idct.specs.Limits.{valuesFine}
 use Rattle.numbers.proofs.Fill.{getD-build, lt-or-le}
 use Rattle.numbers.specs.Grid.{build, cell}
 use Rattle.ranges.specs.Range.{levelFine}
 use Rattle.block.proofs.AnswerLaws.{values-fine, values-small}
-use Rattle.block.proofs.ValueLaws.{depth-fine, levels-left, quantiser-fine, values-left}
+use Rattle.block.proofs.ValueLaws.{depth-fine, quantiser-fine}
 use Rattle.codes.specs.Component.{componentAt}
-use Rattle.block.specs.Values.{contextFine, levelsLeft, valuesLeft}
+use Rattle.block.specs.Values.{contextFine}
 use Rattle.block.specs.declared.context.MacroblockTextureContext.{MacroblockTextureContext}
-use Rattle.neighbours.proofs.RecordLaws.{known-other, known-own, quantiser-at, record-whole}
-use Rattle.neighbours.proofs.SideLaws.{taken-is}
+use Rattle.neighbours.proofs.RecordLaws.{known-other, known-own, quantiser-at}
 use Rattle.neighbours.proofs.SoundLaws.{Sound, blank-sound, taken-fine, with-block-sound}
-use Rattle.neighbours.specs.Neighbours.{Around, neighboursFine, predictors, taken}
-use Rattle.neighbours.specs.Record.{blank, knownOf, quantiserOf, recordAt, withBlock}
+use Rattle.neighbours.specs.Neighbours.{Around, neighboursFine, predictors}
+use Rattle.neighbours.specs.Record.{blank, knownOf, quantiserOf, withBlock}
 use Rattle.neighbours.specs.declared.record.Side.{Side}
 use Rattle.picture.specs.Serial.{keptAs, levelsAt, levelsInTurn, recordOf, recordUpTo, valuesAt, valuesInTurn}
 
@@ -61,21 +59,8 @@ module _ (x : MacroblockTextureContext) (w : List (List ℕ)) (ar : Around) (row
 
     -- ---- a turn
 
-    module _ (n : neighboursFine (x .«bits_per_pixel») q ar (blank q) ≡ true) (i : ℕ) (l : i < 6) (f : placesFine (getD rows i []) ≡ true) where
-      pub turn-levels : levelsLeft (componentAt i) x (predictors (x .«bits_per_pixel») q ar (upTo i) i) (getD rows i []) ≡ levelsAt x w ar rows (upTo i) i
-      turn-levels = levels-left (componentAt i) x _ (getD rows i []) (quantiser-fine x w h) (taken-fine (x .«bits_per_pixel») q ar (blank q) (upTo i) n (up-sound i (omega arith)) i l) f
-
-      pub turn-value : valuesLeft (componentAt i) x w (levelsAt x w ar rows (upTo i) i) ≡ valuesAt x w ar rows (upTo i) i
-      turn-value = values-left x w h (componentAt i) _ (levels-in (upTo i) i)
-
-    pub turn-taken : (depth q′ : ℕ) → depth ≡ x .«bits_per_pixel» → q′ ≡ q → (i : ℕ) → i < 6 → (own : List ℤ) → own ≡ upTo i → taken depth q′ ar (recordAt own 0) i ≡ predictors (x .«bits_per_pixel») q ar (upTo i) i
-    turn-taken depth q′ e f i l own k =
-        taken-is depth q′ ar (recordAt own 0) i l
-        ∙ ap₂ (λ (d p : ℕ). predictors d p ar (recordAt own 0) i) e f
-        ∙ ap (λ (o : List ℤ). predictors (x .«bits_per_pixel») q ar o i) (ap (λ (o : List ℤ). recordAt o 0) k ∙ record-whole (upTo i) (up-sound i (omega arith) .long))
-
-    pub turn-dc : (i : ℕ) → natAbs (cell (valuesAt x w ar rows (upTo i) i) 0 0) ≤ 32768
-    turn-dc i = values-small (componentAt i) x w (levelsAt x w ar rows (upTo i) i) (depth-fine x w h)
+    pub turn-predictors : neighboursFine (x .«bits_per_pixel») q ar (blank q) ≡ true → (i : ℕ) → i < 6 → predictorsFine (predictors (x .«bits_per_pixel») q ar (upTo i) i) ≡ true
+    turn-predictors n i l = taken-fine (x .«bits_per_pixel») q ar (blank q) (upTo i) n (up-sound i (omega arith)) i l
 
     pub turn-record : (i : ℕ) (own : List ℤ) (dc : ℤ) (qf : List (List ℤ)) → own ≡ upTo i → dc ≡ cell (valuesAt x w ar rows (upTo i) i) 0 0 → qf ≡ levelsAt x w ar rows (upTo i) i
         → withBlock own i dc qf ≡ upTo (i + 1)
@@ -87,7 +72,7 @@ module _ (x : MacroblockTextureContext) (w : List (List ℕ)) (ar : Around) (row
 
     pub up-quantiser : (i : ℕ) → i ≤ 6 → getD (upTo i) 90 (pos 0) ≡ pos q
     unfolding recordUpTo blank
-    up-quantiser zero l = ap (λ (t : Bool). pos (cond t q 0)) (le-leb q 31 (quantiser-range q (quantiser-fine x w h) .1))
+    up-quantiser zero l = refl
     up-quantiser (suc i) l = quantiser-at (upTo i) i _ _ (up-sound i (omega arith) .long) l ∙ up-quantiser i (omega arith)
 
     abbrev sideAt : ℕ → Side

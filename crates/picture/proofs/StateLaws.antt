@@ -2,13 +2,15 @@
 use mathlib.Core.Bool.{Bool, cond, true, _&&_}
 use mathlib.Core.List.{List, _++_}
 use mathlib.Core.Path.{_≡_, ap, ap₂, _∙_}
-use Prim.Native.Nat.{ℕ, _*_, _<_, _≤_}
+use Prim.Native.Nat.{ℕ, _*_, _+_, _-_, _<_, _≤_}
 use native.Mathlib.Nat.{mul-le-mul}
+use native.Mathlib.Omega.{arith}
 use lib.Dec.{leb, ltb}
 use lib.IntN.{ℤ}
 use lib.ListN.{length}
 use borrow.Author.Tests.{leb-true, ltb-true}
 use Rattle.bits.specs.Cursor.{inData}
+use Rattle.numbers.proofs.OutcomeLaws.{two-tests}
 use Rattle.numbers.proofs.Tests.{both-true}
 use Rattle.ranges.specs.Range.{depthFine}
 use Rattle.block.proofs.TestLaws.{all-pass, bad-first, fine-first, first-of}
@@ -22,9 +24,13 @@ use Rattle.block.specs.declared.error.Checked.the-variants.{Bad, Fine}
 use Rattle.macroblock.specs.Header.{headerCheck}
 use Rattle.macroblock.specs.declared.header.MacroblockHeader.{MacroblockHeader}
 use Rattle.neighbours.proofs.RecordLaws.{blank-length, record-whole}
+use Rattle.neighbours.proofs.RefusalLaws.{place-passes}
 use Rattle.neighbours.specs.Neighbours.{Around, aroundBy, neighboursFine}
 use Rattle.neighbours.specs.Record.{blank, recordAt}
+use Rattle.neighbours.specs.Refusals.{placeLies}
 use Rattle.neighbours.specs.declared.place.Place.{Place}
+use Rattle.picture.proofs.RingLaws.{slot-in}
+use Rattle.picture.specs.Outcomes.{openDue, openedOutcome}
 use Rattle.picture.specs.Picture.{openOf, pictureOf, sizeFine}
 use Rattle.picture.specs.Ring.{aroundDue, placeOf}
 use Rattle.picture.specs.State.{firstTests, laterTests, stateBy}
@@ -116,3 +122,15 @@ neighbours-by p q store place own r e f g =
     g
     ∙ ap₂ (λ (y : Place) (o : List ℤ). neighboursFine (y .«bits_per_pixel») (y .«quantiser_scale») (aroundBy y store) (recordAt o 0)) e f
     ∙ ap (neighboursFine (p .«bits_per_pixel») q (aroundBy (placeOf p q) store)) (record-whole (blank q) (blank-length q))
+
+-- 11, then 12, by number
+pub open-due : (w h depth : ℕ) (method : Bool) → openedOutcome (openOf w h depth method) ≡ openDue w h depth method
+open-due w h depth method = two-tests openedOutcome (sizeFine w h) (depthFine depth) _ _ _
+
+-- the records around the macroblock that is due lie in the store
+pub place-lies : (p : Picture) (q stored : ℕ) → 1 ≤ p .width → 192 * p .width ≤ stored → placeLies stored (placeOf p q) ≡ true
+place-lies p q stored h l =
+    place-passes stored (placeOf p q)
+    (λ _. let a = slot-in (p .width) (p .accepted + 2 * p .width - 1) stored h l in omega arith)
+    (λ _. let a = slot-in (p .width) (p .accepted + 2 * p .width - (p .width + 1)) stored h l in omega arith)
+    (λ _. let a = slot-in (p .width) (p .accepted + 2 * p .width - p .width) stored h l in omega arith)

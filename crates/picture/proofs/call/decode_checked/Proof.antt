@@ -1,4 +1,4 @@
--- `picture::call::decode_checked` meets its contract: the sentence that was read, its values, samples and record. Assumes nothing.
+-- `picture::call::decode_checked` meets its contract: the sentence that was read, its samples and its record. Assumes nothing.
 use mathlib.Core.Bool.{Bool}
 use mathlib.Core.List.{List}
 use mathlib.Core.Path.{_≡_, ap, ap₂, refl, sym, _∙_}
@@ -13,20 +13,18 @@ use Rattle.samples.specs.Samples.{samplesAfter}
 use Rattle.texture.specs.Macroblock.{Parts}
 use Rattle.texture.specs.Reader.{Res}
 use Rattle.block.proofs.RowLaws.{SixRead, six-read, six-refused}
-use Rattle.block.proofs.ValueLaws.{depth-fine}
 use Rattle.block.specs.Rows.{blocksAnswer, rowsAfter}
-use Rattle.macroblock.proofs.SixLaws.{samples-six}
 use Rattle.macroblock.specs.Answer.{sentenceOf}
 use Rattle.macroblock.specs.Header.{patternBy}
-use Rattle.macroblock.specs.Six.{samplesLeftOfSix}
+use Rattle.macroblock.specs.Six.{samplesOfSix}
 use Rattle.neighbours.specs.Neighbours.{Around, aroundBy, neighboursFine}
 use Rattle.neighbours.specs.Record.{blank, storedAt}
+use Rattle.neighbours.specs.Refusals.{placeLies}
 use Rattle.neighbours.specs.declared.place.Place.{Place}
-use Rattle.picture.proofs.SerialLaws.{turn-fine}
-use Rattle.picture.proofs.StateLaws.{FirstFine, state-first, state-neighbours}
+use Rattle.picture.proofs.StateLaws.{FirstFine, place-lies, state-first, state-neighbours}
 use Rattle.picture.specs.Call.{answerTold, samplesTold, storeTold}
 use Rattle.picture.specs.Picture.{onward}
-use Rattle.picture.specs.Ring.{aroundDue}
+use Rattle.picture.specs.Ring.{aroundDue, offset}
 use Rattle.picture.specs.Serial.{recordOf, valuesInTurn}
 use Rattle.picture.specs.declared.call.PictureDecoded.the-variants.{Decoded}
 use Rattle.picture.proofs.call.decode_checked.Statement.{statement}
@@ -76,7 +74,7 @@ place-of-requires c κs = let f = fine (c .before .before .before .before .befor
 
 reconstruct-requires : tie.Need-reconstruct-requires
 reconstruct-requires c κs =
-    let o = c .before .before in
+    let o = c .before .before .before in
     let k = o .before in
     let s = k .before .before .before .before .before .before .before in
     let a = s .args in
@@ -85,36 +83,26 @@ reconstruct-requires c κs =
     let f = fine s in
     let n = state-neighbours (a .p) (now (a .«data»)) (a .c .«bit_pos») (a .ctx) (a .w) (length (now (a .samples))) (length (now (a .store))) (a .header) (aroundDue (a .p) q (now (a .store))) (s .pre .0) in (
       refl,
+      refl,
       f .context,
       ap (λ (y : Place). y .«bits_per_pixel») place ∙ sym (s .pre .1),
       ap (λ (y : Place). y .«quantiser_scale») place,
+      ap (placeLies (length (now (a .store)))) place ∙ place-lies (a .p) q (length (now (a .store))) (f .size .w-low) (f .long),
       ap₂ (λ (d : ℕ) (ar : Around). neighboursFine d q ar (blank q)) (s .pre .1) (around o) ∙ n,
-      read k _ _ (k .before .before .before .read-blocks .ensures .1) .fine,
+      read k _ _ (k .before .before .before .read-blocks .ensures .1 .0) .fine,
     )
 
-samples-of-six-requires : tie.Need-samples-of-six-requires
-samples-of-six-requires c κs = search needs
+enum-known-rebuilt : tie.Need-enum-known-rebuilt
+enum-known-rebuilt c = search needs
 
-write-macroblock-requires : tie.Need-write-macroblock-requires
-write-macroblock-requires c κs = search needs
+enum-told : tie.Need-enum-told
+enum-told c = search needs
 
-offset-of-requires : tie.Need-offset-of-requires
-offset-of-requires c κs =
-    let f = fine (c .before .before .before .before .before .before .before .before .before .before .before .before .before .before .before) in
-    (f .size .w-low, f .size .w-high, omega (arith, f .size .cells, f .due), omega arith)
-
-put-record-requires : tie.Need-put-record-requires
-put-record-requires c κs = search needs
-
-add-onward : tie.Need-add-onward
-add-onward c =
-    let f = fine (c .before .before .before .before .before .before .before .before .before .before .before .before .before .before .before .before .before .before .before .before) in
-    omega (arith, f .size .cells, f .due)
-
-sub-bits : tie.Need-sub-bits
-sub-bits c =
-    let k = c .before .before .before .before .before .before .before .before .before .before .before .before .before .before .before in
-    read k _ _ (k .before .before .before .read-blocks .ensures .1) .onward
+kept-requires : tie.Need-kept-requires
+kept-requires c κs =
+    let k = c .before .before .before .before .before .before .before .before .before in
+    let f = fine (k .before .before .before .before .before .before .before) in
+    (f .roomy, f .long, f .size .w-low, f .size .w-high, omega (arith, f .size .cells, f .due), read k _ _ (k .before .before .before .read-blocks .ensures .1 .0) .onward)
 
 returns : tie.Need-returns
 unfolding sentenceOf
@@ -137,16 +125,25 @@ returns c =
 same-length : tie.Need-same-length
 same-length c = search needs
 
+returns-2 : tie.Need-returns-2
+returns-2 c =
+    let t = c .before .rebuilt .given .1 in
+    let u = c .before .before .before .reconstruct .ensures .0 in
+    let z : _≡_ {A = ℕ} 0 1 = cc in
+    absurd (omega arith)
+
 same-length-2 : tie.Need-same-length-2
 same-length-2 c = search needs
 
-returns-2 : tie.Need-returns-2
+same-length-3 : tie.Need-same-length-3
+same-length-3 c = search needs
+
+returns-3 : tie.Need-returns-3
 unfolding sentenceOf
-returns-2 c =
-    let pr = c .before .before .before .before in
-    let wm = pr .before .before .before .before in
-    let rc = wm .before .before .before in
-    let o = rc .before .before .before in
+returns-3 c =
+    let e = c .before .before in
+    let r = e .before .before .before .before .before in
+    let o = r .before .before .before .before in
     let k = o .before in
     let s = k .before .before .before .before .before .before .before in
     let a = s .args in
@@ -154,15 +151,14 @@ returns-2 c =
     let at = a .c .«bit_pos» in
     let x = a .ctx in
     let ar = aroundDue (a .p) (x .«quantiser_scale») (now (a .store)) in
-    let n = read k _ _ (k .before .before .before .read-blocks .ensures .1) in
-    let v = rc .reconstruct .ensures .1 ∙ ap₂ (valuesInTurn x (a .w)) (around o) (n .rows-are) in
-    let b = wm .before .before .samples-of-six .ensures ∙ ap (samplesLeftOfSix x) v ∙ samples-six x _ (depth-fine x (a .w) (fine s .context)) (turn-fine x (a .w) ar _) in
-    let own = rc .reconstruct .ensures .0 ∙ ap₂ (recordOf x (a .w)) (around o) (n .rows-are) in (
-      ap (λ (y : Cursor). Decoded (y .«bit_pos» - at) y (onward (a .p))) (n .place) ∙ sym (ap (answerTold (a .p) d at) (n .read)),
+    let n = read k _ _ (k .before .before .before .read-blocks .ensures .1 .0) in
+    let b = r .reconstruct .ensures .1 .1 ∙ ap₂ (λ (y : Around) (rows : List (List ℤ)). samplesOfSix x (valuesInTurn x (a .w) y rows)) (around o) (n .rows-are) in
+    let own = r .reconstruct .ensures .1 .0 ∙ ap₂ (recordOf x (a .w)) (around o) (n .rows-are) in (
+      e .kept .ensures .0 ∙ ap (λ (y : Cursor). Decoded (y .«bit_pos» - at) y (onward (a .p))) (n .place) ∙ sym (ap (answerTold (a .p) d at) (n .read)),
       (
-        wm .write-macroblock .ensures ∙ ap (λ (bs : List (List (List ℤ))). samplesAfter bs (now (a .samples))) b
+        e .kept .ensures .1 .0 ∙ ap (λ (bs : List (List (List ℤ))). samplesAfter bs (now (a .samples))) b
             ∙ sym (ap (λ (y : Res (List Parts)). samplesTold (a .header) (a .use-intra-dc-vlc) x (a .w) ar y (now (a .samples))) (n .read)),
-        pr .put-record .ensures ∙ ap₂ (storedAt (now (a .store))) (pr .before .before .offset-of .ensures .0) own
+        e .kept .ensures .1 .1 ∙ ap (storedAt (now (a .store)) (offset (a .p .width) (a .p .accepted) 0)) own
             ∙ sym (ap (λ (y : Res (List Parts)). storeTold (a .p) (a .header) (a .use-intra-dc-vlc) x (a .w) ar y (now (a .store))) (n .read)),
       ),
     )
@@ -177,13 +173,12 @@ decode-checked-spec =
     enum-known-answer-2
     place-of-requires
     reconstruct-requires
-    samples-of-six-requires
-    write-macroblock-requires
-    offset-of-requires
-    put-record-requires
-    add-onward
-    sub-bits
+    enum-known-rebuilt
+    enum-told
+    kept-requires
     returns
     same-length
+    returns-2
     same-length-2
-    returns-2)
+    same-length-3
+    returns-3)

@@ -4,7 +4,7 @@ use borrow.Author.Needs.{needs}
 use denote.Ref.{now}
 use lib.ListN.{length}
 use Rattle.block.specs.declared.context.MacroblockTextureContext.{MacroblockTextureContext}
-use Rattle.picture.proofs.CallLaws.{checked, refused}
+use Rattle.picture.proofs.CallLaws.{refused, whole}
 use Rattle.picture.specs.Call.{Input, given, samplesTold, sentenceHere, stateHere, storeTold}
 use Rattle.picture.specs.Ring.{aroundDue}
 use Rattle.picture.specs.State.{stateBy}
@@ -65,7 +65,7 @@ returns-2 c =
     let d = now (a .«data») in
     let x = brought s in
     let e = k .before .before .texture-context .ensures in
-    checked (a .p) x (now (a .store)) (sym (state k) ∙ t .enum-told .given .1) _ _ _
+    whole (a .p) x (now (a .store)) (sym (state k) ∙ t .enum-told .given .1) _ _ _
     (dc .decode-checked .ensures .0)
     (dc .decode-checked .ensures .1 .0
     ∙ ap (λ (y : MacroblockTextureContext). samplesTold (a .header) (a .m .«use_intra_dc_vlc») y (a .quant-matrix) (aroundDue (a .p) (y .«quantiser_scale») (now (a .store))) (sentenceHere (a .p) x) (now (a .samples))) e)
