@@ -6,6 +6,7 @@ pub mod ReadingLaws
 pub mod TestLaws
 pub mod RebuildLaws
 pub mod OutcomeLaws
+pub mod Apart
 pub mod StateLaws
 pub mod AnswerLaws
 pub mod RowLaws

@@ -64,7 +64,7 @@ module _ (d : List ℕ) (at : ℕ) (coded dcCoded rev : Bool) (x : MacroblockTex
   -- of a component
   component-due : (c : DcComponent) → blockOutcome (answerOf d at coded dcCoded rev x p w (Component c) (checkOf d at x p w))
       ≡ checked ((inData (length d) at, 11) ∷ (contextFine x w, 12) ∷ (predictorsFine p, 13) ∷ [])
-          (readAs (λ s position. (cell (valuesIn d c dcCoded x p w s) 0 0, position)) d (readBlock dcCoded rev (c, coded) (bitsFrom d at)))
+      (readAs (λ s position. (cell (valuesIn d c dcCoded x p w s) 0 0, position)) d (readBlock dcCoded rev (c, coded) (bitsFrom d at)))
   component-due c =
       answered blockOutcome (answerOf d at coded dcCoded rev x p w (Component c)) (λ e. refl) (testsOf d at x p w) (refl, (refl, (refl, tt)))
       ∙ ap (checked ((inData (length d) at, 11) ∷ (contextFine x w, 12) ∷ (predictorsFine p, 13) ∷ []))

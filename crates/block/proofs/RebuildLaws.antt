@@ -67,11 +67,10 @@ module _ (c : DcComponent) (x : MacroblockTextureContext) (p : BlockPredictors) 
 
   pub rebuilt : (oldSamples oldLevels samples levels : List (List ℤ)) (dc : ℤ) → handed ≡ true → dc ≡ dcHere c x p w qfs → samples ≡ samplesOf x (valuesHere c x p w qfs) → levels ≡ levelsHere c x p w qfs
       → Given (firstBad (handedTests c x p w qfs)) (Rebuilt dc) samples oldSamples levels oldLevels
-  rebuilt a b samples levels dc e d f l = let s = state true e in
-      (
-        ap Rebuilt d ∙ sym (ap (λ (k : Checked). rebuiltBy k (dcHere c x p w qfs)) s),
-        (f ∙ sym (ap (λ (k : Checked). keptBy k (samplesOf x (valuesHere c x p w qfs)) a) s), l ∙ sym (ap (λ (k : Checked). keptBy k (levelsHere c x p w qfs) b) s)),
-      )
+  rebuilt a b samples levels dc e d f l = let s = state true e in (
+    ap Rebuilt d ∙ sym (ap (λ (k : Checked). rebuiltBy k (dcHere c x p w qfs)) s),
+    (f ∙ sym (ap (λ (k : Checked). keptBy k (samplesOf x (valuesHere c x p w qfs)) a) s), l ∙ sym (ap (λ (k : Checked). keptBy k (levelsHere c x p w qfs) b) s)),
+  )
 
   -- where 13 does not arise
   pub handed-over : (r : BlockRebuilt) (samples oldSamples levels oldLevels : List (List ℤ)) → predictorsFine p ≡ true → placesFine qfs ≡ true
@@ -107,8 +106,7 @@ module _ (i : ℕ) (x : MacroblockTextureContext) (p : BlockPredictors) (w : Lis
   met : (k : Checked) {r : BlockRebuilt} {samples levels : List (List ℤ)} (oldSamples oldLevels : List (List ℤ)) → firstBad (rebuildTests i x p w qfs) ≡ k
       → Given (componentAt i) x p w qfs k r samples oldSamples levels oldLevels → Meets r samples oldSamples levels oldLevels
   met k a b e g =
-      let r = g .0 ∙ sym (ap (λ (y : Checked). rebuiltBy y (dcHere (componentAt i) x p w qfs)) e) in
-      (
+      let r = g .0 ∙ sym (ap (λ (y : Checked). rebuiltBy y (dcHere (componentAt i) x p w qfs)) e) in (
         r,
         (
           g .1 .0 ∙ sym (ap (λ (y : Checked). keptBy y (samplesOf x (valuesHere (componentAt i) x p w qfs)) a) e),

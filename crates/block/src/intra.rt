@@ -50,7 +50,13 @@ fn decode_checked(
         EventsRead::Read(next) => {
             let places = one.qfs;
             let rebuilt = crate::reconstruct::rebuild(
-                component, places, ctx, predictors, w, spatial, qf,
+                component,
+                places,
+                ctx,
+                predictors,
+                w,
+                spatial,
+                qf,
             );
             match rebuilt {
                 BlockRebuilt::Refused(e) => BlockDecoded::Refused(e),

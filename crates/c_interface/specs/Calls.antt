@@ -5,15 +5,16 @@ use Prim.Native.Nat.{ℕ}
 use lib.Dec.{eqb, leb}
 use lib.IntN.{ℤ}
 use lib.ListN.{length}
-use Rattle.block.specs.Answer.{numberOf}
 use Rattle.macroblock.specs.Answer.{macroblockAnswer, samplesOut as samplesAlone}
 use Rattle.macroblock.specs.declared.decode.MacroblockDecoded.{MacroblockDecoded}
 use Rattle.picture.specs.Call.{Input, given}
+use Rattle.picture.specs.Outcomes.{openedOutcome}
 use Rattle.picture.specs.Picture.{openOf}
 use Rattle.picture.specs.declared.call.PictureDecoded.{PictureDecoded}
 use Rattle.picture.specs.declared.call.PictureDecoded.the-variants.{Decoded, Refused}
 use Rattle.picture.specs.declared.picture.PictureOpened.{PictureOpened}
 use Rattle.picture.specs.declared.picture.PictureOpened.the-variants.{Opened, Refused as Unopened}
+use Rattle.c_interface.specs.Answer.{numberIn}
 use Rattle.c_interface.specs.Lent.{contextBy, dcCoded, headerBy, matrixOf, neighboursOf, reversible, stateAfter, textureContextBy}
 
 -- ---- memory that is long enough
@@ -41,8 +42,7 @@ abbrev pub openedBy : ℕ → ℕ → ℕ → ℕ → PictureOpened
 openedBy w h d q = openOf w h d (not (eqb q 0))
 
 abbrev pub openedNumber : PictureOpened → ℕ
-openedNumber (Opened p) = 0
-openedNumber (Unopened e) = numberOf e
+openedNumber o = numberIn (openedOutcome o)
 
 abbrev pub openedState : PictureOpened → List ℕ → List ℕ
 openedState (Opened p) old = stateAfter p old

@@ -2,6 +2,7 @@
 ghost use mathlib.Core.Path.{_≡_};
 ghost use Prim.Native.Nat.{_≤_};
 ghost use lib.ListN.{length};
+ghost use Rattle.block.specs.Answer.{figureOf, numberOf};
 ghost use Rattle.c_interface.specs.Answer.{acceptedAs, answerAfter, low, refusedAs, toldAlone, toldAt, toldOf};
 use block::BlockAssemblyError;
 use macroblock::MacroblockDecoded;
@@ -15,7 +16,7 @@ pub struct Told {
 }
 
 fn refused(e: BlockAssemblyError, at: usize) -> Told
-    ensures { λ r. ⌜ r ≡ refusedAs e at ⌝ }
+    ensures { λ r. ⌜ r ≡ refusedAs (numberOf e) (figureOf e) at ⌝ }
 {
     Told {
         number: e.number(),

@@ -49,9 +49,9 @@ fn rounding_of(flags: u32) -> HalfIntegerRounding
     ensures { λ r. ⌜ r ≡ rounding flags ⌝ }
 {
     if flag(flags, 4) {
-        return HalfIntegerRounding::ToEven;
+        return HalfIntegerRounding::TO_EVEN;
     }
-    HalfIntegerRounding::AwayFromZero
+    HalfIntegerRounding::AWAY_FROM_ZERO
 }
 
 pub(crate) fn use_intra_dc_vlc(flags: u32) -> bool

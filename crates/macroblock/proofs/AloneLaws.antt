@@ -88,12 +88,14 @@ module _ (d : List ℕ) (at : ℕ) (h : MacroblockHeader) (dcCoded rev : Bool) (
     pub whole : Meets r out
     unfolding macroblockAnswer samplesOut
     whole =
-      let a = e ∙ sym (ap (λ (s : Checked). answerBy s (told d at (sentenceOf d at h dcCoded rev))) q) in (
-      a,
-      (
-        f ∙ sym (ap (λ (s : Checked). keptBy s (samplesTold h dcCoded x p w (sentenceOf d at h dcCoded rev) old) old) q),
-        (λ _. demand d at dcCoded rev (patternBy h) x (valuesAlone h dcCoded x p w) (Accepted r) (Told at r) old out
-            (in-data-yes (length d) at (fine .inside) .1) (depth-fine x w (fine .context)) (λ s i l. values-six-fine x p w (rowsOf dcCoded (patternBy h) s) i l) (fine .roomy) call,
-        by-number a),
-      ),
-    )
+        let a = e ∙ sym (ap (λ (s : Checked). answerBy s (told d at (sentenceOf d at h dcCoded rev))) q) in (
+          a,
+          (
+            f ∙ sym (ap (λ (s : Checked). keptBy s (samplesTold h dcCoded x p w (sentenceOf d at h dcCoded rev) old) old) q),
+            (
+              λ _. demand d at dcCoded rev (patternBy h) x (valuesAlone h dcCoded x p w) (Accepted r) (Told at r) old out
+                  (in-data-yes (length d) at (fine .inside) .1) (depth-fine x w (fine .context)) (λ s i l. values-six-fine x p w (rowsOf dcCoded (patternBy h) s) i l) (fine .roomy) call,
+              by-number a,
+            ),
+          ),
+        )

@@ -8,9 +8,9 @@ use picture::MacroblockContext;
 
 pub(crate) fn rule(to_even: bool) -> HalfIntegerRounding {
     if to_even {
-        return HalfIntegerRounding::ToEven;
+        return HalfIntegerRounding::TO_EVEN;
     }
-    HalfIntegerRounding::AwayFromZero
+    HalfIntegerRounding::AWAY_FROM_ZERO
 }
 
 // Seven numbers.

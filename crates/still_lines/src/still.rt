@@ -127,7 +127,7 @@ fn context_of(q: u32, ac_pred: u32) -> MacroblockContext
         ac_pred_flag: ac_pred == 1,
         alternate_vertical_scan: false,
         intra_mismatch_exempt: false,
-        idct_rounding: HalfIntegerRounding::AwayFromZero,
+        idct_rounding: HalfIntegerRounding::AWAY_FROM_ZERO,
         use_intra_dc_vlc: true,
         reversible_vlc: false,
     }

@@ -30,7 +30,7 @@ returns-2 c =
     let e = le-leb 5 _ (o .before .if1 .left) in
     let s = now (o .before .before .before .args .state) in
     let r = d .opened .ensures in
-    let p = o .open .ensures in
+    let p = o .open .ensures .0 in
     (long-is _ e (r .0 ∙ ap openedNumber p), long-is _ e (r .1 ∙ ap (λ (x : PictureOpened). openedState x s) p))
 
 pub vaxembro-open-spec : {M : Type 1} → statement M

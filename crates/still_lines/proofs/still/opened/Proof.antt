@@ -34,7 +34,7 @@ returns c =
     let k = c .before .before in
     let o = k .before .before .before in
     let a = o .before .args in
-    let e = sym (k .before .answer .given .1) ∙ o .open .ensures in (
+    let e = sym (k .before .answer .given .1) ∙ o .open .ensures .0 in (
       ap (stillOpened (a .s)) e,
       (
         c .picture-refused .ensures .0 ∙ ap pictureRefusedText (c .before .number .ensures) ∙ ap (textOpened (a .s) (a .w) (a .h) (a .d) (a .m)) e,
@@ -47,7 +47,7 @@ returns-2 c =
     let k = c .before .before in
     let o = k .before .before .before in
     let a = o .before .args in
-    let e = sym (k .before .answer2 .given .1) ∙ o .open .ensures in (
+    let e = sym (k .before .answer2 .given .1) ∙ o .open .ensures .0 in (
       ap (stillOpened (a .s)) e,
       (
         c .picture-line .ensures .0 ∙ ap (λ (xs : List ℕ). pictureText xs (a .w) (a .h) (a .d) (a .m)) (c .before .ended .ensures .0) ∙ ap
