@@ -17,7 +17,7 @@ unfoldable pub val : Bits → ℕ
 val [] = 0
 val (b ∷ bs) = num b * 2 ^ length bs + val bs
 
--- the n lowest bits of v, highest first
+-- v, below 2 ^ n, as n bits, first bit highest
 unfoldable pub bin : ℕ → ℕ → Bits
 bin zero v = []
 bin (suc n) v = eqb (v / 2 ^ n) 1 ∷ bin n (v % 2 ^ n)

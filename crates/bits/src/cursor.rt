@@ -1,7 +1,7 @@
 // The cursor: a bit position by value. Its methods take the data beside it and hand back the moved
 // cursor with what was read; a refusal hands back nothing, so the caller's position stays.
 ghost use mathlib.Core.Path.{_≡_};
-ghost use Prim.Native.Nat.{_+_, _*_, _/_, _%_, _<_, _≤_, min};
+ghost use Prim.Native.Nat.{_+_, _*_, _/_, _%_, _<_, _≤_};
 ghost use lib.Dec.{eqb};
 ghost use lib.ListN.{length, take};
 ghost use Rattle.bits.specs.Bits.{val, bitsFrom};

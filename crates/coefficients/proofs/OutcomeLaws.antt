@@ -7,7 +7,7 @@ use lib.Dec.{eqb}
 use lib.IntN.{ℤ}
 use Rattle.numbers.proofs.OutcomeLaws.{one-test}
 use Rattle.numbers.specs.Every.{every}
-use Rattle.numbers.specs.Outcome.{Outcome, accepted, checked, done, refused}
+use Rattle.numbers.specs.Outcome.{Outcome, accepted, done, refused}
 use Rattle.ranges.specs.Range.{dcFine, depthFine, differenceFine, levelFine, quantiserFine}
 use Rattle.codes.specs.declared.dc_size.DcComponent.{DcComponent}
 use Rattle.coefficients.specs.Level.{levelsAnswer, placesFine, predictorsFine, valuesFine}

@@ -1,18 +1,15 @@
 -- The scalers of Table 7-1: how large they are, and that a quantiser's is never refused. Assumes nothing.
 use mathlib.Core.Bool.{Bool, cond, false, true}
-use mathlib.Core.Path.{_≡_, ap, refl, _∙_}
+use mathlib.Core.Path.{_≡_, ap}
 use Prim.Native.Nat.{ℕ, _+_, _*_, _-_, _/_, _≤_}
 use native.Mathlib.Omega.{arith}
 use lib.Dec.{leb}
-use borrow.Author.Tests.{leb-false, leb-true}
-use Rattle.ranges.specs.Range.{quantiserFine}
 use Rattle.codes.specs.declared.dc_size.DcComponent.{DcComponent}
 use Rattle.codes.specs.declared.dc_size.DcComponent.the-variants.{Chrominance, Luminance}
 use Rattle.coefficients.proofs.RangeLaws.{range-quantiser}
-use Rattle.coefficients.specs.Prediction.{dcScaler, scalerChroma, scalerLuma}
+use Rattle.coefficients.specs.Prediction.{dcScaler}
 use Rattle.coefficients.specs.Stages.{scalerAnswer}
 use Rattle.coefficients.specs.declared.refusal.CoefficientError.the-variants.{Context}
-use Rattle.coefficients.specs.declared.refusal.Scaler.{Scaler}
 use Rattle.coefficients.specs.declared.refusal.Scaler.the-variants.{Is, Refused}
 
 -- of a quantiser up to 511

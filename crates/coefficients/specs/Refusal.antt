@@ -1,6 +1,5 @@
 -- What the stages refuse: the numbers of a refusal, and the tests behind them. Definitions only.
-use mathlib.Core.Bool.{Bool, true, false, _&&_}
-use mathlib.Core.List.{List, [], _∷_}
+use mathlib.Core.Bool.{Bool, true, false}
 use Prim.Native.Nat.{ℕ}
 use Rattle.coefficients.specs.declared.refusal.CoefficientError.{CoefficientError}
 use Rattle.coefficients.specs.declared.refusal.CoefficientError.the-variants.{Context, HandedIn}

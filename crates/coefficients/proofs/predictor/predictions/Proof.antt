@@ -1,6 +1,6 @@
 -- `coefficients::predictor::predictions` meets its contract: the DC alone, then the first column from A or the first row from C, of which the places before v or u are done. Assumes nothing.
 use mathlib.Core.Path.{_≡_, refl, sym, ap, _∙_}
-use Prim.Native.Nat.{_-_, _≤_, min}
+use Prim.Native.Nat.{_-_, _≤_}
 use native.Mathlib.Omega.{arith}
 use lib.IntN.{ℤ, pos}
 use lib.ListN.{getD}
@@ -11,7 +11,7 @@ use Rattle.numbers.proofs.Tests.{true-T}
 use Rattle.numbers.proofs.Words.{held}
 use Rattle.coefficients.proofs.PredictionBlock.{above-missing, aboveOf, column-all, column-begins, column-more, columnRows, dcOf, from-above, from-left, left-missing, leftOf, no-ac, none, row-all, row-begins, row-more, rowCells, shaped}
 use Rattle.coefficients.proofs.predictor.predictions.Statement.{statement}
-use Rattle.coefficients.specs.Prediction.{acPrediction, dcPrediction, dcScaler, directionBy, directionOf}
+use Rattle.coefficients.specs.Prediction.{acPrediction, dcPrediction, directionBy, directionOf}
 use Rattle.coefficients.specs.declared.scan.DcPredictionDirection.the-variants.{FromAbove, FromLeft}
 use Rattle.numbers.specs.Grid.{block, build, cell}
 use Rattle.coefficients.proofs.predictor.predictions.Tie as tie
