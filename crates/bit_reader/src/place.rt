@@ -21,7 +21,7 @@ pub struct SkippedAt {
 }
 
 // How many bits are left.
-pub fn remaining_at(data: &[u8], at: usize) -> BitCount
+pub(crate) fn remaining_at(data: &[u8], at: usize) -> BitCount
     ensures { λ r. ⌜ r ≡ remaining (now («data» .entry)) at ⌝ }
 {
     let c = Cursor { bit_pos: at };
@@ -29,7 +29,7 @@ pub fn remaining_at(data: &[u8], at: usize) -> BitCount
 }
 
 // The next n bits as a number.
-pub fn next_at(data: &[u8], at: usize, n: usize) -> BitsPeeked
+pub(crate) fn next_at(data: &[u8], at: usize, n: usize) -> BitsPeeked
     ensures { λ r. ⌜ r ≡ nextBits (now («data» .entry)) at n ⌝ }
 {
     let c = Cursor { bit_pos: at };
@@ -37,7 +37,7 @@ pub fn next_at(data: &[u8], at: usize, n: usize) -> BitsPeeked
 }
 
 // The next n bits as a number, and the position after them.
-pub fn read_at(data: &[u8], at: usize, n: usize) -> ReadAt
+pub(crate) fn read_at(data: &[u8], at: usize, n: usize) -> ReadAt
     ensures { λ r. ⌜ (r .answer ≡ nextBits (now («data» .entry)) at n) × (r .«bit_pos» ≡ positionAfter (readBits (now («data» .entry)) at n) at) ⌝ }
 {
     let c = Cursor { bit_pos: at };
@@ -64,7 +64,7 @@ fn moved_to(m: Moved, at: usize) -> usize
 }
 
 // Past n bits, and the position after them.
-pub fn skip_at(data: &[u8], at: usize, n: usize) -> SkippedAt
+pub(crate) fn skip_at(data: &[u8], at: usize, n: usize) -> SkippedAt
     ensures { λ r. ⌜ (r .answer ≡ skipped (now («data» .entry)) at n) × (r .«bit_pos» ≡ movedTo (skipped (now («data» .entry)) at n) at) ⌝ }
 {
     let c = Cursor { bit_pos: at };

@@ -1,7 +1,7 @@
 -- What a block's reading tells of its sentence, and that nothing after it can go wrong. Assumes nothing.
 use mathlib.Core.Bool.{Bool, cond, false, not, true}
 use mathlib.Core.List.{List}
-use mathlib.Core.Path.{_≡_, ap, refl, subst, subst⁻¹, sym, _∙_}
+use mathlib.Core.Path.{_≡_, ap, refl, subst⁻¹, sym, _∙_}
 use Prim.Native.Nat.{ℕ, _+_, _≤_}
 use native.Mathlib.Omega.{arith}
 use lib.IntN.{natAbs, pos, ℤ}
@@ -15,7 +15,7 @@ use Rattle.coefficients.specs.Level.{placesFine}
 use Rattle.idct.proofs.Refusals as Refusals
 use Rattle.idct.specs.Limits.{inBounds, valuesFine}
 use Rattle.numbers.specs.Grid.{cell}
-use Rattle.ranges.proofs.DepthLaws.{depth-most}
+use Rattle.ranges.proofs.RangeLaws.{depth-range}
 use Rattle.ranges.specs.Range.{depthFine}
 use Rattle.texture.proofs.Sentences.{block-sentences}
 use Rattle.texture.specs.Answer.{after}
@@ -93,7 +93,7 @@ module _ (c : DcComponent) (x : MacroblockTextureContext) (w : List (List ℕ)) 
   values-small h = go (x .«quant_type»)
     where
       most : d ≤ 12
-      most = depth-most d h
+      most = depth-range d h .1
 
       go : (t : Bool) → natAbs (cell (cond t (dequantised1 (not (x .«intra_mismatch_exempt»)) (quantOf c x) w qf) (dequantised2 (quantOf c x) qf)) 0 0) ≤ 32768
       go true = dequantised1-small (not (x .«intra_mismatch_exempt»)) (quantOf c x) w qf most 0 0

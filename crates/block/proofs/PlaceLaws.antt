@@ -3,7 +3,7 @@ use mathlib.Core.Bool.{Bool, cond, false, true}
 use mathlib.Core.List.{List, [], _∷_}
 use mathlib.Core.Option.{Option, none, some}
 use mathlib.Core.Path.{_≡_, refl, subst⁻¹, _∙_}
-use Prim.Native.Nat.{ℕ, suc, zero, _*_, _+_, _-_, _<_, _^_, _≤_}
+use Prim.Native.Nat.{ℕ, suc, zero, _+_, _-_, _<_, _^_, _≤_}
 use native.Mathlib.Omega.{arith}
 use lib.Dec.{eqb, leb}
 use lib.IntN.{natAbs, pos, _*ℤ_, _+ℤ_, _-ℤ_, ℤ}

@@ -2,10 +2,11 @@
 use mathlib.Core.Bool.{Bool, cond, false, true, _&&_}
 use mathlib.Core.List.{List, [], _∷_}
 use mathlib.Core.Path.{_≡_, ap, ap₂, refl, subst, sym, _∙_}
-use Prim.Native.Nat.{ℕ}
+use Prim.Native.Nat.{ℕ, _<_}
 use native.Mathlib.Omega.{arith}
 use lib.Dec.{ltb}
 use lib.IntN.{ℤ}
+use borrow.Author.Tests.{lt-ltb}
 use Rattle.numbers.proofs.Tests.{true-both}
 use Rattle.numbers.specs.Outcome.{accepted, checked, refused}
 use Rattle.codes.specs.Component.{componentAt, componentOutcome}
@@ -29,6 +30,10 @@ use Rattle.block.specs.declared.error.Checked.{Checked}
 use Rattle.block.specs.declared.error.Checked.the-variants.{Bad, Fine}
 use Rattle.block.specs.declared.reconstruct.BlockRebuilt.{BlockRebuilt}
 use Rattle.block.specs.declared.reconstruct.BlockRebuilt.the-variants.{Rebuilt, Refused}
+
+-- what a state that is fine leaves
+pub kept-fine : {A : Type 0} (new old : A) {k : Checked} → k ≡ Fine → keptBy k new old ≡ new
+kept-fine new old e = ap (λ (k : Checked). keptBy k new old) e
 
 module _ (c : DcComponent) (x : MacroblockTextureContext) (p : BlockPredictors) (w : List (List ℕ)) (qfs : List ℤ) where
   abbrev handed : Bool
@@ -94,6 +99,10 @@ index-some i m r e f = go (ltb i 6) (sym (ap componentOutcome f) ∙ e)
     go false q = absurd (let z : _≡_ {A = ℕ} 0 1 = cc in omega arith)
 
 module _ (i : ℕ) (x : MacroblockTextureContext) (p : BlockPredictors) (w : List (List ℕ)) (qfs : List ℤ) where
+  -- where nothing is refused
+  pub tests-pass : i < 6 → contextFine x w ≡ true → predictorsFine p ≡ true → placesFine qfs ≡ true → firstBad (rebuildTests i x p w qfs) ≡ Fine
+  tests-pass l h g f = simp (lt-ltb i 6 l, h, true-both g f)
+
   -- what the contract of `reconstruct_block` says
   abbrev pub Meets : BlockRebuilt → List (List ℤ) → List (List ℤ) → List (List ℤ) → List (List ℤ) → Type 0
   Meets r samples oldSamples levels oldLevels =

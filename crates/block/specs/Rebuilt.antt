@@ -1,5 +1,5 @@
 -- A block out of its 64 places: what is answered, and what its lent samples and levels hold afterwards, refusals included. Definitions only.
-use mathlib.Core.Bool.{Bool, cond, _&&_}
+use mathlib.Core.Bool.{Bool, _&&_}
 use mathlib.Core.List.{List, [], _∷_}
 use Prim.Native.Nat.{ℕ}
 use lib.Dec.{ltb}

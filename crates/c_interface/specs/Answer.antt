@@ -1,7 +1,7 @@
 -- What a call tells, as four numbers in lent memory. Definitions only.
 use mathlib.Core.Bool.{cond}
 use mathlib.Core.List.{List, [], _++_, _∷_}
-use Prim.Native.Nat.{ℕ, _%_, _^_}
+use Prim.Native.Nat.{ℕ, _%_}
 use lib.Dec.{leb}
 use lib.ListN.{drop, getD, length}
 use Rattle.numbers.specs.Outcome.{Outcome, accepted, refused}

@@ -15,7 +15,7 @@ use Rattle.coefficients.specs.Scan.{scanned}
 use Rattle.coefficients.specs.Prediction.{directionBy, predicted}
 use Rattle.coefficients.specs.Level.{saturated, intraScan, levels, blockFine}
 use Rattle.coefficients.specs.Stages.{LevelsGood}
-use Rattle.coefficients.proofs.RangeLaws.{within-of}
+use Rattle.ranges.proofs.RangeLaws.{within-of}
 use Rattle.coefficients.proofs.BlockTests.{test-block}
 use Rattle.coefficients.proofs.RefusalLaws.{block-good}
 

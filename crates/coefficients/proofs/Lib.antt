@@ -1,5 +1,4 @@
 -- The laws of this crate, each file over those above it.
-pub mod RangeLaws
 pub mod EveryLaws
 pub mod BlockLaws
 pub mod BlockTests

@@ -16,7 +16,7 @@ use Rattle.numbers.proofs.Words.{one-shl}
 use Rattle.coefficients.specs.Prediction.{defaultDc, outsideOf}
 use Rattle.coefficients.specs.Level.{predictorsFine}
 use Rattle.numbers.proofs.Tests.{true-both}
-use Rattle.coefficients.proofs.RangeLaws.{abs-dc, range-quantiser}
+use Rattle.ranges.proofs.RangeLaws.{abs-dc, range-quantiser}
 
 -- a shift of 1, as the code has it
 pub missing-shifted : (b : ℕ) → b < 12 → toZ w32 (1 * 2 ^ (b + 2) % 4294967296) ≡ defaultDc (min b 12)

@@ -16,7 +16,7 @@ use Rattle.coefficients.specs.Level.{valuesFine, predictorsFine, placesF
 use Rattle.coefficients.specs.Stages.{PredictorsGood, PlacesGood, LevelsGood}
 use Rattle.numbers.proofs.Tests.{both-true, true-both}
 use Rattle.numbers.proofs.Every.{every-in, every-get}
-use Rattle.coefficients.proofs.RangeLaws.{level-abs, abs-level, difference-abs, abs-difference, dc-abs, quantiser-range}
+use Rattle.ranges.proofs.RangeLaws.{level-abs, abs-level, difference-abs, abs-difference, dc-abs, quantiser-range}
 use Rattle.coefficients.proofs.BlockTests.{test-at}
 
 -- ---- the places

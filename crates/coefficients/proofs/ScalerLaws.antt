@@ -6,7 +6,7 @@ use native.Mathlib.Omega.{arith}
 use lib.Dec.{leb}
 use Rattle.codes.specs.declared.dc_size.DcComponent.{DcComponent}
 use Rattle.codes.specs.declared.dc_size.DcComponent.the-variants.{Chrominance, Luminance}
-use Rattle.coefficients.proofs.RangeLaws.{range-quantiser}
+use Rattle.ranges.proofs.RangeLaws.{range-quantiser}
 use Rattle.coefficients.specs.Prediction.{dcScaler}
 use Rattle.coefficients.specs.Stages.{scalerAnswer}
 use Rattle.coefficients.specs.declared.refusal.CoefficientError.the-variants.{Context}

@@ -3,7 +3,7 @@ use mathlib.Core.Path.{_≡_}
 use mathlib.Core.Bool.{true, false}
 use mathlib.Core.List.{List, [], _∷_, map}
 use Prim.Native.Nat.{ℕ}
-use lib.IntN.{ℤ, pos, negsuc, negℤ}
+use lib.IntN.{ℤ, pos, negℤ}
 use Rattle.bits.specs.Bits.{Bits, bin}
 use Rattle.codes.specs.declared.dc_size.DcComponent.{DcComponent}
 use Rattle.codes.specs.declared.dc_size.DcComponent.the-variants.{Luminance, Chrominance}

@@ -14,7 +14,7 @@ use lib.ListN.{getD, length}
 use borrow.Author.Tests.{ltb-true}
 use Rattle.numbers.proofs.Fill.{build-eq, lt-or-le}
 use Rattle.numbers.specs.Grid.{build, cell}
-use Rattle.coefficients.proofs.RangeLaws.{depth-range}
+use Rattle.ranges.proofs.RangeLaws.{depth-range}
 use Rattle.coefficients.specs.declared.predictor.BlockPredictors.{BlockPredictors}
 use Rattle.block.proofs.ValueLaws.{depth-fine}
 use Rattle.codes.specs.Component.{componentAt}

@@ -20,7 +20,7 @@ use Rattle.numbers.proofs.Magnitudes.{abs-within}
 use Rattle.numbers.specs.Grid.{block, build, cell}
 use Rattle.numbers.specs.Limit.{clampZ}
 use Rattle.numbers.specs.Outcome.{Outcome, accepted, checked}
-use Rattle.ranges.proofs.DepthLaws.{depth-most}
+use Rattle.ranges.proofs.RangeLaws.{depth-range}
 use Rattle.ranges.specs.Range.{depthFine, highest, lowest}
 use Rattle.idct.specs.Exact.{Modest, Near, exact}
 use Rattle.idct.specs.Limits.{idctOutcome, inBounds, valuesFine}
@@ -55,7 +55,7 @@ size b z t =
 pub modest : (d : ℕ) (l : List (List ℤ)) → depthFine d ≡ true → valuesFine d l ≡ true → Modest l
 modest d l h e v u i j =
     let p = inBounds (d + 3) in
-    let g : d + 3 ≤ 15 = omega (arith, depth-most d h) in
+    let g : d + 3 ≤ 15 = omega (arith, depth-range d h .1) in
     le-trans (size (d + 3) (cell l v u) (every-at p (pos 0) (getD l v []) (zero-inside (d + 3)) (every-at (every p) [] l tt (is-T (valuesFine d l) e) v) u)) (le-trans (pow-mono g) (lit≤ tt))
 
 -- ---- what is due

@@ -8,7 +8,7 @@ use lib.IntN.{ℤ, pos, negsuc, negℤ, natAbs, _+ℤ_, _-ℤ_, _*ℤ_}
 use lib.Signed.{quotZ, _<ℤ_, _≤ℤ_}
 use borrow.Author.Tests.{eqb-true, eqb-false, ne-eqb}
 use Rattle.numbers.proofs.Integers.{le-in, le-ltZ, lt-out, nat, neg, ring, var, _⊕_, _⊗_, _⊝_}
-use Rattle.inverse_quant.specs.Dequantised.{magnitude2, method1, method1Intra, method2}
+use Rattle.inverse_quant.specs.Dequantised.{method1, method1Intra, method2}
 use Rattle.inverse_quant.specs.Stages.{signum}
 
 -- ---- the sign

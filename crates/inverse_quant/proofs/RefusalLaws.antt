@@ -2,10 +2,9 @@
 use mathlib.Core.Bool.{true}
 use mathlib.Core.Path.{_≡_}
 use Prim.Native.Nat.{_≤_}
-use native.Mathlib.Omega.{arith}
 use Rattle.numbers.proofs.Tests.{both-true, true-both}
 use Rattle.ranges.specs.Range.{depthFine, quantiserFine}
-use Rattle.coefficients.proofs.RangeLaws.{quantiser-range, range-quantiser, depth-range, range-depth}
+use Rattle.ranges.proofs.RangeLaws.{quantiser-range, range-quantiser, depth-range, range-depth}
 use Rattle.inverse_quant.specs.declared.context.InverseQuantContext.{InverseQuantContext}
 use Rattle.inverse_quant.specs.Dequantised.{contextFine}
 use Rattle.inverse_quant.specs.Stages.{ContextGood}

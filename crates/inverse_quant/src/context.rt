@@ -25,27 +25,16 @@ pub(crate) fn context_fine(ctx: InverseQuantContext) -> bool
     ranges::Depth::fine(ctx.bits_per_pixel)
 }
 
-// Whether a row of a matrix has no zero.
-fn row_nonzero(row: [u8; 8]) -> bool
-    ensures { λ r. ⌜ r ≡ every nonZero row ⌝ }
-{
-    let mut fine = true;
-    for u in 0..8 {
-        let nonzero = row[u] != 0;
-        fine = fine & nonzero;
-    }
-    fine
-}
-
 // Whether a matrix has no zero.
 pub fn matrix_fine(w: [[u8; 8]; 8]) -> bool
     ensures { λ r. ⌜ r ≡ every (every nonZero) w ⌝ }
 {
     let mut fine = true;
     for v in 0..8 {
-        let row = w[v];
-        let nonzero = row_nonzero(row);
-        fine = fine & nonzero;
+        for u in 0..8 {
+            let nonzero = w[v][u] != 0;
+            fine = fine & nonzero;
+        }
     }
     fine
 }

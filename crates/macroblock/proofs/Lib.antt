@@ -4,3 +4,4 @@ pub mod SixLaws
 pub mod DemandLaws
 pub mod AloneLaws
 pub mod InTurnLaws
+pub mod Apart

@@ -25,18 +25,15 @@ pub(crate) fn samples_of_six(
     requires { ⌜ (length (now out) ≡ 6) × (contextFine ctx w ≡ true) × (predictorsFine predictors ≡ true) × ((i : ℕ) → i < 6 → placesFine (getD rows i []) ≡ true) ⌝ }
     ensures { λ r. ⌜ (r ≡ Fine) × (now (out .exit) ≡ samplesOfSix ctx (valuesOfSix ctx predictors w rows)) ⌝ }
 {
-    let mut spatial = [[0i32; 8]; 8];
     let mut qf = [[0i32; 8]; 8];
     for i in 0..6 {
         let qfs = rows[i];
-        let one = block::reconstruct_block(i, qfs, ctx, predictors, w, &mut spatial, &mut qf);
+        let one = block::reconstruct_block(i, qfs, ctx, predictors, w, &mut out[i], &mut qf);
         match one {
             BlockRebuilt::Refused(e) => {
                 return Checked::Bad(e);
             }
-            BlockRebuilt::Rebuilt(_) => {
-                out[i] = spatial;
-            }
+            BlockRebuilt::Rebuilt(_) => {}
         }
     }
     Checked::Fine

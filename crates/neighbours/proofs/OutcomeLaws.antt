@@ -4,7 +4,6 @@ use mathlib.Core.List.{List}
 use mathlib.Core.Path.{_≡_, ap, refl, sym, _∙_}
 use Prim.Native.Nat.{ℕ}
 use lib.Dec.{eqb}
-use lib.IntN.{ℤ}
 use Rattle.numbers.proofs.OutcomeLaws.{Figureless, by-numbers, firstOf, numbered}
 use Rattle.numbers.specs.Outcome.{Outcome, accepted, checked, done, refused}
 use Rattle.neighbours.specs.Refusals.{blockDue, blockTests, firstBad, numberOf, quantiserDue, quantiserTests, recordedOutcome, storeDue, storeTests, takenDue, takenTests}
@@ -19,8 +18,8 @@ use Rattle.neighbours.specs.declared.refusal.Recorded.the-variants.{Done
 tests-due : (ts : List (Bool × RecordError)) → Figureless (λ (e : RecordError). 0) ts → recordedOutcome (firstOf Refused Done ts) ≡ checked (numbered numberOf ts) done
 tests-due = by-numbers recordedOutcome Refused Done numberOf (λ (e : RecordError). 0) (λ e. refl)
 
-pub block-due : (i : ℕ) → recordedOutcome (firstBad (blockTests i)) ≡ blockDue i
-block-due i = tests-due (blockTests i) (refl, tt)
+pub block-due : (owned i : ℕ) → recordedOutcome (firstBad (blockTests owned i)) ≡ blockDue owned i
+block-due owned i = tests-due (blockTests owned i) (refl, (refl, tt))
 
 pub quantiser-due : (q : ℕ) → recordedOutcome (firstBad (quantiserTests q)) ≡ quantiserDue q
 quantiser-due q = tests-due (quantiserTests q) (refl, tt)
@@ -28,8 +27,8 @@ quantiser-due q = tests-due (quantiserTests q) (refl, tt)
 pub store-due : (stored at : ℕ) → recordedOutcome (firstBad (storeTests stored at)) ≡ storeDue stored at
 store-due stored at = tests-due (storeTests stored at) (refl, tt)
 
-pub taken-due : (store own : List ℤ) (p : Place) (i : ℕ) → recordedOutcome (firstBad (takenTests store own p i)) ≡ takenDue store own p i
-taken-due store own p i = tests-due (takenTests store own p i) (refl, (refl, (refl, tt)))
+pub taken-due : (stored owned : ℕ) (p : Place) (i : ℕ) → recordedOutcome (firstBad (takenTests stored owned p i)) ≡ takenDue stored owned p i
+taken-due stored owned p i = tests-due (takenTests stored owned p i) (refl, (refl, (refl, tt)))
 
 -- ---- the numbers tell the refusals apart
 

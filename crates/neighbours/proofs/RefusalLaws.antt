@@ -1,12 +1,8 @@
 -- Where records and neighbours refuse nothing, and what then stands beside the answer. Assumes nothing.
 use mathlib.Core.Bool.{Bool, cond, false, true}
-use mathlib.Core.List.{List}
 use mathlib.Core.Path.{_≡_, ap, refl, sym, _∙_}
 use Prim.Native.Nat.{ℕ, _+_, _<_, _≤_}
-use native.Mathlib.Omega.{arith}
 use lib.Dec.{ltb}
-use lib.IntN.{ℤ}
-use lib.ListN.{length}
 use borrow.Author.Tests.{le-leb, lt-ltb, ltb-true}
 use Rattle.numbers.proofs.Tests.{true-both}
 use Rattle.ranges.specs.Range.{depthFine, quantiserFine}
@@ -19,8 +15,8 @@ use Rattle.neighbours.specs.declared.refusal.Recorded.the-variants.{Done
 
 -- ---- of each call
 
-pub block-passes : (i : ℕ) → i < 6 → firstBad (blockTests i) ≡ Done
-block-passes i h = rw (lt-ltb i 6 h)
+pub block-passes : (owned i : ℕ) → i < 6 → 91 ≤ owned → firstBad (blockTests owned i) ≡ Done
+block-passes owned i h o = rw (lt-ltb i 6 h, le-leb 91 owned o)
 
 pub quantiser-passes : (q : ℕ) → quantiserFine q ≡ true → firstBad (quantiserTests q) ≡ Done
 quantiser-passes q e = ap (λ (t : Bool). cond t Done (Refused Context)) e
@@ -45,22 +41,22 @@ place-passes stored p f g h =
 three-pass : {s t u : Bool} (d e f : RecordError) → s ≡ true → t ≡ true → u ≡ true → cond s (cond t (cond u Done (Refused f)) (Refused e)) (Refused d) ≡ Done
 three-pass d e f x y z = rw (x, y, z)
 
-pub taken-passes : (store own : List ℤ) (p : Place) (i : ℕ)
+pub taken-passes : (stored owned : ℕ) (p : Place) (i : ℕ)
     → i < 6
     → quantiserFine (p .«quantiser_scale») ≡ true
     → depthFine (p .«bits_per_pixel») ≡ true
-    → placeLies (length store) p ≡ true
-    → length own ≡ 91
-    → firstBad (takenTests store own p i) ≡ Done
-taken-passes store own p i h q d l o = three-pass OutOfRange Context TooShort (lt-ltb i 6 h) (true-both q d) (true-both l (le-leb 91 (length own) (omega arith)))
+    → placeLies stored p ≡ true
+    → 91 ≤ owned
+    → firstBad (takenTests stored owned p i) ≡ Done
+taken-passes stored owned p i h q d l o = three-pass OutOfRange Context TooShort (lt-ltb i 6 h) (true-both q d) (true-both l (le-leb 91 owned o))
 
 -- a first test that passed
 first-passed : (t : Bool) (r : Recorded) (e : RecordError) → cond t r (Refused e) ≡ Done → t ≡ true
 first-passed true r e h = refl
 first-passed false r e h = cc
 
-pub taken-below : (store own : List ℤ) (p : Place) (i : ℕ) → firstBad (takenTests store own p i) ≡ Done → i < 6
-taken-below store own p i h = ltb-true i 6 (first-passed (ltb i 6) _ OutOfRange h)
+pub taken-below : (stored owned : ℕ) (p : Place) (i : ℕ) → firstBad (takenTests stored owned p i) ≡ Done → i < 6
+taken-below stored owned p i h = ltb-true i 6 (first-passed (ltb i 6) _ OutOfRange h)
 
 -- ---- an answer beside what is handed out or left in lent memory
 

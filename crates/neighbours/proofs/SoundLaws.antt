@@ -18,7 +18,7 @@ use Rattle.numbers.proofs.Tests.{both-true, true-both}
 use Rattle.ranges.specs.Range.{quantiserFine, levelFine, dcFine}
 use Rattle.coefficients.specs.Level.{valuesFine, predictorsFine}
 use Rattle.coefficients.proofs.MissingLaws.{outside-fine}
-use Rattle.coefficients.proofs.RangeLaws.{quantiser-range}
+use Rattle.ranges.proofs.RangeLaws.{quantiser-range}
 use Rattle.neighbours.specs.Record.{quantiserOf, sevenFrom, knownOf, missingOf, blank, keptOf, withBlock}
 use Rattle.neighbours.specs.Neighbours.{Around, aSource, aBlock, bSource, bBlock, cSource, cBlock, sided, sideOf, joined, predictors, neighboursFine}
 use Rattle.neighbours.specs.declared.record.Side.{Side}

@@ -3,8 +3,6 @@ use mathlib.Core.Bool.{Bool, cond, true, _&&_}
 use mathlib.Core.List.{List, [], _∷_}
 use Prim.Native.Nat.{ℕ, _+_}
 use lib.Dec.{leb, ltb}
-use lib.IntN.{ℤ}
-use lib.ListN.{length}
 use Rattle.numbers.specs.Outcome.{Outcome, checked, done, refused}
 use Rattle.ranges.specs.Range.{depthFine, quantiserFine}
 use Rattle.neighbours.specs.declared.place.Place.{Place}
@@ -34,10 +32,6 @@ unless (Refused e) new old = old
 
 -- ---- the tests of each call
 
--- a block is one of six (11)
-abbrev pub blockTests : ℕ → List (Bool × RecordError)
-blockTests i = (ltb i 6, OutOfRange) ∷ []
-
 -- a quantiser is one (12)
 abbrev pub quantiserTests : ℕ → List (Bool × RecordError)
 quantiserTests q = (quantiserFine q, Context) ∷ []
@@ -45,6 +39,10 @@ quantiserTests q = (quantiserFine q, Context) ∷ []
 -- a record lies in a store (14)
 abbrev pub lies : ℕ → ℕ → Bool
 lies stored at = leb (at + 91) stored
+
+-- a block is one of six (11), of a record that is whole (14)
+abbrev pub blockTests : ℕ → ℕ → List (Bool × RecordError)
+blockTests owned i = (ltb i 6, OutOfRange) ∷ (lies owned 0, TooShort) ∷ []
 
 abbrev pub storeTests : ℕ → ℕ → List (Bool × RecordError)
 storeTests stored at = (lies stored at, TooShort) ∷ []
@@ -55,18 +53,18 @@ placeLies stored p =
     cond (p .«has_left») (lies stored (p .left)) true
     && (cond (p .«has_above_left») (lies stored (p .«above_left»)) true && cond (p .«has_above») (lies stored (p .above)) true)
 
--- what a block takes: 11, 12, 14
-abbrev pub takenTests : List ℤ → List ℤ → Place → ℕ → List (Bool × RecordError)
-takenTests store own p i =
+-- what a block takes, with `stored` numbers in the store and `owned` in the record so far: 11, 12, 14
+abbrev pub takenTests : ℕ → ℕ → Place → ℕ → List (Bool × RecordError)
+takenTests stored owned p i =
     (ltb i 6, OutOfRange)
     ∷ (quantiserFine (p .«quantiser_scale») && depthFine (p .«bits_per_pixel»), Context)
-    ∷ (placeLies (length store) p && lies (length own) 0, TooShort)
+    ∷ (placeLies stored p && lies owned 0, TooShort)
     ∷ []
 
 -- ---- what is due, by number
 
-abbrev pub blockDue : ℕ → Outcome (Unit {0})
-blockDue i = checked ((ltb i 6, 11) ∷ []) done
+abbrev pub blockDue : ℕ → ℕ → Outcome (Unit {0})
+blockDue owned i = checked ((ltb i 6, 11) ∷ (lies owned 0, 14) ∷ []) done
 
 abbrev pub quantiserDue : ℕ → Outcome (Unit {0})
 quantiserDue q = checked ((quantiserFine q, 12) ∷ []) done
@@ -74,11 +72,11 @@ quantiserDue q = checked ((quantiserFine q, 12) ∷ []) done
 abbrev pub storeDue : ℕ → ℕ → Outcome (Unit {0})
 storeDue stored at = checked ((lies stored at, 14) ∷ []) done
 
-abbrev pub takenDue : List ℤ → List ℤ → Place → ℕ → Outcome (Unit {0})
-takenDue store own p i =
+abbrev pub takenDue : ℕ → ℕ → Place → ℕ → Outcome (Unit {0})
+takenDue stored owned p i =
     checked
     ((ltb i 6, 11)
     ∷ (quantiserFine (p .«quantiser_scale») && depthFine (p .«bits_per_pixel»), 12)
-    ∷ (placeLies (length store) p && lies (length own) 0, 14)
+    ∷ (placeLies stored p && lies owned 0, 14)
     ∷ [])
     done

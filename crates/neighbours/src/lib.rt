@@ -2,7 +2,7 @@
 // neighbours A (left), B (above left) and C (above).
 //
 // No public function has a `requires`: a block above 5 is refused by 11, a quantiser or a depth that is none by 12, a
-// record that does not lie in the store by 14; what the numbers of a store are is not asked here but by `neighbours_fine` (13).
+// record that is not whole, or does not lie in the store, by 14; what the numbers of a store are is not asked here but by `neighbours_fine` (13).
 mod place;
 mod predictors;
 mod record;

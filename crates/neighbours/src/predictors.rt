@@ -1,10 +1,8 @@
 // What each block takes of its neighbours, and refusal 13.
 ghost use mathlib.Core.Path.{_≡_};
-ghost use mathlib.Core.Bool.{cond, true, _&&_};
-ghost use mathlib.Core.List.{[], _∷_};
+ghost use mathlib.Core.Bool.{cond, true};
 ghost use Prim.Native.Nat.{_<_};
-ghost use lib.Dec.{ltb};
-ghost use Rattle.ranges.specs.Range.{depthFine, quantiserFine};
+ghost use lib.ListN.{length};
 ghost use Rattle.neighbours.specs.Record.{missingOf, recordAt};
 ghost use Rattle.coefficients.specs.Prediction.{outsideOf};
 ghost use Rattle.neighbours.specs.Neighbours.{aroundBy, joinedBy, neighboursFine, predictors, sideOf};
@@ -160,7 +158,7 @@ fn place_lies(stored: usize, p: Place) -> bool
 
 // 11, 12, 14.
 fn check_taken(stored: usize, owned: usize, p: Place, i: usize) -> Recorded
-    ensures { λ r. ⌜ r ≡ firstBad ((ltb i 6, RecordError.OutOfRange) ∷ (quantiserFine (p .«quantiser_scale») && depthFine (p .«bits_per_pixel»), RecordError.Context) ∷ (placeLies stored p && lies owned 0, RecordError.TooShort) ∷ []) ⌝ }
+    ensures { λ r. ⌜ r ≡ firstBad (takenTests stored owned p i) ⌝ }
 {
     if 6 <= i {
         return Recorded::Refused(RecordError::OutOfRange);
@@ -188,8 +186,8 @@ pub struct Taken {
 
 // What block `i` takes, out of the store and the macroblock's own record so far; or 11, 12, 14.
 pub fn block_predictors(store: &[i32], own: &[i32], p: Place, i: usize) -> Taken
-    ensures { λ r. ⌜ (r .answer ≡ firstBad (takenTests (now (store .entry)) (now (own .entry)) p i)) × (r .predictors ≡ unless (firstBad (takenTests (now (store .entry)) (now (own .entry)) p i)) (predictors (p .«bits_per_pixel») (p .«quantiser_scale») (aroundBy p (now (store .entry))) (recordAt (now (own .entry)) 0) i) (outsideOf (p .«bits_per_pixel») (p .«quantiser_scale»))) ⌝ }
-    ensures outcome { λ r. ⌜ recordedOutcome (r .answer) ≡ takenDue (now (store .entry)) (now (own .entry)) p i ⌝ }
+    ensures { λ r. ⌜ (r .answer ≡ firstBad (takenTests (length (now (store .entry))) (length (now (own .entry))) p i)) × (r .predictors ≡ unless (firstBad (takenTests (length (now (store .entry))) (length (now (own .entry))) p i)) (predictors (p .«bits_per_pixel») (p .«quantiser_scale») (aroundBy p (now (store .entry))) (recordAt (now (own .entry)) 0) i) (outsideOf (p .«bits_per_pixel») (p .«quantiser_scale»))) ⌝ }
+    ensures outcome { λ r. ⌜ recordedOutcome (r .answer) ≡ takenDue (length (now (store .entry))) (length (now (own .entry))) p i ⌝ }
 {
     let answer = check_taken(store.len(), own.len(), p, i);
     match answer {

@@ -1,7 +1,7 @@
 // The record that is kept of a macroblock, and a block of it as a neighbour.
 ghost use mathlib.Core.Path.{_≡_};
 ghost use Prim.Native.Nat.{_<_, _≤_};
-ghost use lib.ListN.{getD};
+ghost use lib.ListN.{getD, length};
 ghost use lib.IntN.{pos};
 ghost use Rattle.neighbours.specs.Refusals.{blockDue, blockTests, firstBad, quantiserDue, quantiserTests, recordedOutcome, unless};
 ghost use Rattle.neighbours.specs.Record.{blank, fifteen, keptOf, knownOf, missingOf, quantiserOf, recordAt, sevenFrom, withBlock};
@@ -134,28 +134,28 @@ fn kept_numbers(dc: i32, qf: [[i32; 8]; 8]) -> [i32; 15]
     out
 }
 
-// A record with block `i` of six put in.
-fn put_block(own: [i32; 91], i: usize, dc: i32, qf: [[i32; 8]; 8]) -> [i32; 91]
-    requires { ⌜ i < 6 ⌝ }
-    ensures { λ r. ⌜ r ≡ withBlock own i dc qf ⌝ }
+// Block `i` of six into a record that is whole.
+fn put_block(own: &mut [i32], i: usize, dc: i32, qf: [[i32; 8]; 8])
+    requires { ⌜ (i < 6) × (91 ≤ length (now own)) ⌝ }
+    ensures { λ r. ⌜ now (own .exit) ≡ withBlock (now (own .entry)) i dc qf ⌝ }
 {
-    let mut out = own;
     let numbers = kept_numbers(dc, qf);
     for k in 0..15 {
-        out[15 * i + k] = numbers[k];
+        own[15 * i + k] = numbers[k];
     }
-    out
 }
 
-// Block `i` into the record `own`; or 11, and `own` as it was.
-pub fn with_block(own: &mut [i32; 91], i: usize, dc: i32, qf: [[i32; 8]; 8]) -> Recorded
-    ensures { λ r. ⌜ (r ≡ firstBad (blockTests i)) × (now (own .exit) ≡ unless (firstBad (blockTests i)) (withBlock (now (own .entry)) i dc qf) (now (own .entry))) ⌝ }
-    ensures outcome { λ r. ⌜ recordedOutcome r ≡ blockDue i ⌝ }
+// Block `i` into the record `own`; or 11, 14, and `own` as it was.
+pub fn with_block(own: &mut [i32], i: usize, dc: i32, qf: [[i32; 8]; 8]) -> Recorded
+    ensures { λ r. ⌜ (r ≡ firstBad (blockTests (length (now (own .entry))) i)) × (now (own .exit) ≡ unless (firstBad (blockTests (length (now (own .entry))) i)) (withBlock (now (own .entry)) i dc qf) (now (own .entry))) ⌝ }
+    ensures outcome { λ r. ⌜ recordedOutcome r ≡ blockDue (length (now (own .entry))) i ⌝ }
 {
     if 6 <= i {
         return Recorded::Refused(RecordError::OutOfRange);
     }
-    let old = *own;
-    *own = put_block(old, i, dc, qf);
+    if own.len() < 91 {
+        return Recorded::Refused(RecordError::TooShort);
+    }
+    put_block(own, i, dc, qf);
     Recorded::Done
 }

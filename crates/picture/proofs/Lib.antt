@@ -4,3 +4,4 @@ pub mod RingLaws
 pub mod SerialLaws
 pub mod CallLaws
 pub mod TurnLaws
+pub mod Apart

@@ -1,6 +1,6 @@
 -- A ring of 2 w records: writing one keeps the 2 w - 1 written before it. Assumes nothing.
 use mathlib.Core.List.{List}
-use mathlib.Core.Logic.{_⊎_, inl, inr, ⊎-elim}
+use mathlib.Core.Logic.{inl, inr, ⊎-elim}
 use mathlib.Core.Path.{_≡_, ap, sym, _∙_}
 use Prim.Native.Nat.{ℕ, _%_, _*_, _+_, _-_, _/_, _<_, _≤_}
 use native.Mathlib.Nat.{add-mod-right, add-mul, div-add-mod', eq-or-lt-of-le, mod-eq-of-lt, mod-lt, mul-add-mod-self-right, mul-assoc, mul-le-mul-right, one-mul}

@@ -2,7 +2,7 @@
 use mathlib.Core.Bool.{true}
 use mathlib.Core.List.{List, []}
 use mathlib.Core.Logic.{⊎-elim}
-use mathlib.Core.Path.{_≡_, ap, ap₂, refl, subst, subst⁻¹, sym, _∙_}
+use mathlib.Core.Path.{_≡_, ap, ap₂, refl, subst⁻¹, sym, _∙_}
 use Prim.Native.Nat.{ℕ, suc, zero, _+_, _<_, _≤_}
 use native.Mathlib.Nat.{not-suc-le-zero}
 use native.Mathlib.Numerals.{add-one}
@@ -11,7 +11,7 @@ use lib.IntN.{ℤ, natAbs, pos}
 use lib.ListN.{getD}
 use Rattle.coefficients.proofs.BlockTests.{test-at}
 use Rattle.coefficients.proofs.LevelLaws.{levels-fine}
-use Rattle.coefficients.proofs.RangeLaws.{abs-dc}
+use Rattle.ranges.proofs.RangeLaws.{abs-dc}
 use Rattle.coefficients.specs.Level.{blockFine, predictorsFine}
 use Rattle.idct.specs.Limits.{valuesFine}
 use Rattle.numbers.proofs.Fill.{getD-build, lt-or-le}

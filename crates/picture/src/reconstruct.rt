@@ -4,15 +4,16 @@ ghost use mathlib.Core.List.{[]};
 ghost use mathlib.Core.Path.{_≡_};
 ghost use Prim.Native.Nat.{ℕ, _<_};
 ghost use lib.ListN.{getD, length};
+ghost use Rattle.codes.specs.Component.{componentAt};
 ghost use Rattle.coefficients.specs.Level.{placesFine, predictorsFine};
-ghost use Rattle.numbers.specs.Grid.{cell};
+ghost use Rattle.block.specs.Rebuilt.{dcHere, levelsHere, valuesHere};
 ghost use Rattle.block.specs.Values.{contextFine, samplesOf};
 ghost use Rattle.block.specs.declared.error.Checked.the-variants.{Fine};
 ghost use Rattle.macroblock.specs.Six.{samplesOfSix};
 ghost use Rattle.neighbours.specs.Neighbours.{aroundBy, neighboursFine, predictors};
-ghost use Rattle.neighbours.specs.Record.{blank, recordAt, withBlock};
+ghost use Rattle.neighbours.specs.Record.{blank, withBlock};
 ghost use Rattle.neighbours.specs.Refusals.{placeLies};
-ghost use Rattle.picture.specs.Serial.{levelsAt, recordOf, valuesAt, valuesInTurn};
+ghost use Rattle.picture.specs.Serial.{recordOf, valuesInTurn};
 use block::BlockAssemblyError;
 use block::BlockRebuilt;
 use block::Checked;
@@ -25,26 +26,24 @@ use neighbours::Recorded;
 fn one_block(
     store: &[i32],
     place: Place,
-    rows: [[i32; 64]; 6],
+    qfs: [i32; 64],
     ctx: MacroblockTextureContext,
     w: [[u8; 8]; 8],
     i: usize,
-    own: &mut [i32; 91],
+    own: &mut [i32],
     spatial: &mut [[i32; 8]; 8],
 ) -> Checked
-    requires { ⌜ (i < 6) × (length (now own) ≡ 91) × (contextFine ctx w ≡ true) × (place .«bits_per_pixel» ≡ ctx .«bits_per_pixel») × (place .«quantiser_scale» ≡ ctx .«quantiser_scale») × (placeLies (length (now store)) place ≡ true) × (predictorsFine (predictors (ctx .«bits_per_pixel») (ctx .«quantiser_scale») (aroundBy place (now store)) (now own) i) ≡ true) × (placesFine (getD rows i []) ≡ true) ⌝ }
+    requires { ⌜ (i < 6) × (length (now own) ≡ 91) × (contextFine ctx w ≡ true) × (place .«bits_per_pixel» ≡ ctx .«bits_per_pixel») × (place .«quantiser_scale» ≡ ctx .«quantiser_scale») × (placeLies (length (now store)) place ≡ true) × (predictorsFine (predictors (ctx .«bits_per_pixel») (ctx .«quantiser_scale») (aroundBy place (now store)) (now own) i) ≡ true) × (placesFine qfs ≡ true) ⌝ }
     ensures { λ r. ⌜ r ≡ Fine ⌝ }
-    ensures record { λ r. ⌜ now (own .exit) ≡ withBlock (now (own .entry)) i (cell (valuesAt ctx w (aroundBy place (now (store .entry))) rows (now (own .entry)) i) 0 0) (levelsAt ctx w (aroundBy place (now (store .entry))) rows (now (own .entry)) i) ⌝ }
-    ensures samples { λ r. ⌜ now (spatial .exit) ≡ samplesOf ctx (valuesAt ctx w (aroundBy place (now (store .entry))) rows (now (own .entry)) i) ⌝ }
+    ensures record { λ r. ⌜ now (own .exit) ≡ withBlock (now (own .entry)) i (dcHere (componentAt i) ctx (predictors (ctx .«bits_per_pixel») (ctx .«quantiser_scale») (aroundBy place (now (store .entry))) (now (own .entry)) i) w qfs) (levelsHere (componentAt i) ctx (predictors (ctx .«bits_per_pixel») (ctx .«quantiser_scale») (aroundBy place (now (store .entry))) (now (own .entry)) i) w qfs) ⌝ }
+    ensures samples { λ r. ⌜ now (spatial .exit) ≡ samplesOf ctx (valuesHere (componentAt i) ctx (predictors (ctx .«bits_per_pixel») (ctx .«quantiser_scale») (aroundBy place (now (store .entry))) (now (own .entry)) i) w qfs) ⌝ }
 {
-    let before = *own;
-    let taken = neighbours::block_predictors(store, &before, place, i);
+    let taken = neighbours::block_predictors(store, &*own, place, i);
     let found = taken.answer;
     match found {
         Recorded::Refused(_) => Checked::Bad(BlockAssemblyError::TooShort),
         Recorded::Done => {
             let predictors = taken.predictors;
-            let qfs = rows[i];
             let mut qf = [[0i32; 8]; 8];
             let one = block::reconstruct_block(i, qfs, ctx, predictors, w, spatial, &mut qf);
             match one {
@@ -80,16 +79,14 @@ pub(crate) fn reconstruct(
     match begun {
         Recorded::Refused(_) => Checked::Bad(BlockAssemblyError::Context),
         Recorded::Done => {
-            let mut spatial = [[0i32; 8]; 8];
             for i in 0..6 {
-                let one = one_block(store, place, rows, ctx, w, i, own, &mut spatial);
+                let qfs = rows[i];
+                let one = one_block(store, place, qfs, ctx, w, i, own, &mut blocks[i]);
                 match one {
                     Checked::Bad(e) => {
                         return Checked::Bad(e);
                     }
-                    Checked::Fine => {
-                        blocks[i] = spatial;
-                    }
+                    Checked::Fine => {}
                 }
             }
             Checked::Fine

@@ -1,3 +1,4 @@
--- The limits of a depth.
+-- Ranges as bounds, and the limits of a depth.
 pub mod Powers
+pub mod RangeLaws
 pub mod DepthLaws

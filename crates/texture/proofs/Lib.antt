@@ -1,4 +1,4 @@
--- The laws of reading: steps, grammars, events, lists, how the answers of the code go together, and the answers by number.
+-- The laws of reading: steps, grammars, events, lists, how the answers of the code go together, the answers by number, and that 11 is none of reading.
 pub mod ReadLaws
 pub mod StepLaws
 pub mod FieldLaws
@@ -14,3 +14,4 @@ pub mod Sentences
 pub mod EachLaws
 pub mod OutcomeLaws
 pub mod Apart
+pub mod ByBits

@@ -1,6 +1,6 @@
 -- `codes::find_row` meets its contract: a search finds a row or none, wherever it begins. Assumes nothing.
 use mathlib.Core.Path.{_≡_, _∙_, ap, subst, sym}
-use Prim.Native.Nat.{_-_, _<_, _≤_, min, ℕ}
+use Prim.Native.Nat.{_<_, _≤_, min, ℕ}
 use native.Mathlib.Nat.{sub-zero}
 use native.Mathlib.Omega.{arith}
 use lib.ListN.{length}

@@ -4,7 +4,7 @@ use mathlib.Core.Path.{_≡_, refl}
 use native.Mathlib.Omega.{arith}
 use borrow.Author.Needs.{needs}
 use Rattle.numbers.proofs.Tests.{flag-passes, flag-refuses}
-use Rattle.coefficients.proofs.RangeLaws.{quantiser-range}
+use Rattle.ranges.proofs.RangeLaws.{quantiser-range}
 use Rattle.coefficients.proofs.RefusalLaws.{places-good, predictors-good}
 use Rattle.coefficients.proofs.level.intra_levels.Statement.{statement}
 use Rattle.coefficients.specs.Level.{predictorsFine, placesFine}

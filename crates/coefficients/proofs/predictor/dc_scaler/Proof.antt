@@ -3,7 +3,7 @@ use mathlib.Core.Path.{refl}
 use native.Mathlib.Omega.{arith}
 use borrow.Author.Needs.{needs}
 use Rattle.numbers.proofs.Tests.{flag-passes, flag-refuses}
-use Rattle.coefficients.proofs.RangeLaws.{quantiser-range}
+use Rattle.ranges.proofs.RangeLaws.{quantiser-range}
 use Rattle.coefficients.proofs.predictor.dc_scaler.Statement.{statement}
 use Rattle.coefficients.proofs.predictor.dc_scaler.Tie as tie
 

@@ -5,7 +5,7 @@ use native.Mathlib.Omega.{arith}
 use borrow.Author.Needs.{needs}
 use Rattle.numbers.proofs.Words.{held}
 use Rattle.numbers.proofs.Tests.{flag-passes, flag-refuses}
-use Rattle.coefficients.proofs.RangeLaws.{depth-range}
+use Rattle.ranges.proofs.RangeLaws.{depth-range}
 use Rattle.coefficients.proofs.predictor.default_neighbour_dc.Statement.{statement}
 use Rattle.numbers.proofs.OutcomeLaws.{both}
 use Rattle.coefficients.specs.Outcomes.{valueOutcome}

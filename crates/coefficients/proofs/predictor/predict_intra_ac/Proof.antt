@@ -7,7 +7,7 @@ use lib.ListN.{getD}
 use borrow.Author.Needs.{needs}
 use Rattle.numbers.proofs.Tests.{flag-passes, flag-refuses}
 use Rattle.numbers.proofs.Every.{every-get}
-use Rattle.coefficients.proofs.RangeLaws.{level-abs, quantiser-range}
+use Rattle.ranges.proofs.RangeLaws.{level-abs, quantiser-range}
 use Rattle.coefficients.proofs.RefusalLaws.{values-good}
 use Rattle.coefficients.proofs.predictor.predict_intra_ac.Statement.{statement}
 use Rattle.coefficients.specs.Level.{valuesFine}

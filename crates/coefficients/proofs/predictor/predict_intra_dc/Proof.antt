@@ -5,7 +5,7 @@ use mir.Facts.{toZ-ofZ}
 use mir.Syntax.{w32}
 use borrow.Author.Needs.{needs}
 use Rattle.numbers.proofs.Tests.{flag-passes, flag-refuses}
-use Rattle.coefficients.proofs.RangeLaws.{dc-abs, difference-abs}
+use Rattle.ranges.proofs.RangeLaws.{dc-abs, difference-abs}
 use Rattle.coefficients.proofs.predictor.predict_intra_dc.Statement.{statement}
 use Rattle.numbers.proofs.Expressions.{Sx, loc, _⊞_, fits, back}
 use Rattle.ranges.specs.Range.{differenceFine, dcFine}

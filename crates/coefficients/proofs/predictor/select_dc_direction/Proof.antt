@@ -4,7 +4,7 @@ use mathlib.Core.Path.{_≡_, ap, _∙_}
 use mir.Facts.{toZ-ofZ}
 use borrow.Author.Needs.{needs}
 use Rattle.numbers.proofs.Tests.{flag-passes, flag-refuses}
-use Rattle.coefficients.proofs.RangeLaws.{dc-abs}
+use Rattle.ranges.proofs.RangeLaws.{dc-abs}
 use Rattle.coefficients.proofs.predictor.select_dc_direction.Statement.{statement}
 use Rattle.ranges.specs.Range.{dcFine}
 use Rattle.numbers.proofs.OutcomeLaws.{both}

@@ -5,7 +5,7 @@ use mir.Syntax.{w32}
 use borrow.Author.Needs.{needs}
 use Rattle.numbers.proofs.Words.{held}
 use Rattle.numbers.specs.Limit.{clampZ}
-use Rattle.idct.proofs.DepthArms.{sample-is, sample-refused}
+use Rattle.idct.proofs.SampleArms.{sample-is, sample-refused}
 use Rattle.idct.proofs.limits.saturate_idct_sample.Statement.{statement}
 use Rattle.idct.proofs.limits.saturate_idct_sample.Tie as tie
 

@@ -3,8 +3,8 @@ use mathlib.Core.Path.{_∙_}
 use borrow.Author.Needs.{needs}
 use Rattle.numbers.proofs.Words.{held}
 use Rattle.numbers.specs.Every.{every}
+use Rattle.ranges.proofs.DepthLaws.{values-are, values-never}
 use Rattle.ranges.specs.Range.{within}
-use Rattle.idct.proofs.DepthArms.{values-are, values-never}
 use Rattle.idct.proofs.limits.values_fine.Statement.{statement}
 use Rattle.idct.proofs.limits.values_fine.Tie as tie
 

@@ -2,9 +2,9 @@
 use mathlib.Core.Path.{_∙_}
 use borrow.Author.Needs.{needs}
 use Rattle.numbers.proofs.Words.{held}
+use Rattle.ranges.proofs.DepthLaws.{samples-are, samples-never}
 use Rattle.idct.specs.Limits.{saturated}
 use Rattle.idct.specs.ShortWays.{samplesIn}
-use Rattle.idct.proofs.DepthArms.{samples-are, samples-never}
 use Rattle.idct.proofs.transform.samples.Statement.{statement}
 use Rattle.idct.proofs.transform.samples.Tie as tie
 

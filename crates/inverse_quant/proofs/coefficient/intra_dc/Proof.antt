@@ -1,5 +1,5 @@
 -- `inverse_quant::coefficient::intra_dc` meets its contract: the product is at most 2048 * 1022. Assumes nothing.
-use mathlib.Core.Path.{_≡_, ap, subst, sym, _∙_}
+use mathlib.Core.Path.{_≡_, ap, _∙_}
 use Prim.Native.Nat.{ℕ, _≤_}
 use native.Mathlib.Omega.{arith}
 use lib.IntN.{pos, _*ℤ_}

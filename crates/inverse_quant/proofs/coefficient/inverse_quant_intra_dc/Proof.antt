@@ -1,7 +1,6 @@
 -- `inverse_quant::coefficient::inverse_quant_intra_dc` meets its contract: its tests are those of the answer, and what passes them is `intra_dc`'s. Assumes nothing.
 use mathlib.Core.Bool.{true}
 use mathlib.Core.Path.{_≡_, ap, _∙_}
-use native.Mathlib.Omega.{arith}
 use lib.IntN.{ℤ}
 use mir.Facts.{toZ-ofZ}
 use borrow.Author.Needs.{needs}
@@ -10,7 +9,7 @@ use Rattle.coefficients.specs.declared.refusal.Value.the-variants.{Is}
 use Rattle.inverse_quant.specs.Dequantised.{intraDc}
 use Rattle.numbers.proofs.Words.{held}
 use Rattle.numbers.proofs.Tests.{flag-passes, flag-refuses}
-use Rattle.coefficients.proofs.RangeLaws.{level-abs, quantiser-range}
+use Rattle.ranges.proofs.RangeLaws.{level-abs, quantiser-range}
 use Rattle.inverse_quant.proofs.coefficient.inverse_quant_intra_dc.Statement.{statement}
 use Rattle.numbers.proofs.OutcomeLaws.{both}
 use Rattle.coefficients.specs.Outcomes.{valueOutcome}

@@ -10,7 +10,7 @@ use Rattle.coefficients.specs.declared.refusal.Value.the-variants.{Is}
 use Rattle.inverse_quant.specs.Dequantised.{method2}
 use Rattle.numbers.proofs.Words.{held}
 use Rattle.numbers.proofs.Tests.{flag-passes, flag-refuses}
-use Rattle.coefficients.proofs.RangeLaws.{level-abs, quantiser-range}
+use Rattle.ranges.proofs.RangeLaws.{level-abs, quantiser-range}
 use Rattle.inverse_quant.proofs.coefficient.inverse_quant_method2_coef.Statement.{statement}
 use Rattle.numbers.proofs.OutcomeLaws.{both}
 use Rattle.coefficients.specs.Outcomes.{valueOutcome}

@@ -2,6 +2,7 @@
 use mathlib.Core.Path.{sym, _∙_}
 use borrow.Author.Needs.{needs}
 use denote.Ref.{now}
+use lib.ListN.{length}
 use Rattle.numbers.proofs.OutcomeLaws.{also}
 use Rattle.neighbours.specs.Refusals.{recordedOutcome}
 use Rattle.neighbours.proofs.OutcomeLaws.{taken-due}
@@ -25,19 +26,19 @@ taken-by-requires : tie.Need-taken-by-requires
 taken-by-requires c κs =
     let t = c .before .before in
     let a = t .before .args in
-    taken-below (now (a .store)) (now (a .own)) (a .p) (a .i) (sym (t .check-taken .ensures) ∙ c .enum-told .given .1)
+    taken-below (length (now (a .store))) (length (now (a .own))) (a .p) (a .i) (sym (t .check-taken .ensures) ∙ c .enum-told .given .1)
 
 returns : tie.Need-returns
 returns c =
     let t = c .before .before .before .before in
     let a = t .before .args in
-    also recordedOutcome (beside _ _ (sym (t .check-taken .ensures) ∙ c .before .before .answer .given .1) (c .outside .ensures)) (taken-due (now (a .store)) (now (a .own)) (a .p) (a .i))
+    also recordedOutcome (beside _ _ (sym (t .check-taken .ensures) ∙ c .before .before .answer .given .1) (c .outside .ensures)) (taken-due (length (now (a .store))) (length (now (a .own))) (a .p) (a .i))
 
 returns-2 : tie.Need-returns-2
 returns-2 c =
     let t = c .before .before .before in
     let a = t .before .args in
-    also recordedOutcome (beside _ _ (sym (t .check-taken .ensures) ∙ c .before .enum-told .given .1) (c .taken-by .ensures)) (taken-due (now (a .store)) (now (a .own)) (a .p) (a .i))
+    also recordedOutcome (beside _ _ (sym (t .check-taken .ensures) ∙ c .before .enum-told .given .1) (c .taken-by .ensures)) (taken-due (length (now (a .store))) (length (now (a .own))) (a .p) (a .i))
 
 pub block-predictors-spec : {M : Type 1} → statement M
 block-predictors-spec =

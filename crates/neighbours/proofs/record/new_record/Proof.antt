@@ -8,7 +8,7 @@ use borrow.Author.Needs.{needs}
 use Rattle.numbers.proofs.OutcomeLaws.{also}
 use Rattle.numbers.proofs.Tests.{flag-passes, flag-refuses}
 use Rattle.ranges.specs.Range.{quantiserFine}
-use Rattle.coefficients.proofs.RangeLaws.{quantiser-range}
+use Rattle.ranges.proofs.RangeLaws.{quantiser-range}
 use Rattle.neighbours.specs.Record.{blank}
 use Rattle.neighbours.specs.Refusals.{recordedOutcome}
 use Rattle.neighbours.proofs.OutcomeLaws.{quantiser-due}

@@ -1,15 +1,16 @@
 -- `picture::reconstruct::one_block` meets its contract: what the block takes, its samples, and what is kept of it. Assumes nothing.
-use mathlib.Core.List.{List, []}
+use mathlib.Core.List.{List}
 use mathlib.Core.Path.{_≡_, ap, ap₂, refl, _∙_}
 use Prim.Native.Nat.{ℕ}
 use native.Mathlib.Omega.{arith}
 use borrow.Author.Needs.{needs}
 use denote.Ref.{now}
 use lib.IntN.{ℤ}
-use lib.ListN.{getD}
+use lib.ListN.{length}
 use Rattle.numbers.proofs.Words.{held}
 use Rattle.codes.specs.Component.{componentAt}
 use Rattle.coefficients.specs.declared.predictor.BlockPredictors.{BlockPredictors}
+use Rattle.block.proofs.RebuildLaws.{kept-fine}
 use Rattle.block.specs.Answer.{firstBad}
 use Rattle.block.specs.Rebuilt.{dcHere, levelsHere, rebuildTests, rebuiltBy, valuesHere}
 use Rattle.block.specs.Values.{samplesOf}
@@ -20,24 +21,24 @@ use Rattle.block.specs.declared.reconstruct.BlockRebuilt.the-variants.{Rebuilt}
 use Rattle.neighbours.proofs.RefusalLaws.{block-passes, handed-out}
 use Rattle.neighbours.specs.Neighbours.{aroundBy, predictors}
 use Rattle.neighbours.specs.Record.{withBlock}
-use Rattle.picture.proofs.TurnLaws.{found, kept-fine, passes, taken-are}
+use Rattle.picture.proofs.TurnLaws.{found, passes, taken-are}
 use Rattle.picture.proofs.reconstruct.one_block.Statement.{statement}
 use Rattle.picture.proofs.reconstruct.one_block.Tie as tie
 
 -- what the block takes
-takes : (b : tie.After-block-predictors) → let a = b .before .before .before .args in
+takes : (b : tie.After-block-predictors) → let a = b .before .before .args in
     b .block-predictors .result .predictors ≡ predictors (a .ctx .«bits_per_pixel») (a .ctx .«quantiser_scale») (aroundBy (a .place) (now (a .store))) (now (a .own)) (a .i)
 takes b =
-    let s = b .before .before .before in
+    let s = b .before .before in
     let a = s .args in
     taken-are (a .ctx) (a .w) (now (a .store)) (now (a .own)) (a .place) (a .i) (s .pre .0) (s .pre .1) (s .pre .2) (s .pre .3) (s .pre .4) (s .pre .5) _ (b .block-predictors .ensures .0 .1)
 
 module _ (c : tie.After-reconstruct-block) where
   abbrev at : tie.After-block-predictors
-  at = c .before .before .before .before .before .before .before
+  at = c .before .before .before .before .before .before
 
   abbrev start : tie.Start
-  start = at .before .before .before
+  start = at .before .before
 
   abbrev x : MacroblockTextureContext
   x = start .args .ctx
@@ -46,18 +47,15 @@ module _ (c : tie.After-reconstruct-block) where
   p = at .block-predictors .result .predictors
 
   abbrev qfs : List ℤ
-  qfs = getD (start .args .t3) (start .args .i) []
+  qfs = start .args .qfs
 
   passed : firstBad (rebuildTests (start .args .i) x p (start .args .w) qfs) ≡ Fine
   passed =
       let a = start .args in
-      passes x (a .w) (now (a .store)) (now (a .own)) (a .place) (a .i) (start .pre .0) (start .pre .1) (start .pre .2) (start .pre .3) (start .pre .4) (start .pre .5) (a .t3) p (takes at) (start .pre .6) (start .pre .7)
+      passes x (a .w) (now (a .store)) (now (a .own)) (a .place) (a .i) (start .pre .0) (start .pre .1) (start .pre .2) (start .pre .3) (start .pre .4) (start .pre .5) (a .qfs) p (takes at) (start .pre .6) (start .pre .7)
 
   rebuilt-is : c .reconstruct-block .result ≡ Rebuilt (dcHere (componentAt (start .args .i)) x p (start .args .w) qfs)
   rebuilt-is = c .reconstruct-block .ensures .0 ∙ ap (λ (k : Checked). rebuiltBy k (dcHere (componentAt (start .args .i)) x p (start .args .w) qfs)) passed
-
-slice-aggregate-block-predictors : tie.Need-slice-aggregate-block-predictors
-slice-aggregate-block-predictors c = search needs
 
 block-predictors-requires : tie.Need-block-predictors-requires
 block-predictors-requires c κs = search needs
@@ -67,12 +65,6 @@ enum-told c = search needs
 
 enum-told-2 : tie.Need-enum-told-2
 enum-told-2 c = search needs
-
-mul-qfs : tie.Need-mul-qfs
-mul-qfs c = search needs
-
-array-copy-out-qfs : tie.Need-array-copy-out-qfs
-array-copy-out-qfs c = search needs
 
 reconstruct-block-requires : tie.Need-reconstruct-block-requires
 reconstruct-block-requires c κs = search needs
@@ -92,15 +84,21 @@ enum-told-3 c = search needs
 enum-told-4 : tie.Need-enum-told-4
 enum-told-4 c = search needs
 
+same-length : tie.Need-same-length
+same-length c = omega arith
+
 returns : tie.Need-returns
 returns c =
     let b = c .before .before in
-    let s = b .before .before .before in
+    let s = b .before .before in
     let a = s .args in
     let t = c .enum-told .given .1 in
     let u = b .block-predictors .ensures .0 .0 ∙ found (a .ctx) (a .w) (now (a .store)) (now (a .own)) (a .place) (a .i) (s .pre .0) (s .pre .1) (s .pre .2) (s .pre .3) (s .pre .4) (s .pre .5) in
     let z : _≡_ {A = ℕ} 0 1 = cc in
     absurd (omega arith)
+
+same-length-2 : tie.Need-same-length-2
+same-length-2 c = omega arith
 
 returns-2 : tie.Need-returns-2
 returns-2 c =
@@ -109,18 +107,24 @@ returns-2 c =
     let z : _≡_ {A = ℕ} 0 1 = cc in
     absurd (omega arith)
 
+same-length-3 : tie.Need-same-length-3
+same-length-3 c = omega arith
+
 returns-3 : tie.Need-returns-3
 returns-3 c =
-    let b = c .before .before in
+    let b = c .before .before .before in
     let s = start (b .before .before .before .before .before) in
     let t = c .enum-told3 .given .1 in
-    let u = b .with-block .ensures .0 .0 ∙ block-passes (s .args .i) (s .pre .0) in
+    let u = b .with-block .ensures .0 .0 ∙ block-passes (length (now (s .args .own))) (s .args .i) (s .pre .0) (omega (arith, s .pre .1)) in
     let z : _≡_ {A = ℕ} 0 1 = cc in
     absurd (omega arith)
 
+same-length-4 : tie.Need-same-length-4
+same-length-4 c = omega arith
+
 returns-4 : tie.Need-returns-4
 returns-4 c =
-    let b = c .before .before in
+    let b = c .before .before .before in
     let k = b .before .before in
     let r = b .before .before .before .before .before in
     let s = start r in
@@ -134,7 +138,7 @@ returns-4 c =
     let f = r .reconstruct-block .ensures .1 .1 .0 ∙ kept-fine _ _ (passed r) ∙ ap (λ (y : BlockPredictors). levelsHere m (x r) y (a .w) (qfs r)) e in (
       refl,
       (
-        b .with-block .ensures .0 .1 ∙ handed-out _ _ (block-passes (a .i) (s .pre .0)) ∙ ap₂ (withBlock (now (a .own)) (a .i)) z f,
+        b .with-block .ensures .0 .1 ∙ handed-out _ _ (block-passes (length (now (a .own))) (a .i) (s .pre .0) (omega (arith, s .pre .1))) ∙ ap₂ (withBlock (now (a .own)) (a .i)) z f,
         r .reconstruct-block .ensures .1 .0 ∙ kept-fine _ _ (passed r) ∙ ap (λ (y : BlockPredictors). samplesOf (x r) (valuesHere m (x r) y (a .w) (qfs r))) e,
       ),
     )
@@ -143,19 +147,20 @@ pub one-block-spec : {M : Type 1} → statement M
 one-block-spec =
     tie.close
     (tie.spec
-    slice-aggregate-block-predictors
     block-predictors-requires
     enum-told
     enum-told-2
-    mul-qfs
-    array-copy-out-qfs
     reconstruct-block-requires
     enum-known-one
     enum-known-one-2
     with-block-requires
     enum-told-3
     enum-told-4
+    same-length
     returns
+    same-length-2
     returns-2
+    same-length-3
     returns-3
+    same-length-4
     returns-4)

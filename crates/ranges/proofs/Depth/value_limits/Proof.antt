@@ -3,7 +3,8 @@ use mathlib.Core.Path.{ap, _∙_}
 use native.Mathlib.Omega.{arith}
 use borrow.Author.Needs.{needs}
 use Rattle.numbers.proofs.Tests.{flag-passes, flag-refuses}
-use Rattle.ranges.proofs.DepthLaws.{depth-most, limits-fine, limits-not}
+use Rattle.ranges.proofs.DepthLaws.{limits-fine, limits-not}
+use Rattle.ranges.proofs.RangeLaws.{depth-range}
 use Rattle.ranges.proofs.Depth.value_limits.Statement.{statement}
 use Rattle.ranges.specs.Range.{limitsOutcome}
 use Rattle.ranges.proofs.Depth.value_limits.Tie as tie
@@ -15,10 +16,10 @@ returns : tie.Need-returns
 returns c = limits-not _ _ (flag-refuses (c .before .fine .ensures) (c .if1 .taken))
 
 add-limits-of : tie.Need-add-limits-of
-add-limits-of c = omega (arith, depth-most (c .before .before .args .bits-per-pixel) (flag-passes (c .before .fine .ensures) (c .if1 .left)))
+add-limits-of c = omega (arith, depth-range (c .before .before .args .bits-per-pixel) (flag-passes (c .before .fine .ensures) (c .if1 .left)) .1)
 
 limits-of-requires : tie.Need-limits-of-requires
-limits-of-requires c κs = omega (arith, depth-most (c .before .before .args .bits-per-pixel) (flag-passes (c .before .fine .ensures) (c .if1 .left)))
+limits-of-requires c κs = omega (arith, depth-range (c .before .before .args .bits-per-pixel) (flag-passes (c .before .fine .ensures) (c .if1 .left)) .1)
 
 returns-2 : tie.Need-returns-2
 returns-2 c = ap limitsOutcome (c .limits-of .ensures) ∙ limits-fine _ _ _ (flag-passes (c .before .before .fine .ensures) (c .before .if1 .left))

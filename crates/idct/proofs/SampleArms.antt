@@ -1,42 +1,17 @@
--- A match on the limits of a depth: what each arm knows. Assumes nothing.
+-- A number saturated to any depth: what each arm of a match on its limits gives. Assumes nothing.
 use mathlib.Core.Bool.{Bool, cond, false, true}
 use mathlib.Core.Path.{_≡_, ap, refl, sym, _∙_}
-use Prim.Native.Nat.{ℕ, _+_}
+use Prim.Native.Nat.{ℕ}
 use native.Mathlib.Omega.{arith}
 use lib.IntN.{ℤ}
 use Rattle.numbers.specs.Limit.{clampZ}
 use Rattle.numbers.specs.Outcome.{Outcome, accepted, refused}
-use Rattle.ranges.proofs.DepthLaws.{saturation-told, values-told}
-use Rattle.ranges.specs.Range.{depthFine, highest, limitsOutcome, lowest, saturationLimits, valueLimits}
+use Rattle.ranges.proofs.DepthLaws.{samples-are}
+use Rattle.ranges.specs.Range.{depthFine, highest, limitsOutcome, lowest, saturationLimits}
 use Rattle.ranges.specs.declared.DepthLimits.{DepthLimits}
 use Rattle.ranges.specs.declared.DepthLimits.the-variants.{Are, OutOfRange}
 use Rattle.idct.specs.Limits.{sampleOutcome, saturated}
 use Rattle.idct.specs.declared.limits.IdctSample.the-variants as sample
-
-same : (lo hi a c : ℤ) → Are lo hi ≡ Are a c → (lo ≡ a) × (hi ≡ c)
-same lo hi a c e = (cc, cc)
-
-never : (r : DepthLimits) (a c : ℤ) → r ≡ Are a c → r ≡ OutOfRange → ⊥
-never r a c p q = let z : _≡_ {A = ℕ} 0 1 = cc in omega arith
-
--- ---- of a depth that is fine
-
-module _ (d : ℕ) (r : DepthLimits) (fine : depthFine d ≡ true) where
-  module _ (e : limitsOutcome r ≡ valueLimits d) where
-    pub values-are : (lo hi : ℤ) → r ≡ Are lo hi → (lo ≡ lowest (d + 3)) × (hi ≡ highest (d + 3))
-    values-are lo hi g = same lo hi (lowest (d + 3)) (highest (d + 3)) (sym g ∙ values-told d r fine e)
-
-    pub values-never : r ≡ OutOfRange → ⊥
-    values-never g = never r (lowest (d + 3)) (highest (d + 3)) (values-told d r fine e) g
-
-  module _ (e : limitsOutcome r ≡ saturationLimits d) where
-    pub samples-are : (lo hi : ℤ) → r ≡ Are lo hi → (lo ≡ lowest d) × (hi ≡ highest d)
-    samples-are lo hi g = same lo hi (lowest d) (highest d) (sym g ∙ saturation-told d r fine e)
-
-    pub samples-never : r ≡ OutOfRange → ⊥
-    samples-never g = never r (lowest d) (highest d) (saturation-told d r fine e) g
-
--- ---- of any depth
 
 module _ (d : ℕ) (v : ℤ) (r : DepthLimits) (e : limitsOutcome r ≡ saturationLimits d) where
   pub sample-is : (lo hi z : ℤ) → r ≡ Are lo hi → z ≡ clampZ v lo hi → sampleOutcome (sample.Is z) ≡ cond (depthFine d) (accepted (saturated d v)) (refused 12 0)
