@@ -1,5 +1,5 @@
 -- Answers that hang on tests of the state, by the tests' numbers. Assumes nothing.
-use mathlib.Core.Bool.{Bool, cond, false, true}
+use mathlib.Core.Bool.{Bool, cond}
 use mathlib.Core.List.{List, [], _∷_}
 use mathlib.Core.Logic.{⊎-elim}
 use mathlib.Core.Path.{_≡_, ap, ap₂, refl, sym, _∙_}
@@ -10,7 +10,7 @@ use lib.IntN.{ℤ}
 use lib.ListN.{length}
 use borrow.Author.Tests.{le-ltb, lt-ltb}
 use Rattle.numbers.proofs.Fill.{lt-or-le}
-use Rattle.numbers.proofs.OutcomeLaws.{Figureless, numbered, one-test}
+use Rattle.numbers.proofs.OutcomeLaws.{Figureless, by-numbers, numbered, one-test}
 use Rattle.numbers.specs.Grid.{cell}
 use Rattle.numbers.specs.Outcome.{Outcome, accepted, checked, refused}
 use Rattle.bits.specs.Bits.{Bits, bitsFrom}
@@ -41,13 +41,7 @@ use Rattle.block.specs.declared.intra.BlockDecoded.{BlockDecoded}
 -- the first test that fails gives its number; else what follows
 pub answered : {A R : Type 0} (told : R → Outcome A) (by : Checked → R) → ((e : BlockAssemblyError) → told (by (Bad e)) ≡ refused (numberOf e) (figureOf e))
     → (ts : List (Bool × BlockAssemblyError)) → Figureless figureOf ts → told (by (firstBad ts)) ≡ checked (numbered numberOf ts) (told (by Fine))
-answered told by h [] z = refl
-answered told by h (t ∷ ts) z = go (t .0) (answered told by h ts (z .1))
-  where
-    go : (b : Bool) → told (by (firstBad ts)) ≡ checked (numbered numberOf ts) (told (by Fine))
-        → told (by (cond b (firstBad ts) (Bad (t .1)))) ≡ cond b (checked (numbered numberOf ts) (told (by Fine))) (refused (numberOf (t .1)) 0)
-    go true rest = rest
-    go false rest = h (t .1) ∙ ap (refused (numberOf (t .1))) (z .0)
+answered told by h = by-numbers (λ (k : Checked). told (by k)) Bad Fine numberOf figureOf h
 
 -- ---- what is due of each answer
 

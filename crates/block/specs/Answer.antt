@@ -1,5 +1,5 @@
 -- What is answered of one block, and what its lent samples and levels hold afterwards, refusals included. Definitions only.
-use mathlib.Core.Bool.{Bool, cond}
+use mathlib.Core.Bool.{Bool}
 use mathlib.Core.List.{List, [], _∷_}
 use Prim.Native.Nat.{ℕ}
 use lib.IntN.{ℤ}
@@ -13,6 +13,7 @@ use Rattle.codes.specs.declared.dc_size.DcComponent.{DcComponent}
 use Rattle.coefficients.specs.Level.{predictorsFine}
 use Rattle.coefficients.specs.declared.predictor.BlockPredictors.{BlockPredictors}
 use Rattle.numbers.specs.Grid.{cell}
+use Rattle.numbers.specs.Outcome.{firstOf}
 use Rattle.texture.specs.Answer.{after}
 use Rattle.texture.specs.Macroblock.{Parts}
 use Rattle.texture.specs.MacroblockReader.{readBlock}
@@ -51,8 +52,7 @@ figureOf (Texture e) = T.figureOf e
 
 -- tests with their refusals: the first that fails answers, and those after it are not asked
 abbrev pub firstBad : List (Bool × BlockAssemblyError) → Checked
-firstBad [] = Fine
-firstBad (t ∷ ts) = cond (t .0) (firstBad ts) (Bad (t .1))
+firstBad ts = firstOf Bad Fine ts
 
 -- the state, before any bit: 11, 12, 13
 abbrev pub testsOf : List ℕ → ℕ → MacroblockTextureContext → BlockPredictors → List (List ℕ) → List (Bool × BlockAssemblyError)

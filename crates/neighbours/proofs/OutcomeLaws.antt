@@ -4,7 +4,7 @@ use mathlib.Core.List.{List}
 use mathlib.Core.Path.{_≡_, ap, refl, sym, _∙_}
 use Prim.Native.Nat.{ℕ}
 use lib.Dec.{eqb}
-use Rattle.numbers.proofs.OutcomeLaws.{Figureless, by-numbers, firstOf, numbered}
+use Rattle.numbers.proofs.OutcomeLaws.{Figureless, by-numbers, numbered}
 use Rattle.numbers.specs.Outcome.{Outcome, accepted, checked, done, refused}
 use Rattle.neighbours.specs.Refusals.{blockDue, blockTests, firstBad, numberOf, quantiserDue, quantiserTests, recordedOutcome, storeDue, storeTests, takenDue, takenTests}
 use Rattle.neighbours.specs.declared.place.Place.{Place}
@@ -15,7 +15,7 @@ use Rattle.neighbours.specs.declared.refusal.Recorded.the-variants.{Done
 
 -- ---- of each call
 
-tests-due : (ts : List (Bool × RecordError)) → Figureless (λ (e : RecordError). 0) ts → recordedOutcome (firstOf Refused Done ts) ≡ checked (numbered numberOf ts) done
+tests-due : (ts : List (Bool × RecordError)) → Figureless (λ (e : RecordError). 0) ts → recordedOutcome (firstBad ts) ≡ checked (numbered numberOf ts) done
 tests-due = by-numbers recordedOutcome Refused Done numberOf (λ (e : RecordError). 0) (λ e. refl)
 
 pub block-due : (owned i : ℕ) → recordedOutcome (firstBad (blockTests owned i)) ≡ blockDue owned i

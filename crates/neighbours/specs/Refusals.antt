@@ -3,7 +3,7 @@ use mathlib.Core.Bool.{Bool, cond, true, _&&_}
 use mathlib.Core.List.{List, [], _∷_}
 use Prim.Native.Nat.{ℕ, _+_}
 use lib.Dec.{leb, ltb}
-use Rattle.numbers.specs.Outcome.{Outcome, checked, done, refused}
+use Rattle.numbers.specs.Outcome.{Outcome, checked, done, firstOf, refused}
 use Rattle.ranges.specs.Range.{depthFine, quantiserFine}
 use Rattle.neighbours.specs.declared.place.Place.{Place}
 use Rattle.neighbours.specs.declared.refusal.RecordError.{RecordError}
@@ -22,8 +22,7 @@ recordedOutcome (Refused e) = refused (numberOf e) 0
 
 -- tests with their refusals: the first that fails answers
 abbrev pub firstBad : List (Bool × RecordError) → Recorded
-firstBad [] = Done
-firstBad (t ∷ ts) = cond (t .0) (firstBad ts) (Refused (t .1))
+firstBad ts = firstOf Refused Done ts
 
 -- what is handed out or left in lent memory
 abbrev pub unless : {A : Type 0} → Recorded → A → A → A

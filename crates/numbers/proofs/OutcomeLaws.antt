@@ -3,12 +3,7 @@ use mathlib.Core.Bool.{Bool, cond, false, true, _&&_}
 use mathlib.Core.List.{List, [], _∷_}
 use mathlib.Core.Path.{_≡_, ap, refl, _∙_}
 use Prim.Native.Nat.{ℕ}
-use Rattle.numbers.specs.Outcome.{Outcome, checked, refused}
-
--- the first of tests with refusals of any kind that fails, handed to k; else what follows
-abbrev pub firstOf : {E R : Type 0} → (E → R) → R → List (Bool × E) → R
-firstOf k r [] = r
-firstOf k r (t ∷ ts) = cond (t .0) (firstOf k r ts) (k (t .1))
+use Rattle.numbers.specs.Outcome.{Outcome, checked, firstOf, refused}
 
 -- tests with refusals, by the numbers of these
 abbrev pub numbered : {E : Type 0} → (E → ℕ) → List (Bool × E) → List (Bool × ℕ)

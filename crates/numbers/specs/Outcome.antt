@@ -8,10 +8,14 @@ pub data Outcome (A : Type 0) : Type 0 where
   -- a refusal without a figure tells 0
   refused : (number figure : ℕ) → Outcome A
 
--- tests of the state with their numbers, in their order: the first that fails refuses, and those after it are not asked; else what follows
+-- tests, each with its refusal, in their order: the first that fails answers, and those after it are not asked; else what follows
+abbrev pub firstOf : {E R : Type 0} → (E → R) → R → List (Bool × E) → R
+firstOf refuse follows [] = follows
+firstOf refuse follows (t ∷ ts) = cond (t .0) (firstOf refuse follows ts) (refuse (t .1))
+
+-- tests of the state with their numbers
 abbrev pub checked : {A : Type 0} → List (Bool × ℕ) → Outcome A → Outcome A
-checked [] o = o
-checked (t ∷ ts) o = cond (t .0) (checked ts o) (refused (t .1) 0)
+checked ts o = firstOf (λ (n : ℕ). refused n 0) o ts
 
 -- of a call whose values lie in lent memory
 abbrev pub done : Outcome (Unit {0})
