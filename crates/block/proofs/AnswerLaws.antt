@@ -12,11 +12,10 @@ use Rattle.coefficients.proofs.BlockTests.{test-all}
 use Rattle.inverse_quant.proofs.LimitLaws.{Limited, dequantised1-limited, dequantised1-small, dequantised1-square, dequantised2-limited, dequantised2-small, dequantised2-square}
 use Rattle.inverse_quant.specs.Dequantised.{dequantised1, dequantised2}
 use Rattle.coefficients.specs.Level.{placesFine}
-use Rattle.idct.proofs.Refusals as Refusals
 use Rattle.idct.specs.Limits.{inBounds, valuesFine}
 use Rattle.numbers.specs.Grid.{cell}
-use Rattle.ranges.proofs.RangeLaws.{depth-range}
-use Rattle.ranges.specs.Range.{depthFine}
+use Rattle.ranges.proofs.RangeLaws.{depth-range, within-of}
+use Rattle.ranges.specs.Range.{depthFine, highest, lowest}
 use Rattle.texture.proofs.Sentences.{block-sentences}
 use Rattle.texture.specs.Answer.{after}
 use Rattle.texture.specs.Macroblock.{Parts}
@@ -80,7 +79,7 @@ module _ (c : DcComponent) (x : MacroblockTextureContext) (w : List (List ℕ)) 
   d = x .«bits_per_pixel»
 
   limits : (z : ℤ) → Limited d z → inBounds (d + 3) z ≡ true
-  limits z l = Refusals.inside (d + 3) z (l .low) (l .high)
+  limits z l = within-of (lowest (d + 3)) (highest (d + 3)) z (l .low) (l .high)
 
   pub values-fine : valuesFine d (valuesOf c x w qf) ≡ true
   values-fine = go (x .«quant_type»)

@@ -14,13 +14,13 @@ use lib.Signed.{leZ, _≤ℤ_}
 use mir.Facts.{and-yes}
 use Rattle.numbers.proofs.Every.{every-at}
 use Rattle.numbers.specs.Every.{every}
-use Rattle.numbers.proofs.Integers.{diff-is, le-in, le-leZ, le-out, le-true, neg-dn, neg-up, zarith}
+use Rattle.numbers.proofs.Integers.{diff-is, le-in, le-out, le-true, neg-dn, neg-up, zarith}
 use Rattle.numbers.proofs.Limits.{clamp-high, clamp-low}
 use Rattle.numbers.proofs.Magnitudes.{abs-within}
 use Rattle.numbers.specs.Grid.{block, build, cell}
 use Rattle.numbers.specs.Limit.{clampZ}
 use Rattle.numbers.specs.Outcome.{Outcome, accepted, checked}
-use Rattle.ranges.proofs.RangeLaws.{depth-range}
+use Rattle.ranges.proofs.RangeLaws.{depth-range, within-of}
 use Rattle.ranges.specs.Range.{depthFine, highest, lowest}
 use Rattle.idct.specs.Exact.{Modest, Near, exact}
 use Rattle.idct.specs.Limits.{idctOutcome, inBounds, valuesFine}
@@ -32,16 +32,13 @@ use Rattle.idct.proofs.Scans.{is-T}
 
 -- ---- one value
 
-pub inside : (b : ℕ) (z : ℤ) → lowest b ≤ℤ z → z ≤ℤ highest b → inBounds b z ≡ true
-inside b z p q = simp (le-leZ (lowest b) z p, le-leZ z (highest b) q)
-
 ends : (b : ℕ) → lowest b ≤ℤ highest b
 ends b = let h : 0 < 2 ^ b = pow-pos b in le-in (omega (arith, neg-up (pos (2 ^ b)), neg-dn (pos (2 ^ b)), diff-is (pos (2 ^ b)) (pos 1)))
 
 zero-inside : (b : ℕ) → T (inBounds b (pos 0))
 zero-inside b =
     let h : 0 < 2 ^ b = pow-pos b in
-    is-T (inBounds b (pos 0)) (inside b (pos 0) (le-in (omega (arith, neg-up (pos (2 ^ b)), neg-dn (pos (2 ^ b))))) (le-in (omega (arith, diff-is (pos (2 ^ b)) (pos 1)))))
+    is-T (inBounds b (pos 0)) (within-of (lowest b) (highest b) (pos 0) (le-in (omega (arith, neg-up (pos (2 ^ b)), neg-dn (pos (2 ^ b))))) (le-in (omega (arith, diff-is (pos (2 ^ b)) (pos 1)))))
 
 size : (b : ℕ) (z : ℤ) → T (inBounds b z) → natAbs z ≤ 2 ^ b
 size b z t =
@@ -88,7 +85,7 @@ values-taken d f h =
 
 -- a limited value is within
 pub limited-inside : (b : ℕ) (z : ℤ) → inBounds b (clampZ z (lowest b) (highest b)) ≡ true
-limited-inside b z = inside b (clampZ z (lowest b) (highest b)) (clamp-low z (lowest b) (highest b) (ends b)) (clamp-high z (lowest b) (highest b) (ends b))
+limited-inside b z = within-of (lowest b) (highest b) (clampZ z (lowest b) (highest b)) (clamp-low z (lowest b) (highest b) (ends b)) (clamp-high z (lowest b) (highest b) (ends b))
 
 -- ---- what is taken stays near the exact transform
 
