@@ -5,5 +5,6 @@ pub mod MethodLaws
 pub mod DcLaws
 pub mod LimitLaws
 pub mod MismatchLaws
+pub mod FlipLaws
 pub mod AnswerLaws
 pub mod OutcomeLaws

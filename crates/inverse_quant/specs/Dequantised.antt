@@ -89,6 +89,14 @@ isLast v u = eqb v 7 && eqb u 7
 abbrev pub mismatched : List (List ℤ) → List (List ℤ)
 mismatched f = block (λ (v u : ℕ). cond (even (sumOf f) && isLast v u) (flipped (cell f v u)) (cell f v u))
 
+-- the same in the clause's own words and order: F[7][7] is F'[7][7] where the sum is odd; where it is even, F'[7][7] - 1 if
+-- F'[7][7] is odd, else F'[7][7] + 1
+abbrev pub odd : ℤ → Bool
+odd z = not (even z)
+
+abbrev pub controlled : ℤ → ℤ → ℤ
+controlled sum z = cond (odd sum) z (cond (odd z) (z -ℤ pos 1) (z +ℤ pos 1))
+
 -- F: method 1 with and without mismatch control, and method 2
 unfoldable pub dequantised1 : Bool → InverseQuantContext → List (List ℕ) → List (List ℤ) → List (List ℤ)
 dequantised1 control ctx w qf = cond control (mismatched (fPrime1 ctx w qf)) (fPrime1 ctx w qf)

@@ -3,7 +3,7 @@ ghost use mathlib.Core.Path.{_≡_};
 ghost use Prim.Native.Nat.{ℕ, _≤_};
 ghost use lib.IntN.{natAbs};
 ghost use Rattle.numbers.specs.Grid.{cell};
-ghost use Rattle.inverse_quant.specs.Dequantised.{sumOf, mismatched};
+ghost use Rattle.inverse_quant.specs.Dequantised.{sumOf, odd, mismatched};
 
 // The sum of a block whose values are within 2^15.
 fn sum_block(f: [[i32; 8]; 8]) -> i32
@@ -19,15 +19,24 @@ fn sum_block(f: [[i32; 8]; 8]) -> i32
     sum
 }
 
-// 7.4.4.5: the lowest bit of value (7, 7) flipped where the sum is even.
+// Whether a number is odd, a negative one too: the remainder is then 1 or -1.
+fn is_odd(z: i32) -> bool
+    ensures { λ r. ⌜ r ≡ odd z ⌝ }
+{
+    z % 2 != 0
+}
+
+// 7.4.4.5 in its order: an odd sum changes nothing; under an even one value (7, 7) is 1 less where it is odd, else 1 more.
 pub(crate) fn mismatch_control(f: [[i32; 8]; 8]) -> [[i32; 8]; 8]
     requires { ⌜ ((v u : ℕ) → natAbs (cell f v u) ≤ 32768) ⌝ }
     ensures { λ r. ⌜ r ≡ mismatched f ⌝ }
 {
-    let mut out = f;
-    if sum_block(f) % 2 == 0 {
-        let last = f[7][7];
-        out[7][7] = if last % 2 == 0 { last + 1 } else { last - 1 };
+    let sum = sum_block(f);
+    if is_odd(sum) {
+        return f;
     }
+    let last = f[7][7];
+    let mut out = f;
+    out[7][7] = if is_odd(last) { last - 1 } else { last + 1 };
     out
 }
