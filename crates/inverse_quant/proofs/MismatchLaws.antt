@@ -29,13 +29,13 @@ pub mismatched-odd : (f : List (List ℤ)) → Square f → even (sumOf f) ≡ f
 mismatched-odd f s e = rw e (sym (block-same f s))
 
 -- the code's test of a sum and of a value, by the remainder
-pub rem-even : (z : ℤ) → remZ z (pos 2) ≡ pos 0 → even z ≡ true
+rem-even : (z : ℤ) → remZ z (pos 2) ≡ pos 0 → even z ≡ true
 rem-even z e = eq-eqb (natAbs z % 2) 0 (omega (arith, rem-abs z (pos 2), ap natAbs e))
 
-pub rem-odd : (z : ℤ) → (remZ z (pos 2) ≡ pos 0 → ⊥) → even z ≡ false
+rem-odd : (z : ℤ) → (remZ z (pos 2) ≡ pos 0 → ⊥) → even z ≡ false
 rem-odd z n = ne-eqb (natAbs z % 2) 0 (λ e. n (zero-of-abs (remZ z (pos 2)) (omega (arith, rem-abs z (pos 2)))))
 
--- the test of the remainder's bits
+-- and by the remainder's bits
 pub rem-tells : (z : ℤ) → eqb (ofZ w32 (remZ z (pos 2))) 0 ≡ even z
 rem-tells z = go (eqb (ofZ w32 (remZ z (pos 2))) 0) refl
   where

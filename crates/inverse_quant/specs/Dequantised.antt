@@ -89,8 +89,8 @@ isLast v u = eqb v 7 && eqb u 7
 abbrev pub mismatched : List (List ℤ) → List (List ℤ)
 mismatched f = block (λ (v u : ℕ). cond (even (sumOf f) && isLast v u) (flipped (cell f v u)) (cell f v u))
 
--- the same in the clause's own words and order: F[7][7] is F'[7][7] where the sum is odd; where it is even, F'[7][7] - 1 if
--- F'[7][7] is odd, else F'[7][7] + 1
+-- value (7, 7) once more, in the clause's own words and order: F[7][7] is F'[7][7] where the sum is odd; where it is even,
+-- F'[7][7] - 1 if F'[7][7] is odd, else F'[7][7] + 1
 abbrev pub odd : ℤ → Bool
 odd z = not (even z)
 

@@ -26,7 +26,8 @@ fn is_odd(z: i32) -> bool
     z % 2 != 0
 }
 
-// 7.4.4.5 in its order: an odd sum changes nothing; under an even one value (7, 7) is 1 less where it is odd, else 1 more.
+// 7.4.4.5, from F' to F, in its order: where the sum is odd, F[7][7] = F'[7][7]; where it is even, F[7][7] = F'[7][7] - 1
+// if F'[7][7] is odd, else F'[7][7] + 1.
 pub(crate) fn mismatch_control(f: [[i32; 8]; 8]) -> [[i32; 8]; 8]
     requires { ⌜ ((v u : ℕ) → natAbs (cell f v u) ≤ 32768) ⌝ }
     ensures { λ r. ⌜ r ≡ mismatched f ⌝ }

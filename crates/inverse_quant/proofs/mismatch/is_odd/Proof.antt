@@ -2,7 +2,6 @@
 use lib.Dec.{lit<}
 use lib.IntN.{pos}
 use mir.Facts.{toZ-ofZ}
-use mir.Syntax.{w32}
 use Rattle.numbers.proofs.Expressions.{any, lit, _⊘_, fits}
 use Rattle.inverse_quant.proofs.MismatchLaws.{rem-tells}
 use Rattle.inverse_quant.proofs.mismatch.is_odd.Statement.{statement}
