@@ -41,11 +41,21 @@ bits-below (pos (suc n)) f p =
     let e : (pos (suc n) -ℤ pos 1) ≡ pos n = omega (zarith, diff-is (pos (suc n)) (pos 1)) in rw e (omega arith)
 bits-below (negsuc n) f p = omega (arith, f .sfits)
 
+-- the greatest i32 is odd and goes down, the least is even and goes up
 flip-fits : (z : ℤ) → SFits w32 z → SFits w32 (flipped z)
-flip-fits z f =
-    by-parity (SFits w32) z
-    (λ p. fits-half w32 (z +ℤ pos 1) (omega (arith, halves z, add-is z (pos 1), halves (z +ℤ pos 1), fits-up f)) (omega (arith, halves z, add-is z (pos 1), halves (z +ℤ pos 1), fits-dn f)))
-    (λ p. fits-half w32 (z -ℤ pos 1) (omega (arith, halves z, diff-is z (pos 1), halves (z -ℤ pos 1), fits-up f)) (omega (arith, halves z, diff-is z (pos 1), halves (z -ℤ pos 1), fits-dn f)))
+flip-fits z f = by-parity (SFits w32) z above below
+  where
+    above : natAbs z % 2 ≡ 0 → SFits w32 (z +ℤ pos 1)
+    above p =
+        let y = z +ℤ pos 1 in
+        let s = add-is z (pos 1) in
+        fits-half w32 y (omega (arith, s, halves z, halves y, fits-up f)) (omega (arith, s, halves z, halves y, fits-dn f))
+
+    below : natAbs z % 2 ≡ 1 → SFits w32 (z -ℤ pos 1)
+    below p =
+        let y = z -ℤ pos 1 in
+        let d = diff-is z (pos 1) in
+        fits-half w32 y (omega (arith, d, halves z, halves y, fits-up f)) (omega (arith, d, halves z, halves y, fits-dn f))
 
 flip-bits : (z : ℤ) → SFits w32 z → bitXor (ofZ w32 z) 1 ≡ ofZ w32 (flipped z)
 flip-bits z f =
