@@ -15,6 +15,7 @@ use Rattle.numbers.specs.Grid.{cell, cellN}
 use Rattle.numbers.proofs.Fill.{cell-block}
 use Rattle.numbers.proofs.Integers.{halves, nat, told≡, var, _⊕_, _⊝_}
 use Rattle.numbers.proofs.Magnitudes.{rem-abs, zero-of-abs}
+use Rattle.numbers.proofs.Tests.{and-false}
 use Rattle.numbers.proofs.Words.{bits-eq, cast-us, fits-abs}
 use Rattle.inverse_quant.specs.declared.context.InverseQuantContext.{InverseQuantContext}
 use Rattle.inverse_quant.specs.Dequantised.{valueOf1, fPrime1, sumOf, even, flipped, isLast, mismatched, controlled, dequantised1}
@@ -62,11 +63,7 @@ pub in-its-words : (f : List (List ℤ)) → cell (mismatched f) 7 7 ≡ control
 in-its-words f = cell-block (cells f) 7 7 (omega arith) (omega arith) ∙ turned (even (sumOf f)) (even (cell f 7 7)) (cell f 7 7)
 
 pub others-stay : (f : List (List ℤ)) (v u : ℕ) → v < 8 → u < 8 → isLast v u ≡ false → cell (mismatched f) v u ≡ cell f v u
-others-stay f v u p q e = cell-block (cells f) v u p q ∙ rw e (kept (even (sumOf f)))
-  where
-    kept : (s : Bool) → cond (s && false) (flipped (cell f v u)) (cell f v u) ≡ cell f v u
-    kept true = refl
-    kept false = refl
+others-stay f v u p q e = cell-block (cells f) v u p q ∙ rw (e, and-false (even (sumOf f)))
 
 -- ---- the sum
 
