@@ -11,21 +11,21 @@ use Rattle.numbers.specs.Limit.{clampZ}
 use Rattle.ranges.specs.Range.{highest, lowest}
 use Rattle.idct.specs.Limits.{saturated}
 
+below : (d : ℕ) → lowest d <ℤ pos 0
+below d = lt-in (omega (arith, pow-pos d, neg-up (pos (2 ^ d)), neg-dn (pos (2 ^ d))))
+
+pub above : (d : ℕ) → pos 0 ≤ℤ highest d
+above d = le-in (omega (arith, pow-pos d, diff-is (pos (2 ^ d)) (pos 1)))
+
 module _ (d : ℕ) (z : ℤ) where
-  below : lowest d <ℤ pos 0
-  below = lt-in (omega (arith, pow-pos d, neg-up (pos (2 ^ d)), neg-dn (pos (2 ^ d))))
-
-  above : pos 0 ≤ℤ highest d
-  above = le-in (omega (arith, pow-pos d, diff-is (pos (2 ^ d)) (pos 1)))
-
   limited : clampZ (clampZ z (lowest d) (highest d)) (pos 0) (highest d) ≡ clampZ z (pos 0) (highest d)
   limited = go (ltZ z (lowest d)) (ltZ (highest d) z) refl refl
     where
       go : (s t : Bool) → ltZ z (lowest d) ≡ s → ltZ (highest d) z ≡ t → clampZ (cond s (lowest d) (cond t (highest d) z)) (pos 0) (highest d) ≡ clampZ z (pos 0) (highest d)
-      go true t e g = simp (lt-ltZ (lowest d) (pos 0) below, lt-ltZ z (pos 0) (lt-in (omega (zarith, below, lt-true z (lowest d) e))))
+      go true t e g = simp (lt-ltZ (lowest d) (pos 0) (below d), lt-ltZ z (pos 0) (lt-in (omega (zarith, below d, lt-true z (lowest d) e))))
       go false true e g =
-          let h : pos 0 ≤ℤ z = le-in (omega (zarith, above, lt-true (highest d) z g)) in
-          simp (le-ltZ (highest d) (pos 0) above, le-ltZ (highest d) (highest d) (le-in (omega arith)), le-ltZ z (pos 0) h, g)
+          let h : pos 0 ≤ℤ z = le-in (omega (zarith, above d, lt-true (highest d) z g)) in
+          simp (le-ltZ (highest d) (pos 0) (above d), le-ltZ (highest d) (highest d) (le-in (omega arith)), le-ltZ z (pos 0) h, g)
       go false false e g = refl
 
   pub clipped : clampZ (saturated d z) (pos 0) (highest d) ≡ clampZ z (pos 0) (highest d)

@@ -32,7 +32,7 @@ use Rattle.idct.proofs.Scans.{is-T}
 
 -- ---- one value
 
-ends : (b : ℕ) → lowest b ≤ℤ highest b
+pub ends : (b : ℕ) → lowest b ≤ℤ highest b
 ends b = let h : 0 < 2 ^ b = pow-pos b in le-in (omega (arith, neg-up (pos (2 ^ b)), neg-dn (pos (2 ^ b)), diff-is (pos (2 ^ b)) (pos 1)))
 
 zero-inside : (b : ℕ) → T (inBounds b (pos 0))

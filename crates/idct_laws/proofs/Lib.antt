@@ -6,3 +6,6 @@ pub mod Settled
 pub mod Between
 pub mod DcHalves
 pub mod ChromaGrey
+pub mod Sums
+pub mod Pushes
+pub mod Limiting

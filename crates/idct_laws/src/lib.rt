@@ -1,2 +1,3 @@
-// Laws only, no code, of a transform's whole numbers before they are limited: outside the tolerance what
-// `round` gives; near a half of the exact transform, and away from every half; a DC alone.
+// Laws only, no code, of a transform's whole numbers. Before they are limited: outside the tolerance what `round` gives;
+// near a half of the exact transform, and away from every half; a DC alone. Before and after: how far those of two blocks
+// of values can be apart.
