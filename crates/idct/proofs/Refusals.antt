@@ -9,18 +9,18 @@ use lib.Dec.{T, lit≤}
 use lib.Ieee.Bits.{is-true}
 use lib.IntN.{ℤ, pos, natAbs}
 use lib.ListN.{getD}
-use lib.Pow.{pow-mono, pow-pos}
+use lib.Pow.{pow-mono}
 use lib.Signed.{leZ, _≤ℤ_}
 use mir.Facts.{and-yes}
 use Rattle.numbers.proofs.Every.{every-at}
 use Rattle.numbers.specs.Every.{every}
-use Rattle.numbers.proofs.Integers.{diff-is, le-in, le-out, le-true, neg-dn, neg-up, zarith}
+use Rattle.numbers.proofs.Integers.{<ℤ-≤ℤ, diff-is, le-in, le-out, le-true, zarith}
 use Rattle.numbers.proofs.Limits.{clamp-high, clamp-low}
 use Rattle.numbers.proofs.Magnitudes.{abs-within}
 use Rattle.numbers.specs.Grid.{block, build, cell}
 use Rattle.numbers.specs.Limit.{clampZ}
 use Rattle.numbers.specs.Outcome.{Outcome, accepted, checked}
-use Rattle.ranges.proofs.RangeLaws.{depth-range, within-of}
+use Rattle.ranges.proofs.RangeLaws.{depth-range, highest-not-negative, lowest-highest, lowest-negative, within-of}
 use Rattle.ranges.specs.Range.{depthFine, highest, lowest}
 use Rattle.idct.specs.Exact.{Modest, Near, exact}
 use Rattle.idct.specs.Limits.{idctOutcome, inBounds, valuesFine}
@@ -32,13 +32,8 @@ use Rattle.idct.proofs.Scans.{is-T}
 
 -- ---- one value
 
-pub ends : (b : ℕ) → lowest b ≤ℤ highest b
-ends b = let h : 0 < 2 ^ b = pow-pos b in le-in (omega (arith, neg-up (pos (2 ^ b)), neg-dn (pos (2 ^ b)), diff-is (pos (2 ^ b)) (pos 1)))
-
 zero-inside : (b : ℕ) → T (inBounds b (pos 0))
-zero-inside b =
-    let h : 0 < 2 ^ b = pow-pos b in
-    is-T (inBounds b (pos 0)) (within-of (lowest b) (highest b) (pos 0) (le-in (omega (arith, neg-up (pos (2 ^ b)), neg-dn (pos (2 ^ b))))) (le-in (omega (arith, diff-is (pos (2 ^ b)) (pos 1)))))
+zero-inside b = is-T (inBounds b (pos 0)) (within-of (lowest b) (highest b) (pos 0) (<ℤ-≤ℤ (lowest-negative b)) (highest-not-negative b))
 
 size : (b : ℕ) (z : ℤ) → T (inBounds b z) → natAbs z ≤ 2 ^ b
 size b z t =
@@ -85,7 +80,7 @@ values-taken d f h =
 
 -- a limited value is within
 pub limited-inside : (b : ℕ) (z : ℤ) → inBounds b (clampZ z (lowest b) (highest b)) ≡ true
-limited-inside b z = within-of (lowest b) (highest b) (clampZ z (lowest b) (highest b)) (clamp-low z (lowest b) (highest b) (ends b)) (clamp-high z (lowest b) (highest b) (ends b))
+limited-inside b z = within-of (lowest b) (highest b) (clampZ z (lowest b) (highest b)) (clamp-low z (lowest b) (highest b) (lowest-highest b)) (clamp-high z (lowest b) (highest b) (lowest-highest b))
 
 -- ---- what is taken stays near the exact transform
 

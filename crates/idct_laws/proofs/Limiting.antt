@@ -1,4 +1,4 @@
--- The same of whole numbers after they are limited, to what the transform writes and to samples. Assumes nothing.
+-- Where two blocks of values differ, how far their whole numbers are apart once limited, to what the transform writes and to samples. Assumes nothing.
 use mathlib.Core.Bool.{true}
 use mathlib.Core.List.{List}
 use mathlib.Core.Path.{_≡_, subst}
@@ -8,9 +8,8 @@ use lib.IntN.{ℤ, pos, natAbs, _-ℤ_}
 use Rattle.numbers.proofs.Limits.{clamp-near}
 use Rattle.numbers.specs.Grid.{cell}
 use Rattle.numbers.specs.Limit.{clampZ}
+use Rattle.ranges.proofs.RangeLaws.{highest-not-negative, lowest-highest}
 use Rattle.ranges.specs.Range.{depthFine, highest, lowest}
-use Rattle.idct.proofs.Clips.{above}
-use Rattle.idct.proofs.Refusals.{ends}
 use Rattle.idct.specs.Limits.{saturated, valuesFine}
 use Rattle.idct.specs.Transform.{whole}
 use Rattle.idct.specs.declared.rounding.HalfIntegerRounding.{HalfIntegerRounding}
@@ -19,7 +18,7 @@ use Rattle.idct_laws.proofs.Pushes.{changed-one, push}
 
 saturated-near : (b : ℕ) (p q : ℤ) → natAbs (saturated b p -ℤ saturated b q) ≤ natAbs (p -ℤ q)
 unfolding saturated
-saturated-near b p q = clamp-near p q (lowest b) (highest b) (ends b)
+saturated-near b p q = clamp-near p q (lowest b) (highest b) (lowest-highest b)
 
 closer : (d : ℕ) (p q r s : ℤ) → natAbs (r -ℤ s) ≤ natAbs (p -ℤ q) → Pushed d p q → Pushed d r s
 closer d p q r s l h = le-trans (mul-le-mul-right (2 ^ 25) l) h
@@ -41,7 +40,7 @@ module _ (depth : ℕ) (a b : List (List ℤ)) (fine : depthFine depth ≡ true)
     limited z = clampZ z (pos 0) (highest depth)
 
     pub push-limited : Pushed (changed a b) (limited p) (limited q)
-    push-limited = closer (changed a b) p q (limited p) (limited q) (clamp-near p q (pos 0) (highest depth) (above depth)) (push depth a b fine taken-a taken-b m n y x ly lx)
+    push-limited = closer (changed a b) p q (limited p) (limited q) (clamp-near p q (pos 0) (highest depth) (highest-not-negative depth)) (push depth a b fine taken-a taken-b m n y x ly lx)
 
     -- where one place alone differs
     module _ (v u : ℕ) (lv : v < 8) (lu : u < 8) (h : OnePlace a b v u) where

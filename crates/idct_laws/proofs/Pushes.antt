@@ -109,7 +109,7 @@ module _ (depth : ℕ) (a b : List (List ℤ)) (fine : depthFine depth ≡ true)
     pub push-one : (v u : ℕ) → v < 8 → u < 8 → OnePlace a b v u → Pushed (natAbs (cell a v u -ℤ cell b v u)) (whole m a y x) (whole n b y x)
     push-one v u lv lu h = subst (λ (d : ℕ). Pushed d (whole m a y x) (whole n b y x)) (changed-one a b v u lv lu h) push
 
--- ---- as whole numbers differ by a whole number, at most d / 4, cut, and 1
+-- ---- as whole numbers differ by a whole number, at most d / 4, cut, plus 1
 
 pub pushed-whole : (d : ℕ) (p q : ℤ) → Pushed d p q → natAbs (p -ℤ q) ≤ d / 4 + 1
 pushed-whole d p q h = omega arith

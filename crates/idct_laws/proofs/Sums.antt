@@ -23,11 +23,13 @@ sums-apart t s f B (suc n) h =
     (le-trans (add-le-add (sums-apart t s f B n (λ (i : ℕ) (l : i < n). h i (le-trans l (le-suc n)))) (h n (le-refl (suc n))))
     (le-of-eq (sym (add-mul (seriesN f n) (f n) B)))))
 
+-- where no term differs from 0
 pub none : (f : ℕ → ℕ) (n : ℕ) → ((i : ℕ) → i < n → f i ≡ 0) → seriesN f n ≡ 0
 unfolding seriesN
 none f zero h = refl
 none f (suc n) h = ap₂ (λ (a b : ℕ). a + b) (none f n (λ (i : ℕ) (l : i < n). h i (le-trans l (le-suc n)))) (h n (le-refl (suc n)))
 
+-- where the k-th alone may
 pub one-only : (f : ℕ → ℕ) (n k : ℕ) → k < n → ((i : ℕ) → i < n → i ≢ k → f i ≡ 0) → seriesN f n ≡ f k
 unfolding seriesN
 one-only f zero k l h = absurd (omega arith)

@@ -1,14 +1,15 @@
--- A range's test as bounds, and back. Assumes nothing.
+-- A range's test as bounds, and back; and where the limits of a depth lie. Assumes nothing.
 use mathlib.Core.Bool.{true, _&&_}
 use mathlib.Core.Path.{_≡_}
-use Prim.Native.Nat.{ℕ, _+_, _≤_, _<_}
+use Prim.Native.Nat.{ℕ, _+_, _^_, _≤_, _<_}
 use native.Mathlib.Omega.{arith}
 use lib.Dec.{leb}
 use lib.IntN.{ℤ, pos, negsuc, natAbs}
-use lib.Signed.{leZ, _≤ℤ_}
+use lib.Pow.{pow-pos}
+use lib.Signed.{leZ, _<ℤ_, _≤ℤ_}
 use borrow.Author.Tests.{leb-true, le-leb}
-use Rattle.numbers.proofs.Integers.{halves, le-in, le-leZ, le-yes}
-use Rattle.ranges.specs.Range.{within, depthFine, quantiserFine, levelFine, differenceFine, dcFine}
+use Rattle.numbers.proofs.Integers.{<ℤ-≤ℤ, diff-is, halves, le-in, le-leZ, le-yes, lt-in, neg-dn, neg-up, ≤ℤ-trans}
+use Rattle.ranges.specs.Range.{within, depthFine, quantiserFine, levelFine, differenceFine, dcFine, highest, lowest}
 use Rattle.numbers.proofs.Tests.{both-true, true-both}
 
 pub within-of : (lo hi z : ℤ) → lo ≤ℤ z → z ≤ℤ hi → within lo hi z ≡ true
@@ -63,3 +64,14 @@ depth-range = leb-range 4 12
 
 pub range-depth : (d : ℕ) → 4 ≤ d → d ≤ 12 → depthFine d ≡ true
 range-depth = range-leb 4 12
+
+-- ---- the limits of b bits, on either side of 0
+
+pub lowest-negative : (b : ℕ) → lowest b <ℤ pos 0
+lowest-negative b = lt-in (omega (arith, pow-pos b, neg-up (pos (2 ^ b)), neg-dn (pos (2 ^ b))))
+
+pub highest-not-negative : (b : ℕ) → pos 0 ≤ℤ highest b
+highest-not-negative b = le-in (omega (arith, pow-pos b, diff-is (pos (2 ^ b)) (pos 1)))
+
+pub lowest-highest : (b : ℕ) → lowest b ≤ℤ highest b
+lowest-highest b = ≤ℤ-trans (<ℤ-≤ℤ (lowest-negative b)) (highest-not-negative b)
