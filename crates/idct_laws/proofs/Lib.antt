@@ -9,3 +9,11 @@ pub mod ChromaGrey
 pub mod Sums
 pub mod Pushes
 pub mod Limiting
+pub mod Fractions
+pub mod MovedSums
+pub mod Moves
+pub mod RootLaws
+pub mod NearRoots
+pub mod Scales
+pub mod Entries
+pub mod TrueCosines

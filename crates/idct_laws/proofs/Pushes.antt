@@ -43,10 +43,10 @@ term-size c d f p q P hc hd hp hq =
     turned : (f P : ℕ) → P * P * f * P * P ≡ f * (P * P * P * P)
     turned f P = omega arith
 
-c-size : (u : ℕ) → natAbs (cZ u) ≤ 2 ^ 55
+pub c-size : (u : ℕ) → natAbs (cZ u) ≤ 2 ^ 55
 c-size u = le-trans (le-of-eq (abs-is (cZ u))) (c-const u .small)
 
-cos-size : (u x : ℕ) → natAbs (cosZ u x) ≤ 2 ^ 55
+pub cos-size : (u x : ℕ) → natAbs (cosZ u x) ≤ 2 ^ 55
 cos-size u x = le-trans (le-of-eq (abs-is (cosZ u x))) (cos-const u x .small)
 
 -- ---- the exact transforms

@@ -14,9 +14,9 @@ use mir.Val.{SFits, Fits}
 use borrow.Author.Tests.{ltb-true}
 use Rattle.numbers.specs.Every.{every}
 use Rattle.numbers.specs.Grid.{build}
-use Rattle.numbers.proofs.Every.{every-get, every-in, every-fails}
+use Rattle.numbers.proofs.Every.{every-build, every-in, every-fails}
 use Rattle.numbers.proofs.Fill.{getD-build}
-use Rattle.numbers.proofs.Tests.{both-true}
+use Rattle.numbers.proofs.Tests.{T-true, true-T}
 use Rattle.neighbours.specs.Record.{quantiserOf, recordAt, sevenFrom, knownOf}
 use Rattle.neighbours.specs.Neighbours.{Around, aSource, aBlock, bSource, bBlock, cSource, cBlock, sideOf, joinedBy, predictors, sixBlocks}
 use Rattle.neighbours.specs.declared.record.Side.{Side}
@@ -31,7 +31,8 @@ six-at i h = getD-build 6 (λ (k : ℕ). k) i 0 h
 
 -- a test that passes the six blocks passes each
 pub each-of-six : (f : ℕ → Bool) → every f sixBlocks ≡ true → (i : ℕ) → i < 6 → f i ≡ true
-each-of-six f e i h = ap f (sym (six-at i h)) ∙ every-get f 0 (both-true (f 0) _ e .0) sixBlocks e i
+unfolding build
+each-of-six f e i h = T-true (f i) (every-build f 6 (λ (k : ℕ). k) (true-T (every f sixBlocks) e) i h)
 
 pub all-of-six : (f : ℕ → Bool) → ((i : ℕ) → i < 6 → f i ≡ true) → every f sixBlocks ≡ true
 all-of-six f g = every-in f 0 sixBlocks (λ (i : ℕ) (h : i < 6). ap f (six-at i h) ∙ g i h)

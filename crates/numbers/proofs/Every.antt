@@ -9,13 +9,20 @@ use lib.Dec.{T}
 use lib.ListN.{length, getD}
 use Rattle.numbers.proofs.Tests.{T-true, true-T, and-false, and-left, and-right, true-both}
 use Rattle.numbers.specs.Every.{every}
-use Rattle.numbers.specs.Grid.{cellN}
+use Rattle.numbers.specs.Grid.{build, cellN}
 
 -- a test that is computed over the whole list, carried to each element
 pub every-at : {A : Type 0} (p : A → Bool) (d : A) (xs : List A) → T (p d) → T (every p xs) → (i : ℕ) → T (p (getD xs i d))
 every-at p d [] z t i = z
 every-at p d (x ∷ xs) z t zero = and-left (p x) (every p xs) t
 every-at p d (x ∷ xs) z t (suc i) = every-at p d xs z (and-right (p x) (every p xs) t) i
+
+-- and over f(0) .. f(n - 1), carried to each of them
+pub every-build : {A : Type 0} (p : A → Bool) (n : ℕ) (f : ℕ → A) → T (every p (build n f)) → (i : ℕ) → i < n → T (p (f i))
+unfolding build
+every-build p zero f t i l = absurd (not-suc-le-zero l)
+every-build p (suc n) f t zero l = and-left (p (f 0)) (every p (build n (λ (k : ℕ). f (suc k)))) t
+every-build p (suc n) f t (suc i) l = let rest = and-right (p (f 0)) (every p (build n (λ (k : ℕ). f (suc k)))) t in every-build p n (λ (k : ℕ). f (suc k)) rest i (le-of-suc-le-suc l)
 
 module _ {A : Type 0} (p : A → Bool) (d : A) where
   pub every-get : p d ≡ true → (xs : List A) → every p xs ≡ true → (i : ℕ) → p (getD xs i d) ≡ true

@@ -1,5 +1,5 @@
--- What a test that holds, the `&&` of definitions and the `!` of the code tell. Assumes nothing.
-use mathlib.Core.Bool.{Bool, true, false, _&&_, not}
+-- What a test that holds, the `&&` and `||` of definitions and the `!` of the code tell. Assumes nothing.
+use mathlib.Core.Bool.{Bool, true, false, _&&_, _||_, not}
 use mathlib.Core.Path.{_≡_, refl, sym, subst, _∙_}
 use borrow.Author.Tests.{not-true, not-false}
 use lib.Dec.{T}
@@ -22,6 +22,14 @@ and-left false b t = t
 pub and-right : (a b : Bool) → T (a && b) → T b
 and-right true b t = t
 and-right false b t = absurd t
+
+pub or-left : (a b : Bool) → T a → T (a || b)
+or-left true b t = tt
+or-left false b t = absurd t
+
+pub or-right : (a b : Bool) → T b → T (a || b)
+or-right true b t = tt
+or-right false b t = t
 
 pub both-true : (a b : Bool) → (a && b) ≡ true → (a ≡ true) × (b ≡ true)
 both-true a b e = let t = true-T (a && b) e in (T-true a (and-left a b t), T-true b (and-right a b t))
