@@ -1,7 +1,7 @@
 -- How near a whole number is to the transform worked with fractions near the table's constants, and that near a half of it the rule decides. Assumes nothing.
 use mathlib.Core.Bool.{true}
 use mathlib.Core.List.{List}
-use mathlib.Core.Path.{_≡_, sym, ap, _∙_, subst, subst₂}
+use mathlib.Core.Path.{_≡_, sym, ap, _∙_, subst₂}
 use Prim.Native.Nat.{ℕ, _+_, _*_, _^_, _≤_, _<_}
 use native.Mathlib.Nat.{le-of-eq, le-of-mul-le-mul-right, le-refl, le-trans, mul-le-mul, mul-le-mul-right, mul-pos}
 use native.Mathlib.Omega.{arith}
@@ -43,24 +43,33 @@ across a z w D K =
     turned : (a *ℤ pos D -ℤ w) *ℤ pos K ≡ (a *ℤ pos K -ℤ z) *ℤ pos D -ℤ (w *ℤ pos K -ℤ z *ℤ pos D)
     turned = ring ((var a ⊗ nat D ⊝ var w) ⊗ nat K) ((var a ⊗ nat K ⊝ var z) ⊗ nat D ⊝ (var w ⊗ nat K ⊝ var z ⊗ nat D)) (omega arith)
 
--- the whole number is p from the exact transform and the sum q from it: 1/2 + 1/2 ^ 26, and 3/2 ^ 26; X is 2 ^ 190
-reduce : (D X o p q : ℕ) → 0 < X → o * (2 ^ 30 * X) ≤ p * D + q → p ≤ (2 ^ 31 + 2 ^ 6) * X → q ≤ 64 * (D * (3 * X)) → o * 2 ^ 24 ≤ (2 ^ 23 + 1) * (4 * D)
-reduce D X o p q s h i j =
-    let g : p * D ≤ (2 ^ 31 + 2 ^ 6) * X * D = mul-le-mul-right D i in
-    let r : o * 2 ^ 30 ≤ (2 ^ 31 + 2 ^ 8) * D = le-of-mul-le-mul-right (omega arith) s in
+-- of a whole number n, and of k and a half
+by-whole : (n z w : ℤ) (D K : ℕ) → natAbs (n *ℤ pos (4 * D) -ℤ w) * K ≤ natAbs (n *ℤ pos (4 * K) -ℤ z) * D + natAbs (w *ℤ pos K -ℤ z *ℤ pos D)
+by-whole n z w D K =
+    subst₂ (λ (a b : ℤ). natAbs (a -ℤ w) * K ≤ natAbs (b -ℤ z) * D + natAbs (w *ℤ pos K -ℤ z *ℤ pos D)) (*ℤ-assoc n (pos 4) (pos D)) (*ℤ-assoc n (pos 4) (pos K))
+    (across (n *ℤ pos 4) z w D K)
+
+by-half : (k z w : ℤ) (D K : ℕ)
+    → natAbs (w -ℤ k *ℤ pos (4 * D) -ℤ pos (2 * D)) * K ≤ natAbs (z -ℤ k *ℤ pos (4 * K) -ℤ pos (2 * K)) * D + natAbs (w *ℤ pos K -ℤ z *ℤ pos D)
+by-half k z w D K =
+    subst₂ (λ (a b : ℕ). a * K ≤ b * D + natAbs (w *ℤ pos K -ℤ z *ℤ pos D)) (sym (from w D)) (sym (from z K)) (across (k *ℤ pos 4 +ℤ pos 2) z w D K)
+  where
+    from : (v : ℤ) (E : ℕ) → natAbs (v -ℤ k *ℤ pos (4 * E) -ℤ pos (2 * E)) ≡ natAbs ((k *ℤ pos 4 +ℤ pos 2) *ℤ pos E -ℤ v)
+    from v E =
+        ap natAbs (ring (var v ⊝ var k ⊗ (nat 4 ⊗ nat E) ⊝ nat 2 ⊗ nat E) (var v ⊝ (var k ⊗ nat 4 ⊕ nat 2) ⊗ nat E) (omega arith)) ∙ abs-swap v ((k *ℤ pos 4 +ℤ pos 2) *ℤ pos E)
+
+-- n is p from the exact transform, 1/2 + 1/2 ^ 26, which is q from w, 3/2 ^ 26: in units of X, which is 2 ^ 190
+reduce : (d X p q : ℕ) (n w : ℤ) → 0 < X → natAbs (n *ℤ pos (4 * fourth d) -ℤ w) * (2 ^ 30 * X) ≤ p * fourth d + q → p ≤ (2 ^ 31 + 2 ^ 6) * X → q ≤ 64 * (fourth d * (3 * X))
+    → WithinOf d n w
+reduce d X p q n w s h i j =
+    let g : p * fourth d ≤ (2 ^ 31 + 2 ^ 6) * X * fourth d = mul-le-mul-right (fourth d) i in
+    let r : natAbs (n *ℤ pos (4 * fourth d) -ℤ w) * 2 ^ 30 ≤ (2 ^ 31 + 2 ^ 8) * fourth d = le-of-mul-le-mul-right (omega arith) s in
     omega arith
 
--- the half is h from the sum and the sum q from the exact transform: 1/2 ^ 28 each; X is 2 ^ 188
-reduce-half : (D X o h q : ℕ) → 0 < D → o * D ≤ h * (2 ^ 32 * X) + q → h * 2 ^ 28 ≤ 4 * D → q ≤ 64 * (D * X) → o ≤ 2 ^ 7 * X
-reduce-half D X o h q s a b c =
-    let t : h * 2 ^ 28 * (2 ^ 4 * X) ≤ 4 * D * (2 ^ 4 * X) = mul-le-mul-right (2 ^ 4 * X) b in
-    le-of-mul-le-mul-right (omega arith) s
-
--- how far z is from k + 1/2, in units of 1 / (4 D)
-from-half : (k z : ℤ) (D : ℕ) → natAbs (z -ℤ k *ℤ pos (4 * D) -ℤ pos (2 * D)) ≡ natAbs ((k *ℤ pos 4 +ℤ pos 2) *ℤ pos D -ℤ z)
-from-half k z D =
-    ap natAbs (ring (var z ⊝ var k ⊗ (nat 4 ⊗ nat D) ⊝ nat 2 ⊗ nat D) (var z ⊝ (var k ⊗ nat 4 ⊕ nat 2) ⊗ nat D) (omega arith))
-    ∙ abs-swap z ((k *ℤ pos 4 +ℤ pos 2) *ℤ pos D)
+-- the exact transform is o from k + 1/2, and q from w, 1/2 ^ 28, in units of X, which is 2 ^ 188
+reduce-half : (d X o q : ℕ) (k w : ℤ) → 0 < fourth d → o * fourth d ≤ natAbs (w -ℤ k *ℤ pos (4 * fourth d) -ℤ pos (2 * fourth d)) * (2 ^ 32 * X) + q → q ≤ 64 * (fourth d * X)
+    → HalfWayOf d k w → o ≤ 2 ^ 7 * X
+reduce-half d X o q k w s a b h = let t = mul-le-mul-right (2 ^ 4 * X) h in le-of-mul-le-mul-right (omega arith) s
 
 -- at every depth, under either rule
 module _ (depth : ℕ) (l : List (List ℤ)) (fine : depthFine depth ≡ true) (taken : valuesFine depth l ≡ true) (d : ℕ) (c : ℕ → ℤ) (k : ℕ → ℕ → ℤ)
@@ -74,16 +83,11 @@ module _ (depth : ℕ) (l : List (List ℤ)) (fine : depthFine depth ≡ true) (
   abbrev w : ℤ
   w = blockZ c k (cell l) y x
 
-  by-four : (D K : ℕ) → natAbs (n *ℤ pos (4 * D) -ℤ w) * K ≤ natAbs (n *ℤ pos (4 * K) -ℤ z) * D + natAbs (w *ℤ pos K -ℤ z *ℤ pos D)
-  by-four D K =
-      subst₂ (λ (a b : ℤ). natAbs (a -ℤ w) * K ≤ natAbs (b -ℤ z) * D + natAbs (w *ℤ pos K -ℤ z *ℤ pos D)) (*ℤ-assoc n (pos 4) (pos D)) (*ℤ-assoc n (pos 4) (pos K))
-      (across (n *ℤ pos 4) z w D K)
-
   -- constants within 1/2 ^ 46 of the table's
   pub near-farther : Constants (2 ^ 9) d c k → WithinOf d n w
   near-farther near =
       let small = modest depth l fine taken in
-      reduce (fourth d) (2 ^ 190) _ (natAbs (n *ℤ pos (2 ^ 222) -ℤ z)) (natAbs (w *ℤ pos (2 ^ 220) -ℤ z *ℤ pos (fourth d))) (lit< tt) (by-four (fourth d) (2 ^ 220))
+      reduce d (2 ^ 190) (natAbs (n *ℤ pos (2 ^ 222) -ℤ z)) (natAbs (w *ℤ pos (2 ^ 220) -ℤ z *ℤ pos (fourth d))) n w (lit< tt) (by-whole n z w (fourth d) (2 ^ 220))
       (whole-within l small y x ly lx m)
       (sum-moved near l small y x ly lx (3 * 2 ^ 190) (lit≤ tt))
 
@@ -98,9 +102,7 @@ module _ (depth : ℕ) (l : List (List ℤ)) (fine : depthFine depth ≡ true) (
       let some = mul-pos (mul-pos (mul-pos (near .some) (near .some)) (near .some)) (near .some) in
       let D = fourth d in
       let K = 2 ^ 220 in
-      let a = j *ℤ pos 4 +ℤ pos 2 in
       halves l small y x ly lx m j
-      (subst (λ (i : ℕ). i ≤ 2 ^ 195) (sym (from-half j z K))
-      (reduce-half D (2 ^ 188) (natAbs (a *ℤ pos K -ℤ z)) (natAbs (a *ℤ pos D -ℤ w)) (natAbs (z *ℤ pos D -ℤ w *ℤ pos K)) some (across a w z K D)
-      (subst (λ (i : ℕ). i * 2 ^ 28 ≤ 4 * D) (from-half j w D) h)
-      (le-trans (le-of-eq (abs-swap (z *ℤ pos D) (w *ℤ pos K))) (sum-moved near l small y x ly lx (2 ^ 188) (lit≤ tt)))))
+      (reduce-half d (2 ^ 188) (natAbs (z -ℤ j *ℤ pos (4 * K) -ℤ pos (2 * K))) (natAbs (z *ℤ pos D -ℤ w *ℤ pos K)) j w some (by-half j w z K D)
+      (le-trans (le-of-eq (abs-swap (z *ℤ pos D) (w *ℤ pos K))) (sum-moved near l small y x ly lx (2 ^ 188) (lit≤ tt)))
+      h)
