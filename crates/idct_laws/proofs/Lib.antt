@@ -1,4 +1,4 @@
--- Laws of the whole numbers that no function of `idct` needs.
+-- Laws of the whole numbers and of the constants that no function of `idct` needs.
 pub mod Distances
 pub mod Nearest
 pub mod Halves

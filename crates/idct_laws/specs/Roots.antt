@@ -13,7 +13,8 @@ pub data Root : Type 0 where
   plus : Root → Root
   minus : Root → Root
 
--- n / s ≤ r, and r ≤ n / s: with a root n² / s² - 2 is compared, or 2 - n² / s², to what stands under it
+-- n / s ≤ r, and r ≤ n / s. A root is not below 0, and is compared by squares: n² / s² with 2 + r, so n² / s² - 2 with r, or with 2 - r,
+-- so 2 - n² / s² with r, the other way round
 unfoldable mutual
   pub atMost : ℤ → ℕ → Root → Bool
   atMost n s (whole k) = leZ n (pos (k * s))
@@ -42,7 +43,7 @@ doubleCosine k =
     k
     (whole 0)
 
--- a turn of m sixteenths of pi, m up to 32, brought into the first quarter, and whether its cosine is below 0
+-- the symmetries of the cosine: a turn of m sixteenths of pi, m at most 32, brought into the first quarter, and whether its cosine is below 0
 abbrev pub quarter : ℕ → ℕ
 quarter m = cond (leb m 8) m (cond (leb m 16) (16 - m) (cond (leb m 24) (m - 16) (32 - m)))
 
