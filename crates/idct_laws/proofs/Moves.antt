@@ -1,4 +1,4 @@
--- How near a whole number is to the transform worked with fractions near the table's constants, and that near a half of it the rule decides. Assumes nothing.
+-- How near the exact transform and a whole number are to the transform worked with fractions near the table's constants, and that near a half of it the rule decides. Assumes nothing.
 use mathlib.Core.Bool.{true}
 use mathlib.Core.List.{List}
 use mathlib.Core.Path.{_≡_, sym, ap, _∙_, subst₂}
@@ -14,12 +14,12 @@ use Rattle.ranges.specs.Range.{depthFine}
 use Rattle.f64_error.specs.Series.{blockZ}
 use Rattle.idct.proofs.Bounds.{whole-within}
 use Rattle.idct.proofs.Refusals.{modest}
-use Rattle.idct.specs.Exact.{exact}
+use Rattle.idct.specs.Exact.{exact, Modest}
 use Rattle.idct.specs.Limits.{valuesFine}
 use Rattle.idct.specs.Rounding.{tied}
 use Rattle.idct.specs.Transform.{whole}
 use Rattle.idct.specs.declared.rounding.HalfIntegerRounding.{HalfIntegerRounding}
-use Rattle.idct_laws.specs.Moved.{Constants, fourth, WithinOf, HalfWayOf}
+use Rattle.idct_laws.specs.Moved.{Constants, fourth, NearOf, WithinOf, HalfWayOf}
 use Rattle.idct_laws.proofs.Distances.{abs-swap}
 use Rattle.idct_laws.proofs.Halves.{halves}
 use Rattle.idct_laws.proofs.MovedSums.{sum-moved}
@@ -71,38 +71,56 @@ reduce-half : (d X o q : ℕ) (k w : ℤ) → 0 < fourth d → o * fourth d ≤ 
     → HalfWayOf d k w → o ≤ 2 ^ 7 * X
 reduce-half d X o q k w s a b h = let t = mul-le-mul-right (2 ^ 4 * X) h in le-of-mul-le-mul-right (omega arith) s
 
--- at every depth, under either rule
-module _ (depth : ℕ) (l : List (List ℤ)) (fine : depthFine depth ≡ true) (taken : valuesFine depth l ≡ true) (d : ℕ) (c : ℕ → ℤ) (k : ℕ → ℕ → ℤ)
-    (m : HalfIntegerRounding) (y x : ℕ) (ly : y < 8) (lx : x < 8) where
-  abbrev n : ℤ
-  n = whole m l y x
+-- z and w are q apart, 1/2 ^ 31, in units of X, which is 2 ^ 185
+reduce-exact : (D X : ℕ) (z w : ℤ) (K : ℕ) → natAbs (w *ℤ pos K -ℤ z *ℤ pos D) ≤ 64 * (D * X) → natAbs (w *ℤ pos (4 * K) -ℤ z *ℤ pos (4 * D)) * 2 ^ 31 ≤ 2 ^ 37 * X * (4 * D)
+reduce-exact D X z w K h =
+    line (natAbs (w *ℤ pos (4 * K) -ℤ z *ℤ pos (4 * D))) (natAbs (w *ℤ pos K -ℤ z *ℤ pos D)) (ap natAbs four ∙ abs-mul (w *ℤ pos K -ℤ z *ℤ pos D) (pos 4)) h
+  where
+    four : w *ℤ pos (4 * K) -ℤ z *ℤ pos (4 * D) ≡ (w *ℤ pos K -ℤ z *ℤ pos D) *ℤ pos 4
+    four = ring (var w ⊗ (nat 4 ⊗ nat K) ⊝ var z ⊗ (nat 4 ⊗ nat D)) ((var w ⊗ nat K ⊝ var z ⊗ nat D) ⊗ nat 4) (omega arith)
 
-  abbrev z : ℤ
-  z = exact l y x
+    line : (p q : ℕ) → p ≡ q * 4 → q ≤ 64 * (D * X) → p * 2 ^ 31 ≤ 2 ^ 37 * X * (4 * D)
+    line p q e i = omega arith
 
-  abbrev w : ℤ
-  w = blockZ c k (cell l) y x
+-- at every depth
+module _ (depth : ℕ) (l : List (List ℤ)) (fine : depthFine depth ≡ true) (taken : valuesFine depth l ≡ true) (d : ℕ) (c : ℕ → ℤ) (k : ℕ → ℕ → ℤ) where
+  module _ (y x : ℕ) (ly : y < 8) (lx : x < 8) where
+    small : Modest l
+    small = modest depth l fine taken
 
-  -- constants within 1/2 ^ 46 of the table's
-  pub near-farther : Constants (2 ^ 9) d c k → WithinOf d n w
-  near-farther near =
-      let small = modest depth l fine taken in
-      reduce d (2 ^ 190) (natAbs (n *ℤ pos (2 ^ 222) -ℤ z)) (natAbs (w *ℤ pos (2 ^ 220) -ℤ z *ℤ pos (fourth d))) n w (lit< tt) (by-whole n z w (fourth d) (2 ^ 220))
-      (whole-within l small y x ly lx m)
-      (sum-moved near l small y x ly lx (3 * 2 ^ 190) (lit≤ tt))
+    abbrev z : ℤ
+    z = exact l y x
 
-  -- within 1/2 ^ 47
-  pub near-moved : Constants (2 ^ 8) d c k → WithinOf d n w
-  near-moved near = near-farther (wider near (lit≤ tt))
+    abbrev w : ℤ
+    w = blockZ c k (cell l) y x
 
-  -- within 1/2 ^ 53, near a half of the transform worked with them
-  pub moved-half : Constants (2 ^ 2) d c k → (j : ℤ) → HalfWayOf d j w → n ≡ tied m j
-  moved-half near j h =
-      let small = modest depth l fine taken in
-      let some = mul-pos (mul-pos (mul-pos (near .some) (near .some)) (near .some)) (near .some) in
-      let D = fourth d in
-      let K = 2 ^ 220 in
-      halves l small y x ly lx m j
-      (reduce-half d (2 ^ 188) (natAbs (z -ℤ j *ℤ pos (4 * K) -ℤ pos (2 * K))) (natAbs (z *ℤ pos D -ℤ w *ℤ pos K)) j w some (by-half j w z K D)
-      (le-trans (le-of-eq (abs-swap (z *ℤ pos D) (w *ℤ pos K))) (sum-moved near l small y x ly lx (2 ^ 188) (lit≤ tt)))
-      h)
+    -- constants within 1/2 ^ 53 of the table's
+    pub exact-moved : Constants (2 ^ 2) d c k → NearOf d z w
+    exact-moved near = reduce-exact (fourth d) (2 ^ 185) z w (2 ^ 220) (sum-moved near l small y x ly lx (2 ^ 185) (lit≤ tt))
+
+    -- under either rule
+    module _ (m : HalfIntegerRounding) where
+      abbrev n : ℤ
+      n = whole m l y x
+
+      -- within 1/2 ^ 46
+      pub near-farther : Constants (2 ^ 9) d c k → WithinOf d n w
+      near-farther near =
+          reduce d (2 ^ 190) (natAbs (n *ℤ pos (2 ^ 222) -ℤ z)) (natAbs (w *ℤ pos (2 ^ 220) -ℤ z *ℤ pos (fourth d))) n w (lit< tt) (by-whole n z w (fourth d) (2 ^ 220))
+          (whole-within l small y x ly lx m)
+          (sum-moved near l small y x ly lx (3 * 2 ^ 190) (lit≤ tt))
+
+      -- within 1/2 ^ 47
+      pub near-moved : Constants (2 ^ 8) d c k → WithinOf d n w
+      near-moved near = near-farther (wider near (lit≤ tt))
+
+      -- within 1/2 ^ 53, near a half of the transform worked with them
+      pub moved-half : Constants (2 ^ 2) d c k → (j : ℤ) → HalfWayOf d j w → n ≡ tied m j
+      moved-half near j h =
+          let some = mul-pos (mul-pos (mul-pos (near .some) (near .some)) (near .some)) (near .some) in
+          let D = fourth d in
+          let K = 2 ^ 220 in
+          halves l small y x ly lx m j
+          (reduce-half d (2 ^ 188) (natAbs (z -ℤ j *ℤ pos (4 * K) -ℤ pos (2 * K))) (natAbs (z *ℤ pos D -ℤ w *ℤ pos K)) j w some (by-half j w z K D)
+          (le-trans (le-of-eq (abs-swap (z *ℤ pos D) (w *ℤ pos K))) (sum-moved near l small y x ly lx (2 ^ 188) (lit≤ tt)))
+          h)

@@ -10,14 +10,15 @@ use Rattle.numbers.specs.Grid.{cell}
 use Rattle.ranges.specs.Range.{depthFine}
 use Rattle.f64_error.specs.Series.{blockZ}
 use Rattle.idct.specs.Cosines.{turn, cZ, cosZ}
+use Rattle.idct.specs.Exact.{exact}
 use Rattle.idct.specs.Limits.{valuesFine}
 use Rattle.idct.specs.Rounding.{tied}
 use Rattle.idct.specs.Transform.{whole}
 use Rattle.idct.specs.declared.rounding.HalfIntegerRounding.{HalfIntegerRounding}
-use Rattle.idct_laws.specs.Moved.{Moved, Constants, TrueConstants, WithinOf, HalfWayOf}
+use Rattle.idct_laws.specs.Moved.{Moved, Constants, TrueConstants, NearOf, WithinOf, HalfWayOf}
 use Rattle.idct_laws.specs.Roots.{nearCosine, factorTurn}
 use Rattle.idct_laws.proofs.Entries.{table-true}
-use Rattle.idct_laws.proofs.Moves.{wider, near-farther, moved-half}
+use Rattle.idct_laws.proofs.Moves.{wider, exact-moved, near-farther, moved-half}
 use Rattle.idct_laws.proofs.NearRoots.{cosines-apart}
 
 -- ---- the constants
@@ -35,14 +36,20 @@ module _ {e d : ℕ} {c : ℕ → ℤ} {k : ℕ → ℕ → ℤ} (near : TrueCon
         cosine = λ u x i j. one-moved (turn u x) (k u x) (cosZ u x) (near .cosine u x i j) (table-true .cosine u x i j);
       }
 
--- ---- the whole number, at every depth and under either rule
+-- ---- the transform worked with them, at every depth
 
-module _ (depth : ℕ) (l : List (List ℤ)) (fine : depthFine depth ≡ true) (taken : valuesFine depth l ≡ true) (d : ℕ) (c : ℕ → ℤ) (k : ℕ → ℕ → ℤ)
-    (m : HalfIntegerRounding) (y x : ℕ) (ly : y < 8) (lx : x < 8) where
-  -- within 1/2 ^ 47
-  pub near-true : TrueConstants (2 ^ 8) d c k → WithinOf d (whole m l y x) (blockZ c k (cell l) y x)
-  near-true near = near-farther depth l fine taken d c k m y x ly lx (wider (true-moved near) (lit≤ tt))
+module _ (depth : ℕ) (l : List (List ℤ)) (fine : depthFine depth ≡ true) (taken : valuesFine depth l ≡ true) (d : ℕ) (c : ℕ → ℤ) (k : ℕ → ℕ → ℤ) where
+  module _ (y x : ℕ) (ly : y < 8) (lx : x < 8) where
+    -- within 1/2 ^ 54
+    pub exact-true : TrueConstants 2 d c k → NearOf d (exact l y x) (blockZ c k (cell l) y x)
+    exact-true near = exact-moved depth l fine taken d c k y x ly lx (true-moved near)
 
-  -- within 1/2 ^ 54
-  pub true-half : TrueConstants 2 d c k → (j : ℤ) → HalfWayOf d j (blockZ c k (cell l) y x) → whole m l y x ≡ tied m j
-  true-half near j h = moved-half depth l fine taken d c k m y x ly lx (true-moved near) j h
+    -- under either rule
+    module _ (m : HalfIntegerRounding) where
+      -- within 1/2 ^ 47
+      pub near-true : TrueConstants (2 ^ 8) d c k → WithinOf d (whole m l y x) (blockZ c k (cell l) y x)
+      near-true near = near-farther depth l fine taken d c k y x ly lx m (wider (true-moved near) (lit≤ tt))
+
+      -- within 1/2 ^ 54, near a half of it
+      pub true-half : TrueConstants 2 d c k → (j : ℤ) → HalfWayOf d j (blockZ c k (cell l) y x) → whole m l y x ≡ tied m j
+      true-half near j h = moved-half depth l fine taken d c k y x ly lx m (true-moved near) j h

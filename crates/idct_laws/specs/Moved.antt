@@ -1,4 +1,4 @@
--- Fractions in place of the transform's constants, near the table's or near the true ones, and what the transform worked with them says of a whole number. Definitions only.
+-- Fractions in place of the transform's constants, near the table's or near the true ones, and what is near the transform worked with them. Definitions only.
 use Prim.Native.Nat.{ℕ, _+_, _*_, _^_, _≤_, _<_}
 use lib.Dec.{T}
 use lib.IntN.{ℤ, pos, natAbs, _-ℤ_, _*ℤ_}
@@ -25,10 +25,14 @@ pub record TrueConstants (e d : ℕ) (c : ℕ → ℤ) (k : ℕ → ℕ → ℤ)
 abbrev pub fourth : ℕ → ℕ
 fourth d = d * d * d * d
 
--- n is within 1/2 + 1/2 ^ 24 of z / (4 d ^ 4)
-abbrev pub WithinOf : ℕ → ℤ → ℤ → Type 0
-WithinOf d n z = natAbs (n *ℤ pos (4 * fourth d) -ℤ z) * 2 ^ 24 ≤ (2 ^ 23 + 1) * (4 * fourth d)
+-- z / 2 ^ 222 is within 1/2 ^ 31 of w / (4 d ^ 4)
+abbrev pub NearOf : ℕ → ℤ → ℤ → Type 0
+NearOf d z w = natAbs (w *ℤ pos (2 ^ 222) -ℤ z *ℤ pos (4 * fourth d)) * 2 ^ 31 ≤ 2 ^ 222 * (4 * fourth d)
 
--- z / (4 d ^ 4) is within 1/2 ^ 28 of k + 1/2
+-- n is within 1/2 + 1/2 ^ 24 of w / (4 d ^ 4)
+abbrev pub WithinOf : ℕ → ℤ → ℤ → Type 0
+WithinOf d n w = natAbs (n *ℤ pos (4 * fourth d) -ℤ w) * 2 ^ 24 ≤ (2 ^ 23 + 1) * (4 * fourth d)
+
+-- w / (4 d ^ 4) is within 1/2 ^ 28 of k + 1/2
 abbrev pub HalfWayOf : ℕ → ℤ → ℤ → Type 0
-HalfWayOf d k z = natAbs (z -ℤ k *ℤ pos (4 * fourth d) -ℤ pos (2 * fourth d)) * 2 ^ 28 ≤ 4 * fourth d
+HalfWayOf d k w = natAbs (w -ℤ k *ℤ pos (4 * fourth d) -ℤ pos (2 * fourth d)) * 2 ^ 28 ≤ 4 * fourth d
