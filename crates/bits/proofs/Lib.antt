@@ -3,4 +3,5 @@ pub mod BitLaws
 pub mod ByteLaws
 pub mod CursorLaws
 pub mod CutLaws
+pub mod AheadLaws
 pub mod OutcomeLaws

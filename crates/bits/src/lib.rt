@@ -4,6 +4,7 @@
 // the data and more than 32 bits at a time are refused by 11, and bits that are not there by 1.
 mod cursor;
 mod error;
+mod window;
 
 pub use cursor::BitCount;
 pub use cursor::BitsPeeked;
@@ -13,3 +14,4 @@ pub use cursor::Cursor;
 pub use cursor::Moved;
 pub use cursor::WindowPeeked;
 pub use error::BitReaderError;
+pub use window::ahead;
