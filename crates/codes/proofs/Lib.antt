@@ -2,5 +2,6 @@
 pub mod SearchLaws
 pub mod TableLaws
 pub mod PrefixFree
+pub mod FirstBitsLaws
 pub mod Maxima
 pub mod ComponentLaws

@@ -5,3 +5,4 @@ pub mod Tcoef
 pub mod Rvlc
 pub mod Table
 pub mod Maxima
+pub mod FirstBits

@@ -4,6 +4,7 @@
 // A table indexed as a constant is made anew at each read, so each is made once by its function and
 // lent from then on. No public function has a `requires`.
 mod dc_size;
+mod first_bits;
 mod rvlc_tables;
 mod search;
 mod tcoef_tables;
@@ -12,6 +13,12 @@ pub use dc_size::BlockComponent;
 pub use dc_size::DcComponent;
 pub use dc_size::dc_size_codes;
 pub use dc_size::dc_size_lens;
+pub use first_bits::dc_plain;
+pub use first_bits::lmax_intra;
+pub use first_bits::rmax_intra;
+pub use first_bits::tcoef_long;
+pub use first_bits::tcoef_plain;
+pub use first_bits::tcoef_short;
 pub use rvlc_tables::rvlc_codes;
 pub use rvlc_tables::rvlc_events;
 pub use rvlc_tables::rvlc_lens;
