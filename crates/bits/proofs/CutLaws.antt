@@ -18,7 +18,7 @@ val-middle a m z =
     ∙ low (val a) (length m) (val-lt m))
 
 -- n bits, with `skip` before and `under` behind them
-val-field : (b : Bits) (skip n under : ℕ) → skip + n + under ≤ length b
+pub val-field : (b : Bits) (skip n under : ℕ) → skip + n + under ≤ length b
     → val (take n (drop skip b)) ≡ val (take (skip + n + under) b) / 2 ^ under % 2 ^ n
 val-field b skip n under l =
     let m : Bits = take n (drop skip b) in
