@@ -16,7 +16,7 @@ use denote.RattleType.{RattleType}
 use denote.Shadow.{shadow}
 use borrow.Author.Tests.{eqb-true, eqb-false}
 use Rattle.numbers.specs.Grid.{build, block, cell}
-use Rattle.numbers.proofs.Fill.{lt-or-le, getD-build, is-build, length-build}
+use Rattle.numbers.proofs.Fill.{lt-or-le, block-eq, cell-block, getD-build, is-build, length-build}
 
 -- ---- eight rows of eight
 
@@ -85,3 +85,17 @@ module _ (b : List (List ℤ)) (s : Square b) (g : ℕ → ℕ → ℤ) (r k : �
   block-set =
       is-build [] (set b r (set (getD b r []) k (g r k))) 8 (λ (v : ℕ). build 8 (λ (u : ℕ). cond (eqb v r && eqb u k) (g v u) (cell b v u)))
       (length-set b r (set (getD b r []) k (g r k)) ∙ s .long) (λ (v : ℕ) (h : v < 8). row v h (eqb v r) refl)
+
+-- the same of a block by its cells: with the cell changed it is one that has the new value there, and the old ones elsewhere
+module _ (f g : ℕ → ℕ → ℤ) (r k : ℕ) (same : (v u : ℕ) → v < 8 → u < 8 → ((v ≡ r) × (u ≡ k) → ⊥) → f v u ≡ g v u) where
+  changed : (v u : ℕ) → v < 8 → u < 8 → (s t : Bool) → eqb v r ≡ s → eqb u k ≡ t → cond (s && t) (g v u) (cell (block f) v u) ≡ g v u
+  changed v u p q true true e h = refl
+  changed v u p q true false e h = cell-block f v u p q ∙ same v u p q (λ z. eqb-false u k h (z .1))
+  changed v u p q false t e h = cell-block f v u p q ∙ same v u p q (λ z. eqb-false v r e (z .0))
+
+  pub cell-stored : (b : List (List ℤ)) (x : ℤ) → b ≡ block f → r < 8 → k < 8 → x ≡ g r k → set b r (set (getD b r []) k x) ≡ block g
+  cell-stored b x e p q w =
+      ap (λ (t : List (List ℤ)). set t r (set (getD t r []) k x)) e
+      ∙ ap (λ (z : ℤ). set (block f) r (set (getD (block f) r []) k z)) w
+      ∙ block-set (block f) (square-block f) g r k p q
+      ∙ block-eq (λ (v u : ℕ). cond (eqb v r && eqb u k) (g v u) (cell (block f) v u)) g (λ v u l m. changed v u l m (eqb v r) (eqb u k) refl refl)

@@ -10,3 +10,8 @@ pub mod MissingLaws
 pub mod LevelLaws
 pub mod OutcomeLaws
 pub mod ScalerLaws
+pub mod UpToLaws
+pub mod NeededLaws
+pub mod OrderLaws
+pub mod SideLaws
+pub mod ShortLaws

@@ -2,6 +2,9 @@
 pub mod Refusal
 pub mod Scan
 pub mod Prediction
+pub mod UpTo
+pub mod Needed
 pub mod Level
+pub mod Short
 pub mod Stages
 pub mod Outcomes

@@ -35,7 +35,7 @@ pub fn saturate_block(block: [[i32; 8]; 8]) -> [[i32; 8]; 8]
 }
 
 // The scan of an intra block: `alternate_vertical_scan` overrides the choice of 7.4.2.
-fn intra_scan(
+pub(crate) fn intra_scan(
     alternate_vertical_scan: bool,
     ac_pred_flag: bool,
     direction: DcPredictionDirection,

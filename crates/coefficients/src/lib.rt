@@ -7,6 +7,7 @@ mod level;
 mod predictor;
 mod refusal;
 mod scan;
+mod short;
 
 pub use level::intra_levels;
 pub use level::predictors_fine;
@@ -28,3 +29,4 @@ pub use scan::DcPredictionDirection;
 pub use scan::ScanType;
 pub use scan::inverse_scan;
 pub use scan::select_scan_type;
+pub use short::intra_levels_up_to;

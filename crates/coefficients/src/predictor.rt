@@ -76,7 +76,7 @@ pub fn default_neighbour_dc(bits_per_pixel: u32) -> Value
 }
 
 // Table 7-1, of a quantiser up to 511.
-fn scaler_of(component: DcComponent, q: u32) -> u32
+pub(crate) fn scaler_of(component: DcComponent, q: u32) -> u32
     requires { ⌜ q ≤ 511 ⌝ }
     ensures { λ r. ⌜ (r ≡ dcScaler component q) × (r ≤ 1006) ⌝ }
 {
@@ -144,7 +144,12 @@ pub fn select_dc_direction(fa: i32, fb: i32, fc: i32) -> Direction
 }
 
 // 7.4.3.2: the prediction of the DC level.
-fn dc_prediction(direction: DcPredictionDirection, fa_dc: i32, fc_dc: i32, scaler: u32) -> i32
+pub(crate) fn dc_prediction(
+    direction: DcPredictionDirection,
+    fa_dc: i32,
+    fc_dc: i32,
+    scaler: u32,
+) -> i32
     requires { ⌜ (natAbs «fa_dc» ≤ 65536) × (natAbs «fc_dc» ≤ 65536) ⌝ }
     ensures { λ r. ⌜ (r ≡ dcPrediction direction «fa_dc» «fc_dc» scaler) × (natAbs r ≤ 65536) ⌝ }
 {
@@ -178,7 +183,7 @@ pub fn predict_intra_dc(
 }
 
 // 7.4.3.3: the prediction of an AC level from a neighbour's.
-fn ac_prediction(qf: i32, qp: u32, qp_x: u32) -> i32
+pub(crate) fn ac_prediction(qf: i32, qp: u32, qp_x: u32) -> i32
     requires { ⌜ (natAbs qf ≤ 2048) × (qp ≤ 511) ⌝ }
     ensures { λ r. ⌜ (r ≡ acPrediction qf qp «qp_x») × (natAbs r ≤ 1046528) ⌝ }
 {

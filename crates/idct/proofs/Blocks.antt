@@ -29,7 +29,7 @@ use Rattle.idct.proofs.Bounds.{bounded}
 use Rattle.idct.proofs.Loops.{zero-bits}
 use Rattle.idct.proofs.Tables.{c-const, cos-const}
 
-series-ext : (t s : ℕ → Float) (n : ℕ) → ((i : ℕ) → i < n → t i ≡ s i) → seriesF t n ≡ seriesF s n
+pub series-ext : (t s : ℕ → Float) (n : ℕ) → ((i : ℕ) → i < n → t i ≡ s i) → seriesF t n ≡ seriesF s n
 unfolding seriesF
 series-ext t s zero h = refl
 series-ext t s (suc n) h = ap (λ (a : Float). add binary64 a (t n)) (series-ext t s n (λ i l. h i (le-trans l (le-suc n)))) ∙ ap (λ (b : Float). add binary64 (seriesF s n) b) (h n (le-refl (suc n)))
@@ -104,23 +104,22 @@ module _ (l : List (List ℤ)) where
       ∙ ap (λ (z : Float). add binary64 (sumOfRows l v y x) (mul binary64 (mul binary64 (cF v) (rowAt l v x)) z)) (ap (λ (s : List Float). getD s y nan) k ∙ getD-build 8 (cosF v) y nan p)
       ∙ ap (λ (n : ℕ). sumOfRows l n y x) (sym (add-one v)))
 
-  -- a row of zeros
-  pub row-skip : (v : ℕ) (sums : List (List Float)) → T (every isZero (getD l v [])) → sums ≡ block (sumOfRows l v) → sums ≡ block (sumOfRows l (v + 1))
-  row-skip v sums t a =
-      a
-      ∙ block-eq (sumOfRows l v) (sumOfRows l (v + 1))
-      (λ (y x : ℕ) (p : y < 8) (q : x < 8).
+  -- a row of zeros changes no sum
+  pub row-skipped : (v y x : ℕ) → T (every isZero (getD l v [])) → sumOfRows l v y x ≡ sumOfRows l (v + 1) y x
+  row-skipped v y x t =
       let c = c-const v in
       let k = cos-const v y in
-      let z : Nought (rowAt l v x) = (false, pos 0, zero-row x ∙ zero-bits) in
       sym (series-none (rowTerm y x) (λ (i : ℕ). mul-fits binary64 (mul binary64 (cF i) (rowAt l i x)) (cosF i y)) v
-      (nought-left (mul binary64 (cF v) (rowAt l v x)) (cosF v y) (k .w) (nought-right (cF v) (rowAt l v x) (c .w) (c .is) z) (k .is)))
-      ∙ ap (λ (n : ℕ). sumOfRows l n y x) (sym (add-one v)))
+      (nought-left (mul binary64 (cF v) (rowAt l v x)) (cosF v y) (k .w) (nought-right (cF v) (rowAt l v x) (c .w) (c .is) (false, pos 0, zero-row ∙ zero-bits)) (k .is)))
+      ∙ ap (λ (n : ℕ). sumOfRows l n y x) (sym (add-one v))
     where
-      zero-row : (x : ℕ) → rowAt l v x ≡ ofBits binary64 0
-      zero-row x =
+      zero-row : rowAt l v x ≡ ofBits binary64 0
+      zero-row =
           zero-pass (λ (u : ℕ). ofInt binary64 (cell l v u)) x
           (λ (u : ℕ) (h : u < 8). int-nought (cell l v u) (zero-of-abs (cell l v u) (eqb→eq (natAbs (cell l v u)) 0 (every-at isZero (pos 0) (getD l v []) tt t u))))
+
+  pub row-skip : (v : ℕ) (sums : List (List Float)) → T (every isZero (getD l v [])) → sums ≡ block (sumOfRows l v) → sums ≡ block (sumOfRows l (v + 1))
+  row-skip v sums t a = a ∙ block-eq (sumOfRows l v) (sumOfRows l (v + 1)) (λ (y x : ℕ) (p : y < 8) (q : x < 8). row-skipped v y x t)
 
   module _ (sums : List (List Float)) (s : sums ≡ block (sumOfRows l 8)) where
     halves-are : (y x : ℕ) → y < 8 → x < 8 → mul binary64 half (cellF sums y x) ≡ computed l y x

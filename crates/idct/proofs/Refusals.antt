@@ -32,8 +32,8 @@ use Rattle.idct.proofs.Scans.{is-T}
 
 -- ---- one value
 
-zero-inside : (b : ℕ) → T (inBounds b (pos 0))
-zero-inside b = is-T (inBounds b (pos 0)) (within-of (lowest b) (highest b) (pos 0) (<ℤ-≤ℤ (lowest-negative b)) (highest-not-negative b))
+pub zero-inside : (b : ℕ) → inBounds b (pos 0) ≡ true
+zero-inside b = within-of (lowest b) (highest b) (pos 0) (<ℤ-≤ℤ (lowest-negative b)) (highest-not-negative b)
 
 size : (b : ℕ) (z : ℤ) → T (inBounds b z) → natAbs z ≤ 2 ^ b
 size b z t =
@@ -48,7 +48,7 @@ pub modest : (d : ℕ) (l : List (List ℤ)) → depthFine d ≡ true → values
 modest d l h e v u i j =
     let p = inBounds (d + 3) in
     let g : d + 3 ≤ 15 = omega (arith, depth-range d h .1) in
-    le-trans (size (d + 3) (cell l v u) (every-at p (pos 0) (getD l v []) (zero-inside (d + 3)) (every-at (every p) [] l tt (is-T (valuesFine d l) e) v) u)) (le-trans (pow-mono g) (lit≤ tt))
+    le-trans (size (d + 3) (cell l v u) (every-at p (pos 0) (getD l v []) (is-T (p (pos 0)) (zero-inside (d + 3))) (every-at (every p) [] l tt (is-T (valuesFine d l) e) v) u)) (le-trans (pow-mono g) (lit≤ tt))
 
 -- ---- what is due
 

@@ -14,16 +14,12 @@ use Rattle.f64_error.proofs.Grains.{grain}
 use Rattle.f64_error.specs.Units.{Is, one}
 use Rattle.f64_error.specs.Wholes.{floorZ, magF}
 use Rattle.idct.specs.Rounding.{wholeOf}
-use Rattle.idct.specs.ShortWays.{Roundable, nearF, nearZ}
+use Rattle.idct.specs.ShortWays.{Roundable, nearF, nearZ, wellWithin}
 use Rattle.idct.specs.declared.rounding.HalfIntegerRounding.{HalfIntegerRounding}
 use Rattle.idct.proofs.Floors.{near-exactly, near-size}
 use Rattle.idct.proofs.Rounds.{rounded-near}
 
--- 1/2 - 2 ^ -14
-abbrev pub wellWithin : Float
-wellWithin = ofBits binary64 4602677719661019136
-
-well-is : Is wellWithin (pos (576390383559245824 * grain))
+pub well-is : Is wellWithin (pos (576390383559245824 * grain))
 unfolding Is ofBits grain
 well-is = (576390383559245824 * 2 ^ 1014, refl, refl)
 
@@ -54,6 +50,10 @@ module _ (x : Float) (h : Roundable x) where
 
   taken : (w : ℤ) × Is d w × Close w (v +ℤ negℤ (t *ℤ pos one)) (off 22)
   taken = sub-off 22 x (nearF x) v (t *ℤ pos one) (omega arith) (h .is) (near-exactly x h) room
+
+  -- how far x is from its near number, in units
+  pub gap : (w : ℤ) × Is d w
+  gap = (taken .0, taken .1)
 
   small : lt (magF d) wellWithin ≡ true → (up (taken .0) ≤ dn (taken .0) + 576390383559245824 * grain) × (dn (taken .0) ≤ up (taken .0) + 576390383559245824 * grain)
   small q = go (lt d (fin false 0 (pos 0))) refl q

@@ -1,18 +1,24 @@
 -- Inside the crate: what the contracts of its inner functions say of the parts and the shorter ways of the transform. Definitions only.
-use mathlib.Core.Bool.{Bool, false}
+use mathlib.Core.Bool.{Bool, cond, false, true}
 use mathlib.Core.List.{List, []}
-use Prim.Native.Nat.{ℕ, _*_}
-use lib.Dec.{eqb}
-use lib.Ieee.{Float, fin, nan, binary64, add, mul, ofBits, ofInt, sub, toSigned}
+use mathlib.Core.Path.{_≡_}
+use Prim.Native.Nat.{ℕ, _*_, _≤_, _<_}
+use lib.Dec.{T, eqb}
+use lib.Ieee.{Float, fin, nan, binary64, add, inSigned, lt, mul, ofBits, ofInt, sub, toSigned}
 use lib.IntN.{ℤ, pos, natAbs}
-use lib.ListN.{getD, set}
+use lib.ListN.{getD, length, set}
+use Rattle.numbers.specs.Every.{every}
 use Rattle.numbers.specs.Grid.{build, block, cell}
 use Rattle.numbers.specs.Limit.{clampZ}
+use Rattle.ranges.specs.Range.{within}
 use Rattle.f64_error.specs.Series.{half, pass, seriesF}
 use Rattle.f64_error.specs.Units.{one, Bounded}
 use Rattle.idct.specs.Cosines.{cF, cosF}
+use Rattle.idct.specs.Rounding.{wholeOf}
 use Rattle.idct.specs.Transform.{whole}
 use Rattle.idct.specs.declared.rounding.HalfIntegerRounding.{HalfIntegerRounding}
+use Rattle.idct.specs.declared.short.KeptRows.{KeptRows}
+use Rattle.idct.specs.declared.short.KeptRows.the-variants.{Are, OutOfLimits}
 
 -- ---- whole numbers
 
@@ -26,6 +32,22 @@ nearF x = sub binary64 (add binary64 x (ofBits binary64 4843621399236968448)) (o
 
 abbrev pub nearZ : Float → ℤ
 nearZ x = toSigned 31 (nearF x)
+
+-- x is a whole number that an i32 holds, at most 2 ^ 20 in size
+abbrev pub Castable : Float → Type 0
+Castable x = T (inSigned binary64 31 x) × (natAbs (toSigned 31 x) ≤ 1048576)
+
+-- 1/2 - 2 ^ -14
+abbrev pub wellWithin : Float
+wellWithin = ofBits binary64 4602677719661019136
+
+-- no rule gives another whole number than the near one
+abbrev pub Sure : Float → Type 0
+Sure x = (m : HalfIntegerRounding) → wholeOf m x ≡ nearZ x
+
+-- the greater, as `if a < b { b } else { a }` has it
+abbrev pub greaterF : Float → Float → Float
+greaterF a b = cond (lt a b) b a
 
 -- ---- passes
 
@@ -61,6 +83,29 @@ rowTerms row v = build 8 (λ (x : ℕ). mul binary64 (cF v) (pass cF (λ (u : �
 -- at row y and column x the sum of the terms of the first n rows: half of it, for 8 rows, is `computed`
 abbrev pub sumOfRows : List (List ℤ) → ℕ → ℕ → ℕ → Float
 sumOfRows l n y x = seriesF (λ (v : ℕ). mul binary64 (mul binary64 (cF v) (rowAt l v x)) (cosF v y)) n
+
+-- ---- the rows that are kept: those with a value that is not zero
+
+-- at row y and column x the sum of the terms of the first n of them, which are the rows `which` of the coefficients
+abbrev pub sumOfKept : List (List Float) → List ℕ → ℕ → ℕ → ℕ → Float
+sumOfKept terms which n y x = seriesF (λ (j : ℕ). mul binary64 (cellF terms j x) (cosF (getD which j 0) y)) n
+
+-- half of it, which is the value there where all are added
+abbrev pub halfOfKept : List (List Float) → List ℕ → ℕ → ℕ → ℕ → Float
+halfOfKept terms which n y x = mul binary64 half (sumOfKept terms which n y x)
+
+-- of the rows of l below v, n were kept
+pub record Kept (l : List (List ℤ)) (v : ℕ) (terms : List (List Float)) (which : List ℕ) (n : ℕ) : Type 0 where
+  pub few : n ≤ v
+  pub long : length terms ≡ 8
+  pub wide : length which ≡ 8
+  pub below : (j : ℕ) → j < n → getD which j 0 < v
+  pub sums : (y x : ℕ) → y < 8 → x < 8 → sumOfKept terms which n y x ≡ sumOfRows l v y x
+
+-- what an answer tells: each value is within lo .. hi, and n rows were kept; or one is not
+abbrev pub Told : List (List ℤ) → ℤ → ℤ → List (List Float) → List ℕ → KeptRows → Type 0
+Told l lo hi terms which (Are n) = (every (every (within lo hi)) l ≡ true) × Kept l 8 terms which n
+Told l lo hi terms which OutOfLimits = every (every (within lo hi)) l ≡ false
 
 -- ---- samples
 

@@ -25,7 +25,7 @@ pub(crate) fn dc_alone(coefficients: [[i32; 8]; 8]) -> bool
 }
 
 // The 1-D transform of `value` and seven zeros, at any x: the cosine is 1.0 at each.
-fn dc_pass(value: f64) -> f64
+pub(crate) fn dc_pass(value: f64) -> f64
     ensures { λ r. ⌜ r ≡ dcPass value ⌝ }
 {
     0.5 * (0.0 + c(0) * value * 1.0)

@@ -2,12 +2,17 @@
 // columns, each value rounded to a whole number and saturated.
 //
 // No public function has a `requires`: each answers every input.
+mod clipped;
 mod cosines;
 mod dc;
 mod limits;
 mod rounding;
+mod short;
 mod transform;
 
+pub use clipped::idct_8x8_clipped;
+pub use clipped::idct_dc_and_last_clipped;
+pub use clipped::idct_dc_clipped;
 pub use limits::IdctAnswer;
 pub use limits::IdctSample;
 pub use limits::idct_saturation_bounds;

@@ -53,7 +53,7 @@ pub fn saturate_idct_sample(value: i32, bits_per_pixel: u32) -> IdctSample
 }
 
 // Whether each value of a row is within lo..=hi.
-fn row_within(row: [i32; 8], lo: i32, hi: i32) -> bool
+pub(crate) fn row_within(row: [i32; 8], lo: i32, hi: i32) -> bool
     ensures { λ r. ⌜ r ≡ every (within lo hi) row ⌝ }
 {
     let mut fine = true;

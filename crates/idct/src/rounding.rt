@@ -26,7 +26,7 @@ const HALF_INTEGER_TOLERANCE: f64 = 1e-8;
 
 // 3 * 2^51. Added to an f64 below 2^51 in size and taken off again, it leaves a whole number at most a
 // half away: from 2^52 on an f64 is a whole number.
-const SHIFT: f64 = 6_755_399_441_055_744.0;
+pub(crate) const SHIFT: f64 = 6_755_399_441_055_744.0;
 
 // x to a whole number at most a half away.
 pub(crate) fn nearest_of(x: f64) -> i32
@@ -48,14 +48,14 @@ fn floor_of(x: f64) -> i32
 }
 
 // |x|
-fn magnitude(x: f64) -> f64
+pub(crate) fn magnitude(x: f64) -> f64
     ensures { λ r. ⌜ r ≡ magF x ⌝ }
 {
     if x < 0.0 { -x } else { x }
 }
 
 // 1/2 - 2^-14.
-const WELL_WITHIN: f64 = 0.499_938_964_843_75;
+pub(crate) const WELL_WITHIN: f64 = 0.499_938_964_843_75;
 
 // 0 where `nearest_of` is so near to x that no rule gives another whole number; elsewhere 1.
 pub(crate) fn unsettled(x: f64) -> u32

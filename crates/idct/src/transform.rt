@@ -101,7 +101,7 @@ fn scaled(row: [f64; 8], k: f64) -> [f64; 8]
 }
 
 // Row v transformed, each value times C(v).
-fn row_terms(row: [i32; 8], v: usize, cos: &[[f64; 8]; 8]) -> [f64; 8]
+pub(crate) fn row_terms(row: [i32; 8], v: usize, cos: &[[f64; 8]; 8]) -> [f64; 8]
     requires { ⌜ now cos ≡ block cosF ⌝ }
     ensures { λ r. ⌜ r ≡ rowTerms row v ⌝ }
 {
@@ -111,7 +111,7 @@ fn row_terms(row: [i32; 8], v: usize, cos: &[[f64; 8]; 8]) -> [f64; 8]
 }
 
 // Terms, each times k, added to the sums of a row.
-fn add_row(sums: [f64; 8], terms: [f64; 8], k: f64) -> [f64; 8]
+pub(crate) fn add_row(sums: [f64; 8], terms: [f64; 8], k: f64) -> [f64; 8]
     ensures { λ r. ⌜ r ≡ build 8 (λ (x : ℕ). add binary64 (getD sums x nan) (mul binary64 (getD terms x nan) k)) ⌝ }
 {
     let mut output = [0.0f64; 8];
@@ -153,7 +153,7 @@ fn column_sums(coefficients: [[i32; 8]; 8], cos: &[[f64; 8]; 8]) -> [[f64; 8]; 8
 }
 
 // Each sum of a row halved, rounded by the rule and brought into lo..=hi.
-fn ruled_row(sums: [f64; 8], lo: i32, hi: i32, rounding: HalfIntegerRounding) -> [i32; 8]
+pub(crate) fn ruled_row(sums: [f64; 8], lo: i32, hi: i32, rounding: HalfIntegerRounding) -> [i32; 8]
     requires { ⌜ ((x : ℕ) → x < 8 → Roundable (mul binary64 half (getD sums x nan))) ⌝ }
     ensures { λ r. ⌜ r ≡ build 8 (λ (x : ℕ). clampZ (wholeOf rounding (mul binary64 half (getD sums x nan))) lo hi) ⌝ }
 {

@@ -8,3 +8,5 @@ pub mod MismatchLaws
 pub mod FlipLaws
 pub mod AnswerLaws
 pub mod OutcomeLaws
+pub mod ZeroLaws
+pub mod ByRowsLaws

@@ -29,7 +29,7 @@ top-even d = (omega (arith, pow-add 2 d 3), pow-pos (d + 3))
 pub top-small : (d : ℕ) → d ≤ 12 → 2 ^ (d + 3) ≤ 32768
 top-small d h = pow-mono {i = d + 3} {j = 15} (omega arith)
 
-limited-is : (d : ℕ) (z : ℤ) → Limited d (limitedF d z)
+pub limited-is : (d : ℕ) (z : ℤ) → Limited d (limitedF d z)
 limited-is d z =
     let n : ℕ = 2 ^ (d + 3) in
     let h : negℤ (pos n) ≤ℤ (pos n -ℤ pos 1) = order (neg (nat n)) (nat n ⊝ nat 1) (omega (arith, top-even d)) in

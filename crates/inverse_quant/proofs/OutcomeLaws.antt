@@ -1,5 +1,5 @@
 -- The answers of inverse quantisation by number are what is due. Assumes nothing.
-use mathlib.Core.Bool.{Bool, not, _&&_}
+use mathlib.Core.Bool.{Bool, true, false, not, _&&_}
 use mathlib.Core.List.{List}
 use mathlib.Core.Path.{_≡_}
 use Prim.Native.Nat.{ℕ}
@@ -12,6 +12,7 @@ use Rattle.coefficients.proofs.OutcomeLaws.{stage-due, value-due}
 use Rattle.coefficients.specs.Level.{blockFine}
 use Rattle.coefficients.specs.Outcomes.{stageOutcome, valueOutcome}
 use Rattle.inverse_quant.specs.Dequantised.{answer1, answer2, contextFine, nonZero}
+use Rattle.inverse_quant.specs.Either.{answerBy, dueBy}
 use Rattle.inverse_quant.specs.Outcomes.{due1, due2, intraDcDue, method1Due, method2Due}
 use Rattle.inverse_quant.specs.Stages.{intraDcAnswer, method1Answer, method2Answer}
 use Rattle.inverse_quant.specs.declared.context.InverseQuantContext.{InverseQuantContext}
@@ -30,3 +31,7 @@ due-1 ctx w qf = stage-due (contextFine ctx && every (every nonZero) w) (blockFi
 
 pub due-2 : (ctx : InverseQuantContext) (qf : List (List ℤ)) → stageOutcome (answer2 ctx qf) ≡ due2 ctx qf
 due-2 ctx qf = stage-due (contextFine ctx) (blockFine qf)
+
+pub due-by : (method1 : Bool) (ctx : InverseQuantContext) (w : List (List ℕ)) (qf : List (List ℤ)) → stageOutcome (answerBy method1 ctx w qf) ≡ dueBy method1 ctx w qf
+due-by true ctx w qf = due-1 ctx w qf
+due-by false ctx w qf = due-2 ctx qf

@@ -2,3 +2,5 @@
 pub mod Dequantised
 pub mod Stages
 pub mod Outcomes
+pub mod Either
+pub mod ByRows

@@ -6,6 +6,7 @@ mod block;
 mod coefficient;
 mod context;
 mod mismatch;
+mod short;
 
 pub use block::inverse_quant_method1;
 pub use block::inverse_quant_method1_no_mismatch;
@@ -15,3 +16,4 @@ pub use coefficient::inverse_quant_method1_coef;
 pub use coefficient::inverse_quant_method2_coef;
 pub use context::InverseQuantContext;
 pub use context::matrix_fine;
+pub use short::inverse_quant_rows;

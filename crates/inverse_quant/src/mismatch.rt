@@ -20,7 +20,7 @@ fn sum_block(f: [[i32; 8]; 8]) -> i32
 }
 
 // Whether a number is odd, a negative one too: the remainder is then 1 or -1.
-fn is_odd(z: i32) -> bool
+pub(crate) fn is_odd(z: i32) -> bool
     ensures { λ r. ⌜ r ≡ odd z ⌝ }
 {
     z % 2 != 0

@@ -4,3 +4,5 @@ pub mod RefusalLaws
 pub mod RecordLaws
 pub mod SideLaws
 pub mod SoundLaws
+pub mod StoredLaws
+pub mod NeededLaws

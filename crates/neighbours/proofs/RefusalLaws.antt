@@ -21,6 +21,14 @@ block-passes owned i h o = rw (lt-ltb i 6 h, le-leb 91 owned o)
 pub quantiser-passes : (q : ℕ) → quantiserFine q ≡ true → firstBad (quantiserTests q) ≡ Done
 quantiser-passes q e = ap (λ (t : Bool). cond t Done (Refused Context)) e
 
+-- and one that is refused is none
+quantiser-only : (t : Bool) (e f : RecordError) → cond t Done (Refused f) ≡ Refused e → t ≡ false
+quantiser-only true e f h = cc
+quantiser-only false e f h = refl
+
+pub quantiser-refused : (q : ℕ) (e : RecordError) → firstBad (quantiserTests q) ≡ Refused e → quantiserFine q ≡ false
+quantiser-refused q e h = quantiser-only (quantiserFine q) e Context h
+
 pub store-passes : (stored at : ℕ) → at + 91 ≤ stored → firstBad (storeTests stored at) ≡ Done
 store-passes stored at h = rw (le-leb (at + 91) stored h)
 

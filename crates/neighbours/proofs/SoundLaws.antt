@@ -41,7 +41,7 @@ blank-zero q k h =
     getD-set-other (replicate 91 (pos 0)) 90 k _ (pos 0) (λ (e : k ≡ 90). omega arith)
     ∙ getD-build 91 (λ (j : ℕ). pos 0) k (pos 0) (omega arith)
 
-blank-quantiser : (q : ℕ) → getD (blank q) 90 (pos 0) ≡ pos q
+pub blank-quantiser : (q : ℕ) → getD (blank q) 90 (pos 0) ≡ pos q
 unfolding blank
 blank-quantiser q = refl
 
@@ -90,32 +90,32 @@ module _ (own : List ℤ) (i : ℕ) (dc : ℤ) (qf : List (List ℤ)) where
 
 -- ---- one side in range: the whole of it, and what is taken of it as A, B and C
 
-record SideFine (s : Side) : Type 0 where
-  dc-fine : dcFine (s .dc) ≡ true
-  qp-fine : quantiserFine (s .qp) ≡ true
-  row-fine : valuesFine (s .has) (s .row) ≡ true
-  column-fine : valuesFine (s .has) (s .column) ≡ true
+pub record SideFine (s : Side) : Type 0 where
+  pub dc-fine : dcFine (s .dc) ≡ true
+  pub qp-fine : quantiserFine (s .qp) ≡ true
+  pub row-fine : valuesFine (s .has) (s .row) ≡ true
+  pub column-fine : valuesFine (s .has) (s .column) ≡ true
 
-record FineA (s : Side) : Type 0 where
-  dc-fine : dcFine (s .dc) ≡ true
-  qp-fine : quantiserFine (s .qp) ≡ true
-  column-fine : valuesFine (s .has) (s .column) ≡ true
+pub record FineA (s : Side) : Type 0 where
+  pub dc-fine : dcFine (s .dc) ≡ true
+  pub qp-fine : quantiserFine (s .qp) ≡ true
+  pub column-fine : valuesFine (s .has) (s .column) ≡ true
 
-record FineB (s : Side) : Type 0 where
-  dc-fine : dcFine (s .dc) ≡ true
+pub record FineB (s : Side) : Type 0 where
+  pub dc-fine : dcFine (s .dc) ≡ true
 
-record FineC (s : Side) : Type 0 where
-  dc-fine : dcFine (s .dc) ≡ true
-  qp-fine : quantiserFine (s .qp) ≡ true
-  row-fine : valuesFine (s .has) (s .row) ≡ true
+pub record FineC (s : Side) : Type 0 where
+  pub dc-fine : dcFine (s .dc) ≡ true
+  pub qp-fine : quantiserFine (s .qp) ≡ true
+  pub row-fine : valuesFine (s .has) (s .row) ≡ true
 
-as-a : {s : Side} → SideFine s → FineA s
+pub as-a : {s : Side} → SideFine s → FineA s
 as-a f = record { dc-fine = f .dc-fine; qp-fine = f .qp-fine; column-fine = f .column-fine }
 
-as-b : {s : Side} → SideFine s → FineB s
+pub as-b : {s : Side} → SideFine s → FineB s
 as-b f = record { dc-fine = f .dc-fine }
 
-as-c : {s : Side} → SideFine s → FineC s
+pub as-c : {s : Side} → SideFine s → FineC s
 as-c f = record { dc-fine = f .dc-fine; qp-fine = f .qp-fine; row-fine = f .row-fine }
 
 seven-fine : (r : List ℤ) (at : ℕ) → ((k : ℕ) → k < 7 → levelFine (getD r (at + k) (pos 0)) ≡ true) → every levelFine (sevenFrom r at) ≡ true
@@ -126,7 +126,7 @@ seven-fine r at f =
     let l : k < 7 = omega arith in
     ap levelFine (getD-build 7 (λ (k : ℕ). getD r (at + k) (pos 0)) k (pos 0) l) ∙ f k l)
 
-known-fine : (r : List ℤ) → Sound r → (b : ℕ) → b < 6 → SideFine (knownOf r b)
+pub known-fine : (r : List ℤ) → Sound r → (b : ℕ) → b < 6 → SideFine (knownOf r b)
 known-fine r s b h =
     let part : (m : ℕ) → 1 ≤ m → m + 7 ≤ 15 → every levelFine (sevenFrom r (15 * b + m)) ≡ true =
     λ m l n. seven-fine r (15 * b + m)
@@ -135,17 +135,17 @@ known-fine r s b h =
     ap (λ (j : ℕ). levelFine (getD r j (pos 0))) z ∙ s .levels b (m + k) h (omega arith) (omega arith)) in
     record { dc-fine = s .dcs b h; qp-fine = s .quantiser; row-fine = part 1 (omega arith) (omega arith); column-fine = part 8 (omega arith) (omega arith) }
 
-missing-fine : (depth q : ℕ) → quantiserFine q ≡ true → SideFine (missingOf depth q)
+pub missing-fine : (depth q : ℕ) → quantiserFine q ≡ true → SideFine (missingOf depth q)
 missing-fine depth q e =
     let l = quantiser-range q e in
     record { dc-fine = both-true _ _ (outside-fine depth q (l .0) (l .1)) .0; qp-fine = e; row-fine = refl; column-fine = refl }
 
 -- ---- the three together
 
-record ThreeFine (a b c : Side) : Type 0 where
-  a-fine : FineA a
-  b-fine : FineB b
-  c-fine : FineC c
+pub record ThreeFine (a b c : Side) : Type 0 where
+  pub a-fine : FineA a
+  pub b-fine : FineB b
+  pub c-fine : FineC c
 
 split : (a b c : Side) → predictorsFine (joined a b c) ≡ true → ThreeFine a b c
 split a b c e =
@@ -161,7 +161,7 @@ split a b c e =
       c-fine = record { dc-fine = e₃ .0; qp-fine = e₅ .0; row-fine = e₆ .1 };
     }
 
-join : {a b c : Side} → FineA a → FineB b → FineC c → predictorsFine (joined a b c) ≡ true
+pub join : {a b c : Side} → FineA a → FineB b → FineC c → predictorsFine (joined a b c) ≡ true
 join f g h =
     true-both (f .dc-fine) (true-both (g .dc-fine) (true-both (h .dc-fine) (true-both (f .qp-fine) (true-both (h .qp-fine) (true-both (f .column-fine) (h .row-fine))))))
 
@@ -174,11 +174,16 @@ with-another P depth q ar new own Left b x y = x
 with-another P depth q ar new own AboveLeft b x y = x
 with-another P depth q ar new own Above b x y = x
 
+-- what is checked of the neighbours, of each block
+pub each-fine : (depth q : ℕ) (ar : Around) (own : List ℤ) → neighboursFine depth q ar own ≡ true → (i : ℕ) → i < 6 → ThreeFine (sideOf depth q ar own (aSource i) (aBlock i)) (sideOf depth q ar own (bSource i) (bBlock i)) (sideOf depth q ar own (cSource i) (cBlock i))
+unfolding neighboursFine predictors
+each-fine depth q ar own e i h = split _ _ _ (each-of-six (λ (j : ℕ). predictorsFine (predictors depth q ar own j)) e i h)
+
 -- what is checked of the neighbours with one sound record is so with another
 pub taken-fine : (depth q : ℕ) (ar : Around) (new own : List ℤ) → neighboursFine depth q ar new ≡ true → Sound own → (i : ℕ) → i < 6 → predictorsFine (predictors depth q ar own i) ≡ true
-unfolding neighboursFine predictors
+unfolding predictors
 taken-fine depth q ar new own e s i h =
-    let t = split _ _ _ (each-of-six (λ (j : ℕ). predictorsFine (predictors depth q ar new j)) e i h) in
+    let t = each-fine depth q ar new e i h in
     join
     (with-another FineA depth q ar new own (aSource i) (aBlock i) (t .a-fine) (as-a (known-fine own s (aBlock i) (a-below i h))))
     (with-another FineB depth q ar new own (bSource i) (bBlock i) (t .b-fine) (as-b (known-fine own s (bBlock i) (b-below i h))))

@@ -2,3 +2,4 @@
 pub mod Record
 pub mod Neighbours
 pub mod Refusals
+pub mod Stored

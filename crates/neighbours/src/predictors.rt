@@ -15,7 +15,7 @@ use crate::refusal::Recorded;
 use coefficients::BlockPredictors;
 
 // Block `b` of a source.
-fn neighbour(store: &[i32], own: &[i32], p: Place, source: Source, b: usize) -> Side
+pub(crate) fn neighbour(store: &[i32], own: &[i32], p: Place, source: Source, b: usize) -> Side
     requires { ⌜ b < 6 ⌝ }
     ensures { λ r. ⌜ r ≡ sideOf (p .«bits_per_pixel») (p .«quantiser_scale») (aroundBy p (now (store .entry))) (recordAt (now (own .entry)) 0) source b ⌝ }
 {
@@ -56,7 +56,7 @@ fn no_dc(p: Place) -> i32
 }
 
 // The DC of block `b` of a source.
-fn neighbour_dc(store: &[i32], own: &[i32], p: Place, source: Source, b: usize) -> i32
+pub(crate) fn neighbour_dc(store: &[i32], own: &[i32], p: Place, source: Source, b: usize) -> i32
     requires { ⌜ b < 6 ⌝ }
     ensures { λ r. ⌜ r ≡ sideOf (p .«bits_per_pixel») (p .«quantiser_scale») (aroundBy p (now (store .entry))) (recordAt (now (own .entry)) 0) source b .dc ⌝ }
 {
@@ -105,7 +105,7 @@ fn join(a: Side, fb_dc: i32, c: Side) -> BlockPredictors
 }
 
 // What block `i` of six takes, out of the store and the macroblock's own record so far.
-fn taken_by(store: &[i32], own: &[i32], p: Place, i: usize) -> BlockPredictors
+pub(crate) fn taken_by(store: &[i32], own: &[i32], p: Place, i: usize) -> BlockPredictors
     requires { ⌜ i < 6 ⌝ }
     ensures { λ r. ⌜ r ≡ predictors (p .«bits_per_pixel») (p .«quantiser_scale») (aroundBy p (now (store .entry))) (recordAt (now (own .entry)) 0) i ⌝ }
 {
@@ -144,7 +144,7 @@ fn lies_if(there: bool, stored: usize, at: u32) -> bool
 }
 
 // Whether the records around the macroblock that is due do.
-fn place_lies(stored: usize, p: Place) -> bool
+pub(crate) fn place_lies(stored: usize, p: Place) -> bool
     ensures { λ r. ⌜ r ≡ placeLies stored p ⌝ }
 {
     if !lies_if(p.has_left, stored, p.left) {
@@ -157,7 +157,7 @@ fn place_lies(stored: usize, p: Place) -> bool
 }
 
 // 11, 12, 14.
-fn check_taken(stored: usize, owned: usize, p: Place, i: usize) -> Recorded
+pub(crate) fn check_taken(stored: usize, owned: usize, p: Place, i: usize) -> Recorded
     ensures { λ r. ⌜ r ≡ firstBad (takenTests stored owned p i) ⌝ }
 {
     if 6 <= i {

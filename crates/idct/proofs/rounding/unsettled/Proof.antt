@@ -3,7 +3,8 @@ use mathlib.Core.Path.{_∙_, ap, sym}
 use native.Mathlib.Omega.{arith}
 use lib.Ieee.{Float, lt}
 use borrow.Author.Needs.{needs}
-use Rattle.idct.proofs.Settled.{settled, wellWithin}
+use Rattle.idct.specs.ShortWays.{wellWithin}
+use Rattle.idct.proofs.Settled.{settled}
 use Rattle.idct.proofs.rounding.unsettled.Statement.{statement}
 use Rattle.idct.proofs.rounding.unsettled.Tie as tie
 

@@ -1,0 +1,156 @@
+-- One test for a block: the greatest distance from a whole number is well within a half only if each distance is. Assumes nothing.
+use mathlib.Core.Bool.{Bool, true, false, cond}
+use mathlib.Core.List.{List}
+use mathlib.Core.Logic.{⊎-elim}
+use mathlib.Core.Path.{_≡_, refl, sym, ap, _∙_, subst}
+use Prim.Native.Nat.{ℕ, _+_, _*_, _<_}
+use native.Mathlib.Nat.{eq-or-lt-of-le}
+use native.Mathlib.Omega.{arith}
+use lib.Ieee.{Float, nan, fin, binary64, lt, mul, neg, ofBits, sub, toSigned}
+use lib.Ieee.Bits.{is-true}
+use lib.IntN.{ℤ, pos, negℤ}
+use lib.ListN.{getD, length}
+use Rattle.numbers.proofs.Every.{every-fails}
+use Rattle.numbers.proofs.Fill.{build-eq, getD-build, length-build}
+use Rattle.numbers.specs.Every.{every}
+use Rattle.numbers.specs.Grid.{build}
+use Rattle.numbers.specs.Limit.{clampZ}
+use Rattle.f64_error.proofs.Binary64.{lt-is, lt-shown, neg-is, nlt-is, zero-is}
+use Rattle.f64_error.proofs.Grains.{grain}
+use Rattle.f64_error.specs.Series.{half}
+use Rattle.f64_error.specs.Units.{Is}
+use Rattle.f64_error.specs.Wholes.{magF}
+use Rattle.idct.specs.Rounding.{wholeOf}
+use Rattle.idct.specs.ShortWays.{Castable, Roundable, Sure, greaterF, nearF, nearZ, wellWithin}
+use Rattle.idct.specs.declared.rounding.HalfIntegerRounding.{HalfIntegerRounding}
+use Rattle.idct.proofs.Floors.{cast-fine, near-size}
+use Rattle.idct.proofs.Loops.{zero-bits}
+use Rattle.idct.proofs.Settled.{gap, settled, well-is}
+
+abbrev Finite : Float → Type 0
+Finite x = (v : ℤ) × Is x v
+
+mag-finite : (x : Float) → Finite x → Finite (magF x)
+mag-finite x f = go (lt x (fin false 0 (pos 0)))
+  where
+    go : (b : Bool) → Finite (cond b (neg x) x)
+    go true = (negℤ (f .0), neg-is x (f .0) (f .1))
+    go false = f
+
+-- ---- a row of sums
+
+module _ (sum : ℕ → Float) (sums : List Float) (s : sums ≡ build 8 sum) where
+  pub half-at : (x : ℕ) → x < 8 → mul binary64 half (getD sums x nan) ≡ mul binary64 half (sum x)
+  half-at x q = ap (mul binary64 half) (ap (λ (l : List Float). getD l x nan) s ∙ getD-build 8 sum x nan q)
+
+  pub row-bounded : ((x : ℕ) → x < 8 → Roundable (mul binary64 half (sum x))) → (x : ℕ) → x < 8 → Roundable (mul binary64 half (getD sums x nan))
+  row-bounded b x q = subst Roundable (sym (half-at x q)) (b x q)
+
+  -- by the rule
+  pub row-ruled : (m : HalfIntegerRounding) (hi : ℤ) (row : List ℤ) → row ≡ build 8 (λ (x : ℕ). clampZ (wholeOf m (mul binary64 half (getD sums x nan))) (pos 0) hi)
+      → row ≡ build 8 (λ (x : ℕ). clampZ (wholeOf m (mul binary64 half (sum x))) (pos 0) hi)
+  row-ruled m hi row e =
+      e
+      ∙ build-eq 8 (λ (x : ℕ). clampZ (wholeOf m (mul binary64 half (getD sums x nan))) (pos 0) hi) (λ (x : ℕ). clampZ (wholeOf m (mul binary64 half (sum x))) (pos 0) hi)
+      (λ (x : ℕ) (q : x < 8). ap (λ (z : Float). clampZ (wholeOf m z) (pos 0) hi) (half-at x q))
+
+-- ---- the same, to near numbers
+
+module _ (sum : ℕ → Float) (sums near : List Float) (s : sums ≡ build 8 sum) (n : near ≡ build 8 (λ (x : ℕ). nearF (mul binary64 half (getD sums x nan)))) where
+  near-at : (x : ℕ) → x < 8 → getD near x nan ≡ nearF (mul binary64 half (sum x))
+  near-at x q = ap (λ (l : List Float). getD l x nan) n ∙ getD-build 8 (λ (x : ℕ). nearF (mul binary64 half (getD sums x nan))) x nan q ∙ ap nearF (half-at sum sums s x q)
+
+  pub near-castable : ((x : ℕ) → x < 8 → Roundable (mul binary64 half (sum x))) → (x : ℕ) → x < 8 → Castable (getD near x nan)
+  near-castable b x q = subst Castable (sym (near-at x q)) (cast-fine (mul binary64 half (sum x)) (b x q), near-size (mul binary64 half (sum x)) (b x q))
+
+  pub near-clipped : (hi : ℤ) (row : List ℤ) → row ≡ build 8 (λ (x : ℕ). clampZ (toSigned 31 (getD near x nan)) (pos 0) hi) → row ≡ build 8 (λ (x : ℕ). clampZ (nearZ (mul binary64 half (sum x))) (pos 0) hi)
+  near-clipped hi row e =
+      e
+      ∙ build-eq 8 (λ (x : ℕ). clampZ (toSigned 31 (getD near x nan)) (pos 0) hi) (λ (x : ℕ). clampZ (nearZ (mul binary64 half (sum x))) (pos 0) hi)
+      (λ (x : ℕ) (q : x < 8). ap (λ (z : Float). clampZ (toSigned 31 z) (pos 0) hi) (near-at x q))
+
+-- ---- the greater of two
+
+module _ (a b : Float) (f : Finite a) (g : Finite b) where
+  greater-finite : Finite (greaterF a b)
+  greater-finite = go (lt a b)
+    where
+      go : (t : Bool) → Finite (cond t b a)
+      go true = g
+      go false = f
+
+  greater-within : lt (greaterF a b) wellWithin ≡ true → (lt a wellWithin ≡ true) × (lt b wellWithin ≡ true)
+  greater-within e = go (lt a b) refl e
+    where
+      go : (t : Bool) → lt a b ≡ t → lt (cond t b a) wellWithin ≡ true → (lt a wellWithin ≡ true) × (lt b wellWithin ≡ true)
+      go true s h =
+          let p = lt-is a b (f .0) (g .0) (f .1) (g .1) s in
+          let q = lt-is b wellWithin (g .0) (pos (576390383559245824 * grain)) (g .1) well-is h in
+          (is-true (lt a wellWithin) (lt-shown a wellWithin (f .0) (pos (576390383559245824 * grain)) (f .1) well-is (omega arith)), h)
+      go false s h =
+          let p = nlt-is a b (f .0) (g .0) (f .1) (g .1) s in
+          let q = lt-is a wellWithin (f .0) (pos (576390383559245824 * grain)) (f .1) well-is h in
+          (h, is-true (lt b wellWithin) (lt-shown b wellWithin (g .0) (pos (576390383559245824 * grain)) (g .1) well-is (omega arith)))
+
+-- ---- a block: the rows below k are done
+
+pub record Cleared (value : ℕ → ℕ → Float) (k : ℕ) (worst : List Float) : Type 0 where
+  pub long : length worst ≡ 8
+  pub finite : (x : ℕ) → x < 8 → Finite (getD worst x nan)
+  pub sure : (x : ℕ) → x < 8 → lt (getD worst x nan) wellWithin ≡ true → (y : ℕ) → y < k → Sure (value y x)
+
+module _ (value : ℕ → ℕ → Float) where
+  pub cleared-none : (worst : List Float) → worst ≡ build 8 (λ (x : ℕ). ofBits binary64 0) → Cleared value 0 worst
+  cleared-none worst e =
+      record {
+        long = ap length e ∙ length-build 8 (λ (x : ℕ). ofBits binary64 0);
+        finite = λ x q. (pos 0, subst (λ (z : Float). Is z (pos 0)) (sym (ap (λ (l : List Float). getD l x nan) e ∙ getD-build 8 (λ (x : ℕ). ofBits binary64 0) x nan q ∙ zero-bits)) zero-is);
+        sure = λ x q h y p. absurd (omega arith);
+      }
+
+  -- one more row
+  module _ (k : ℕ) (worst sums near far : List Float) (c : Cleared value k worst) (b : (x : ℕ) → x < 8 → Roundable (value k x)) (s : (x : ℕ) → x < 8 → mul binary64 half (getD sums x nan) ≡ value k x)
+      (n : near ≡ build 8 (λ (x : ℕ). nearF (mul binary64 half (getD sums x nan))))
+      (e : far ≡ build 8 (λ (x : ℕ). greaterF (getD worst x nan) (magF (sub binary64 (mul binary64 half (getD sums x nan)) (getD near x nan)))))
+    where
+      abbrev distance : ℕ → Float
+      distance x = magF (sub binary64 (value k x) (nearF (value k x)))
+
+      distance-is : (x : ℕ) → x < 8 → magF (sub binary64 (mul binary64 half (getD sums x nan)) (getD near x nan)) ≡ distance x
+      distance-is x q =
+          ap (λ (z : Float). magF (sub binary64 (mul binary64 half (getD sums x nan)) z)) (ap (λ (l : List Float). getD l x nan) n ∙ getD-build 8 (λ (x : ℕ). nearF (mul binary64 half (getD sums x nan))) x nan q)
+          ∙ ap (λ (z : Float). magF (sub binary64 z (nearF z))) (s x q)
+
+      distance-finite : (x : ℕ) → x < 8 → Finite (distance x)
+      distance-finite x q = mag-finite (sub binary64 (value k x) (nearF (value k x))) (gap (value k x) (b x q))
+
+      far-is : (x : ℕ) → x < 8 → getD far x nan ≡ greaterF (getD worst x nan) (distance x)
+      far-is x q =
+          ap (λ (l : List Float). getD l x nan) e
+          ∙ getD-build 8 (λ (x : ℕ). greaterF (getD worst x nan) (magF (sub binary64 (mul binary64 half (getD sums x nan)) (getD near x nan)))) x nan q
+          ∙ ap (λ (z : Float). greaterF (getD worst x nan) z) (distance-is x q)
+
+      sure-more : (x : ℕ) → x < 8 → lt (getD far x nan) wellWithin ≡ true → (y : ℕ) → y < k + 1 → Sure (value y x)
+      sure-more x q h y p =
+          let w = greater-within (getD worst x nan) (distance x) (c .finite x q) (distance-finite x q) (ap (λ (z : Float). lt z wellWithin) (sym (far-is x q)) ∙ h) in
+          ⊎-elim (λ (z : y ≡ k). subst (λ (i : ℕ). Sure (value i x)) (sym z) (settled (value k x) (b x q) (w .1))) (λ (z : y < k). c .sure x q (w .0) y z) (eq-or-lt-of-le (omega arith))
+
+      pub cleared-more : Cleared value (k + 1) far
+      cleared-more =
+          record {
+            long = ap length e ∙ length-build 8 (λ (x : ℕ). greaterF (getD worst x nan) (magF (sub binary64 (mul binary64 half (getD sums x nan)) (getD near x nan))));
+            finite = λ x q. subst Finite (sym (far-is x q)) (greater-finite (getD worst x nan) (distance x) (c .finite x q) (distance-finite x q));
+            sure = sure-more;
+          }
+
+  -- two more, as the loop counts them
+  pub cleared-two : (p : ℕ) (worst : List Float) → Cleared value (2 * p + 1 + 1) worst → Cleared value (2 * (p + 1)) worst
+  cleared-two p worst c = subst (λ (k : ℕ). Cleared value k worst) (omega arith) c
+
+  -- the test
+  pub cleared-all : (k : ℕ) (worst : List Float) (r : Bool) → Cleared value k worst → r ≡ every (λ (w : Float). lt w wellWithin) worst → r ≡ true → (y x : ℕ) → y < k → x < 8 → Sure (value y x)
+  cleared-all k worst r c e t y x p q = c .sure x q (go (lt (getD worst x nan) wellWithin) refl) y p
+    where
+      go : (b : Bool) → lt (getD worst x nan) wellWithin ≡ b → b ≡ true
+      go true g = refl
+      go false g = sym (every-fails (λ (w : Float). lt w wellWithin) nan worst x (omega (arith, c .long)) g) ∙ sym e ∙ t

@@ -1,0 +1,242 @@
+// A short way to the samples 0..=hi: the second pass gives two rows at a time, each value to the nearest
+// whole number, and one test for the block tells whether the rule is to be asked.
+ghost use mathlib.Core.Bool.{cond, true};
+ghost use mathlib.Core.Path.{_≡_};
+ghost use Prim.Native.Nat.{ℕ, _+_, _≤_, _<_};
+ghost use lib.Ieee.{Float, nan, binary64, lt, mul, sub, toSigned};
+ghost use lib.IntN.{pos};
+ghost use lib.ListN.{getD, length};
+ghost use Rattle.numbers.specs.Every.{every};
+ghost use Rattle.numbers.specs.Grid.{block, build};
+ghost use Rattle.numbers.specs.Limit.{clampZ};
+ghost use Rattle.ranges.specs.Range.{within};
+ghost use Rattle.f64_error.specs.Series.{half};
+ghost use Rattle.f64_error.specs.Wholes.{magF};
+ghost use Rattle.idct.specs.Cosines.{cosF};
+ghost use Rattle.idct.specs.Exact.{Modest};
+ghost use Rattle.idct.specs.Rounding.{wholeOf};
+ghost use Rattle.idct.specs.ShortWays.{Castable, Roundable, Sure, Told, greaterF, halfOfKept, isZero, nearF, nearZ, samplesIn, sumOfKept, wellWithin};
+use crate::limits::row_within;
+use crate::rounding::HalfIntegerRounding;
+use crate::rounding::SHIFT;
+use crate::rounding::WELL_WITHIN;
+use crate::rounding::magnitude;
+use crate::transform::add_row;
+use crate::transform::row_terms;
+use crate::transform::ruled_row;
+
+// ---- rows
+
+// Whether a row has zeros only.
+fn zero_row(row: [i32; 8]) -> bool
+    ensures { λ r. ⌜ r ≡ every isZero row ⌝ }
+{
+    let mut some: i32 = 0;
+    for u in 0..8 {
+        some = some | row[u];
+    }
+    some == 0
+}
+
+// Half of each sum, to the nearest whole number.
+fn near_row(sums: [f64; 8]) -> [f64; 8]
+    ensures { λ r. ⌜ r ≡ build 8 (λ (x : ℕ). nearF (mul binary64 half (getD sums x nan))) ⌝ }
+{
+    let mut out = [0.0f64; 8];
+    for x in 0..8 {
+        out[x] = 0.5 * sums[x] + SHIFT - SHIFT;
+    }
+    out
+}
+
+// The greater.
+fn greater(a: f64, b: f64) -> f64
+    ensures { λ r. ⌜ r ≡ greaterF a b ⌝ }
+{
+    if a < b { b } else { a }
+}
+
+// How far each half was from its whole number, where that is farther than the worst so far.
+fn farther(worst: [f64; 8], sums: [f64; 8], near: [f64; 8]) -> [f64; 8]
+    ensures { λ r. ⌜ r ≡ build 8 (λ (x : ℕ). greaterF (getD worst x nan) (magF (sub binary64 (mul binary64 half (getD sums x nan)) (getD near x nan)))) ⌝ }
+{
+    let mut out = [0.0f64; 8];
+    for x in 0..8 {
+        let far = magnitude(0.5 * sums[x] - near[x]);
+        out[x] = greater(worst[x], far);
+    }
+    out
+}
+
+// Whole numbers brought into 0..=hi.
+fn clipped_row(near: [f64; 8], hi: i32) -> [i32; 8]
+    requires { ⌜ ((x : ℕ) → x < 8 → Castable (getD near x nan)) ⌝ }
+    ensures { λ r. ⌜ r ≡ build 8 (λ (x : ℕ). clampZ (toSigned 31 (getD near x nan)) (pos 0) hi) ⌝ }
+{
+    let mut out = [0i32; 8];
+    for x in 0..8 {
+        let n = near[x] as i32;
+        out[x] = numbers::clamp(n, 0, hi);
+    }
+    out
+}
+
+// Whether each is well within a half.
+fn settled(worst: [f64; 8]) -> bool
+    ensures { λ r. ⌜ r ≡ every (λ (w : Float). lt w wellWithin) worst ⌝ }
+{
+    let mut fine = true;
+    for x in 0..8 {
+        let within = worst[x] < WELL_WITHIN;
+        fine = fine & within;
+    }
+    fine
+}
+
+// ---- blocks
+
+// How many rows are kept: those with a value that is not zero.
+enum KeptRows {
+    Are(usize),
+    OutOfLimits,
+}
+
+// The first pass: the terms of the rows that are kept, and which rows they are. A value outside
+// least..=most ends it.
+fn kept_rows(
+    f: &[[i32; 8]; 8],
+    table: &[[f64; 8]; 8],
+    least: i32,
+    most: i32,
+    terms: &mut [[f64; 8]; 8],
+    which: &mut [usize; 8],
+) -> KeptRows
+    requires { ⌜ (now table ≡ block cosF) × (length (now f) ≡ 8) × (length (now terms) ≡ 8) × (length (now which) ≡ 8) × (within least most (pos 0) ≡ true) ⌝ }
+    ensures { λ r. ⌜ Told (now (f .entry)) least most (now (terms .exit)) (now (which .exit)) r ⌝ }
+{
+    let mut n: usize = 0;
+    for v in 0..8 {
+        let row = f[v];
+        if !zero_row(row) {
+            if !row_within(row, least, most) {
+                return KeptRows::OutOfLimits;
+            }
+            let more = row_terms(row, v, table);
+            terms[n] = more;
+            which[n] = v;
+            n += 1;
+        }
+    }
+    KeptRows::Are(n)
+}
+
+// The sums of a row, and of the next one.
+struct TwoRows {
+    sums: [f64; 8],
+    more: [f64; 8],
+}
+
+// The second pass at y and y + 1, over the rows that are kept.
+fn two_rows(
+    terms: &[[f64; 8]; 8],
+    which: &[usize; 8],
+    n: usize,
+    table: &[[f64; 8]; 8],
+    y: usize,
+) -> TwoRows
+    requires { ⌜ (now table ≡ block cosF) × (n ≤ 8) × (y + 1 < 8) × ((j : ℕ) → j < n → getD (now which) j 0 < 8) ⌝ }
+    ensures { λ r. ⌜ (r .sums ≡ build 8 (sumOfKept (now (terms .entry)) (now (which .entry)) n y)) × (r .more ≡ build 8 (sumOfKept (now (terms .entry)) (now (which .entry)) n (y + 1))) ⌝ }
+{
+    let mut sums = [0.0f64; 8];
+    let mut more = [0.0f64; 8];
+    for j in 0..n {
+        let t = terms[j];
+        let v = which[j];
+        let first = add_row(sums, t, table[v][y]);
+        sums = first;
+        let second = add_row(more, t, table[v][y + 1]);
+        more = second;
+    }
+    TwoRows { sums, more }
+}
+
+// The samples by the nearest whole numbers, and whether these are the rule's. `out` is made anew, two
+// rows a turn.
+fn near_samples(
+    terms: &[[f64; 8]; 8],
+    which: &[usize; 8],
+    n: usize,
+    table: &[[f64; 8]; 8],
+    hi: i32,
+    out: &mut [[i32; 8]; 8],
+) -> bool
+    requires { ⌜ (now table ≡ block cosF) × (n ≤ 8) × ((j : ℕ) → j < n → getD (now which) j 0 < 8) × ((y x : ℕ) → y < 8 → x < 8 → Roundable (halfOfKept (now terms) (now which) n y x)) ⌝ }
+    ensures { λ r. ⌜ now (out .exit) ≡ block (λ (y x : ℕ). clampZ (nearZ (halfOfKept (now (terms .entry)) (now (which .entry)) n y x)) (pos 0) hi) ⌝ }
+    ensures sure { λ r. ⌜ (r ≡ true → (y x : ℕ) → y < 8 → x < 8 → Sure (halfOfKept (now (terms .entry)) (now (which .entry)) n y x)) ⌝ }
+{
+    *out = [[0i32; 8]; 8];
+    let mut worst = [0.0f64; 8];
+    for p in 0..4 {
+        let y = 2 * p;
+        let pair = two_rows(terms, which, n, table, y);
+        let sums = pair.sums;
+        let near = near_row(sums);
+        let far = farther(worst, sums, near);
+        out[y] = clipped_row(near, hi);
+        let more = pair.more;
+        let next = near_row(more);
+        worst = farther(far, more, next);
+        out[y + 1] = clipped_row(next, hi);
+    }
+    settled(worst)
+}
+
+// The samples by the rule.
+fn ruled(
+    terms: &[[f64; 8]; 8],
+    which: &[usize; 8],
+    n: usize,
+    table: &[[f64; 8]; 8],
+    hi: i32,
+    rounding: HalfIntegerRounding,
+    out: &mut [[i32; 8]; 8],
+)
+    requires { ⌜ (now table ≡ block cosF) × (n ≤ 8) × ((j : ℕ) → j < n → getD (now which) j 0 < 8) × ((y x : ℕ) → y < 8 → x < 8 → Roundable (halfOfKept (now terms) (now which) n y x)) ⌝ }
+    ensures { λ r. ⌜ now (out .exit) ≡ block (λ (y x : ℕ). clampZ (wholeOf rounding (halfOfKept (now (terms .entry)) (now (which .entry)) n y x)) (pos 0) hi) ⌝ }
+{
+    *out = [[0i32; 8]; 8];
+    for p in 0..4 {
+        let y = 2 * p;
+        let pair = two_rows(terms, which, n, table, y);
+        let sums = pair.sums;
+        out[y] = ruled_row(sums, 0, hi, rounding);
+        let more = pair.more;
+        out[y + 1] = ruled_row(more, 0, hi, rounding);
+    }
+}
+
+// Both passes of `f`, whose samples go into `out`; or false where a value is outside least..=most.
+pub(crate) fn transform(
+    f: &[[i32; 8]; 8],
+    table: &[[f64; 8]; 8],
+    hi: i32,
+    rounding: HalfIntegerRounding,
+    least: i32,
+    most: i32,
+    out: &mut [[i32; 8]; 8],
+) -> bool
+    requires { ⌜ (now table ≡ block cosF) × (length (now f) ≡ 8) × (within least most (pos 0) ≡ true) × (every (every (within least most)) (now f) ≡ true → Modest (now f)) ⌝ }
+    ensures { λ r. ⌜ (r ≡ every (every (within least most)) (now (f .entry))) × (now (out .exit) ≡ cond r (samplesIn rounding (pos 0) hi (now (f .entry))) (now (out .entry))) ⌝ }
+{
+    let mut terms = [[0.0f64; 8]; 8];
+    let mut which = [0usize; 8];
+    match kept_rows(f, table, least, most, &mut terms, &mut which) {
+        KeptRows::OutOfLimits => false,
+        KeptRows::Are(n) => {
+            if !near_samples(&terms, &which, n, table, hi, out) {
+                ruled(&terms, &which, n, table, hi, rounding, out);
+            }
+            true
+        }
+    }
+}

@@ -1,0 +1,98 @@
+-- `inverse_quant::short::rows2` meets its contract: every row by method 2, and the first value put over it. Assumes nothing.
+use mathlib.Core.Bool.{true}
+use mathlib.Core.List.{List}
+use mathlib.Core.Path.{_≡_, refl, ap, _∙_}
+use denote.Ref.{now}
+use lib.IntN.{ℤ}
+use mir.Syntax.{w32}
+use borrow.Author.Needs.{needs}
+use Rattle.numbers.specs.Grid.{build, cell}
+use Rattle.numbers.proofs.Expressions.{back, loc}
+use Rattle.numbers.proofs.Tests.{flag-passes, flag-refuses}
+use Rattle.numbers.proofs.Words.{held}
+use Rattle.coefficients.proofs.RefusalLaws.{block-good}
+use Rattle.coefficients.specs.Level.{blockFine}
+use Rattle.coefficients.specs.Refusal.{firstBad}
+use Rattle.coefficients.specs.declared.refusal.CoefficientError.the-variants.{HandedIn}
+use Rattle.inverse_quant.specs.ByRows.{firstValue, rowsBy2}
+use Rattle.inverse_quant.specs.Dequantised.{dequantised2}
+use Rattle.inverse_quant.proofs.AnswerLaws.{done-writes, refused-keeps}
+use Rattle.inverse_quant.proofs.ByRowsLaws.{first-put2, put}
+use Rattle.inverse_quant.proofs.short.rows2.Statement.{statement}
+use Rattle.inverse_quant.proofs.short.rows2.Tie as tie
+
+-- the levels are in range, and so every row is put
+module _ (c : tie.Else1) where
+  abbrev qf : List (List ℤ)
+  qf = now (c .before .before .before .args .qf)
+
+  abbrev rows : List (List ℤ)
+  rows = rowsBy2 (c .before .before .before .args .ctx) qf
+
+  fine : blockFine qf ≡ true
+  fine = flag-passes (c .before .fill2 .ensures .0) (c .if1 .left)
+
+fill2-requires : tie.Need-fill2-requires
+unfolding build
+fill2-requires c κs = (c .before .pre .0, c .before .pre .1, refl)
+
+returns : tie.Need-returns
+returns c =
+    let s = c .before .before .before in
+    let qf = now (s .args .qf) in
+    refused-keeps (firstBad true (blockFine qf)) HandedIn (dequantised2 (s .args .ctx) qf) (now (s .args .out))
+    (ap (firstBad true) (flag-refuses (c .before .fill2 .ensures .0) (c .if1 .taken)))
+
+index-1-first-value : tie.Need-index-1-first-value
+index-1-first-value c = search needs
+
+index-2-first-value : tie.Need-index-2-first-value
+index-2-first-value c = search needs
+
+index-1-first-value-2 : tie.Need-index-1-first-value-2
+index-1-first-value-2 c = search needs
+
+index-2-first-value-2 : tie.Need-index-2-first-value-2
+index-2-first-value-2 c = search needs
+
+first-value-requires : tie.Need-first-value-requires
+first-value-requires c κs =
+    let e = c .before .before in
+    let h = block-good (qf e) (fine e) 0 0 in
+    (rw (back {w = w32} (loc (cell (qf e) 0 0) 2048 h) tt) h, e .before .before .before .pre .0)
+
+index-1-f : tie.Need-index-1-f
+index-1-f c = search needs
+
+index-2-f : tie.Need-index-2-f
+index-2-f c = search needs
+
+returns-2 : tie.Need-returns-2
+unfolding dequantised2
+returns-2 c =
+    let e = c .before .before .before in
+    let s = e .before .before .before in
+    let x = s .args .ctx in
+    let f = e .before .fill2 .last .1 .1 .0 in
+    let filled : f ≡ rows e = e .before .fill2 .ensures .1 (fine e) in
+    let first = cell (qf e) 0 0 in
+    let level = back {w = w32} (loc first 2048 (block-good (qf e) (fine e) 0 0)) tt in
+    let value = held (cell f 0 0) (c .before .first-value-arg2 .given) ∙ ap (λ (b : List (List ℤ)). cell b 0 0) filled in
+    let dc : c .first-value .result ≡ firstValue x first (cell (rows e) 0 0) = c .first-value .ensures ∙ (λ i. firstValue x (level i) (value i)) in
+    done-writes (firstBad true (blockFine (qf e))) (dequantised2 x (qf e)) (now (s .args .out)) _ (ap (firstBad true) (fine e))
+    ((λ i. put (filled i) 0 0 ((held (c .first-value .result) (c .first-value .ok) ∙ dc) i)) ∙ first-put2 x (qf e))
+
+pub rows2-spec : {M : Type 1} → statement M
+rows2-spec =
+    tie.close
+    (tie.spec
+    fill2-requires
+    returns
+    index-1-first-value
+    index-2-first-value
+    index-1-first-value-2
+    index-2-first-value-2
+    first-value-requires
+    index-1-f
+    index-2-f
+    returns-2)

@@ -1,0 +1,47 @@
+-- Inside the crate: rows of levels by either method's rule at every place, and the values that are put last. Definitions only.
+use mathlib.Core.Bool.{Bool, cond}
+use mathlib.Core.List.{List, []}
+use Prim.Native.Nat.{ℕ, _≤_}
+use lib.Dec.{eqb}
+use lib.IntN.{ℤ, pos, natAbs}
+use lib.ListN.{getD}
+use Rattle.numbers.specs.Grid.{build}
+use Rattle.inverse_quant.specs.declared.context.InverseQuantContext.{InverseQuantContext}
+use Rattle.inverse_quant.specs.Dequantised.{intraDc, limitedF, method1, method2, controlled}
+
+abbrev pub isZero : ℤ → Bool
+isZero z = eqb (natAbs z) 0
+
+-- a row that passes 13's test, and one whose values are within the limits of any depth
+abbrev pub LevelsRow : List ℤ → Type 0
+LevelsRow row = (u : ℕ) → natAbs (getD row u (pos 0)) ≤ 2048
+
+abbrev pub ValuesRow : List ℤ → Type 0
+ValuesRow row = (u : ℕ) → natAbs (getD row u (pos 0)) ≤ 32768
+
+abbrev pub zeros : List ℤ
+zeros = build 8 (λ (u : ℕ). pos 0)
+
+-- a row by method 1 and by method 2, limited
+unfoldable pub rowBy1 : InverseQuantContext → List ℕ → List ℤ → List ℤ
+rowBy1 ctx w row =
+    build 8 (λ (u : ℕ). limitedF (ctx .«bits_per_pixel») (method1 (ctx .«macroblock_intra») (getD row u (pos 0)) (getD w u 0) (ctx .«quantiser_scale»)))
+
+unfoldable pub rowBy2 : InverseQuantContext → List ℤ → List ℤ
+rowBy2 ctx row = build 8 (λ (u : ℕ). limitedF (ctx .«bits_per_pixel») (method2 (getD row u (pos 0)) (ctx .«quantiser_scale»)))
+
+-- every row
+abbrev pub rowsBy1 : InverseQuantContext → List (List ℕ) → List (List ℤ) → List (List ℤ)
+rowsBy1 ctx w qf = build 8 (λ (v : ℕ). rowBy1 ctx (getD w v []) (getD qf v []))
+
+abbrev pub rowsBy2 : InverseQuantContext → List (List ℤ) → List (List ℤ)
+rowsBy2 ctx qf = build 8 (λ (v : ℕ). rowBy2 ctx (getD qf v []))
+
+-- the DC's own rule, in an intra block
+abbrev pub firstValue : InverseQuantContext → ℤ → ℤ → ℤ
+firstValue ctx level value =
+    cond (ctx .«macroblock_intra») (limitedF (ctx .«bits_per_pixel») (intraDc level (ctx .component) (ctx .«quantiser_scale») (ctx .«short_video_header»))) value
+
+-- mismatch control, where it is asked for
+abbrev pub lastValue : Bool → ℤ → ℤ → ℤ
+lastValue control sum value = cond control (controlled sum value) value

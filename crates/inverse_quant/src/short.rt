@@ -1,0 +1,255 @@
+// A short way to the values of a block: a row of zeros is not dequantised.
+ghost use mathlib.Core.Bool.{true};
+ghost use mathlib.Core.Path.{_≡_};
+ghost use Prim.Native.Nat.{ℕ, _≤_};
+ghost use lib.IntN.{natAbs};
+ghost use lib.ListN.{length};
+ghost use Rattle.numbers.specs.Every.{every};
+ghost use Rattle.numbers.specs.Grid.{build};
+ghost use Rattle.numbers.specs.Sum.{sumZ};
+ghost use Rattle.ranges.specs.Range.{levelFine};
+ghost use Rattle.coefficients.specs.Level.{blockFine};
+ghost use Rattle.coefficients.specs.Outcomes.{stageOutcome};
+ghost use Rattle.coefficients.specs.Refusal.{after, firstBad};
+ghost use Rattle.inverse_quant.specs.Dequantised.{dequantised1, dequantised2, sumOf};
+ghost use Rattle.inverse_quant.specs.Either.{answerBy, dequantisedBy, dueBy};
+ghost use Rattle.inverse_quant.specs.Stages.{ContextGood};
+ghost use Rattle.inverse_quant.specs.ByRows.{isZero, LevelsRow, ValuesRow, zeros, rowBy1, rowBy2, rowsBy1, rowsBy2, firstValue, lastValue};
+use crate::coefficient::dc_value;
+use crate::coefficient::value1;
+use crate::coefficient::value2;
+use crate::context::InverseQuantContext;
+use crate::context::context_fine;
+use crate::context::matrix_fine;
+use crate::context::row_fine;
+use crate::mismatch::is_odd;
+use coefficients::CoefficientError;
+use coefficients::Stage;
+
+// Whether the levels were in range, and then the sum of the values.
+struct Filled {
+    fine: bool,
+    sum: i32,
+}
+
+// Whether a row has zeros only.
+fn row_zero(row: [i32; 8]) -> bool
+    ensures { λ r. ⌜ r ≡ every isZero row ⌝ }
+{
+    let mut some: i32 = 0;
+    for u in 0..8 {
+        some = some | row[u];
+    }
+    some == 0
+}
+
+// A row of levels by method 1, limited.
+fn row1(levels: [i32; 8], weights: [u8; 8], ctx: InverseQuantContext) -> [i32; 8]
+    requires { ⌜ LevelsRow levels × ContextGood ctx ⌝ }
+    ensures { λ r. ⌜ r ≡ rowBy1 ctx weights levels ⌝ }
+{
+    let mut row = [0i32; 8];
+    for u in 0..8 {
+        row[u] = value1(levels[u], weights[u], ctx);
+    }
+    row
+}
+
+// A row of levels by method 2, limited.
+fn row2(levels: [i32; 8], ctx: InverseQuantContext) -> [i32; 8]
+    requires { ⌜ LevelsRow levels × ContextGood ctx ⌝ }
+    ensures { λ r. ⌜ r ≡ rowBy2 ctx levels ⌝ }
+{
+    let mut row = [0i32; 8];
+    for u in 0..8 {
+        row[u] = value2(levels[u], ctx);
+    }
+    row
+}
+
+// The sum of a row whose values are within 2^15.
+fn sum_of(row: [i32; 8]) -> i32
+    requires { ⌜ ValuesRow row ⌝ }
+    ensures { λ r. ⌜ r ≡ sumZ row ⌝ }
+{
+    let mut sum: i32 = 0;
+    for u in 0..8 {
+        sum += row[u];
+    }
+    sum
+}
+
+// A row by method 1 into `row`, of zeros, and its sum. Levels that are all zero leave it, since 0 gives 0.
+fn put1(levels: [i32; 8], weights: [u8; 8], ctx: InverseQuantContext, row: &mut [i32; 8]) -> Filled
+    requires { ⌜ ContextGood ctx × (now row ≡ zeros) ⌝ }
+    ensures { λ r. ⌜ (r .fine ≡ every levelFine levels) × (every levelFine levels ≡ true → (now (row .exit) ≡ rowBy1 ctx weights levels) × (r .sum ≡ sumZ (rowBy1 ctx weights levels))) ⌝ }
+{
+    if row_zero(levels) {
+        return Filled { fine: true, sum: 0 };
+    }
+    if !row_fine(levels) {
+        return Filled {
+            fine: false,
+            sum: 0,
+        };
+    }
+    let values = row1(levels, weights, ctx);
+    let sum = sum_of(values);
+    *row = values;
+    Filled {
+        fine: true,
+        sum: sum,
+    }
+}
+
+// A row by method 2 into `row`, of zeros; false where a level is out of range.
+fn put2(levels: [i32; 8], ctx: InverseQuantContext, row: &mut [i32; 8]) -> bool
+    requires { ⌜ ContextGood ctx × (now row ≡ zeros) ⌝ }
+    ensures { λ r. ⌜ (r ≡ every levelFine levels) × (every levelFine levels ≡ true → now (row .exit) ≡ rowBy2 ctx levels) ⌝ }
+{
+    if row_zero(levels) {
+        return true;
+    }
+    if !row_fine(levels) {
+        return false;
+    }
+    *row = row2(levels, ctx);
+    true
+}
+
+// Every row by method 1 into `f`, of zeros, and the sum; a level out of range ends it.
+fn fill1(
+    qf: &[[i32; 8]; 8],
+    w: &[[u8; 8]; 8],
+    ctx: InverseQuantContext,
+    f: &mut [[i32; 8]; 8],
+) -> Filled
+    requires { ⌜ ContextGood ctx × (length (now qf) ≡ 8) × (now f ≡ build 8 (λ (v : ℕ). zeros)) ⌝ }
+    ensures { λ r. ⌜ (r .fine ≡ blockFine (now (qf .entry))) × (blockFine (now (qf .entry)) ≡ true → (now (f .exit) ≡ rowsBy1 ctx (now (w .entry)) (now (qf .entry))) × (r .sum ≡ sumOf (rowsBy1 ctx (now (w .entry)) (now (qf .entry))))) ⌝ }
+{
+    let mut sum: i32 = 0;
+    for v in 0..8 {
+        let levels = qf[v];
+        let weights = w[v];
+        let put = put1(levels, weights, ctx, &mut f[v]);
+        if !put.fine {
+            return Filled {
+                fine: false,
+                sum: 0,
+            };
+        }
+        sum += put.sum;
+    }
+    Filled {
+        fine: true,
+        sum: sum,
+    }
+}
+
+// Every row by method 2 into `f`, of zeros; a level out of range ends it.
+fn fill2(qf: &[[i32; 8]; 8], ctx: InverseQuantContext, f: &mut [[i32; 8]; 8]) -> bool
+    requires { ⌜ ContextGood ctx × (length (now qf) ≡ 8) × (now f ≡ build 8 (λ (v : ℕ). zeros)) ⌝ }
+    ensures { λ r. ⌜ (r ≡ blockFine (now (qf .entry))) × (blockFine (now (qf .entry)) ≡ true → now (f .exit) ≡ rowsBy2 ctx (now (qf .entry))) ⌝ }
+{
+    for v in 0..8 {
+        let levels = qf[v];
+        let put = put2(levels, ctx, &mut f[v]);
+        if !put {
+            return false;
+        }
+    }
+    true
+}
+
+// The first value: the DC's rule in an intra block, else `value`, which is the method's.
+fn first_value(level: i32, value: i32, ctx: InverseQuantContext) -> i32
+    requires { ⌜ (natAbs level ≤ 2048) × ContextGood ctx ⌝ }
+    ensures { λ r. ⌜ r ≡ firstValue ctx level value ⌝ }
+{
+    if ctx.macroblock_intra {
+        return dc_value(level, ctx);
+    }
+    value
+}
+
+// 7.4.4.5, where `control` asks for it: where the sum is odd, F[7][7] = F'[7][7]; where it is even, F[7][7] = F'[7][7] - 1
+// if F'[7][7] is odd, else F'[7][7] + 1.
+fn last_value(control: bool, sum: i32, last: i32) -> i32
+    requires { ⌜ natAbs last ≤ 32768 ⌝ }
+    ensures { λ r. ⌜ r ≡ lastValue control sum last ⌝ }
+{
+    if !control {
+        return last;
+    }
+    if is_odd(sum) {
+        return last;
+    }
+    if is_odd(last) {
+        return last - 1;
+    }
+    last + 1
+}
+
+// 7.4.4 by method 1 into `out`, with or without mismatch control; or 13, and `out` as it was.
+fn rows1(
+    qf: &[[i32; 8]; 8],
+    w: &[[u8; 8]; 8],
+    ctx: InverseQuantContext,
+    control: bool,
+    out: &mut [[i32; 8]; 8],
+) -> Stage
+    requires { ⌜ ContextGood ctx × (length (now qf) ≡ 8) ⌝ }
+    ensures { λ r. ⌜ (r ≡ firstBad true (blockFine (now (qf .entry)))) × (now (out .exit) ≡ after (firstBad true (blockFine (now (qf .entry)))) (dequantised1 control ctx (now (w .entry)) (now (qf .entry))) (now (out .entry))) ⌝ }
+{
+    let mut f = [[0i32; 8]; 8];
+    let filled = fill1(qf, w, ctx, &mut f);
+    if !filled.fine {
+        return Stage::Refused(CoefficientError::HandedIn);
+    }
+    let dc = first_value(qf[0][0], f[0][0], ctx);
+    let sum = filled.sum - f[0][0] + dc;
+    f[0][0] = dc;
+    f[7][7] = last_value(control, sum, f[7][7]);
+    *out = f;
+    Stage::Done
+}
+
+// 7.4.4 by method 2 into `out`; or 13, and `out` as it was.
+fn rows2(qf: &[[i32; 8]; 8], ctx: InverseQuantContext, out: &mut [[i32; 8]; 8]) -> Stage
+    requires { ⌜ ContextGood ctx × (length (now qf) ≡ 8) ⌝ }
+    ensures { λ r. ⌜ (r ≡ firstBad true (blockFine (now (qf .entry)))) × (now (out .exit) ≡ after (firstBad true (blockFine (now (qf .entry)))) (dequantised2 ctx (now (qf .entry))) (now (out .entry))) ⌝ }
+{
+    let mut f = [[0i32; 8]; 8];
+    if !fill2(qf, ctx, &mut f) {
+        return Stage::Refused(CoefficientError::HandedIn);
+    }
+    f[0][0] = first_value(qf[0][0], f[0][0], ctx);
+    *out = f;
+    Stage::Done
+}
+
+// 7.4.4 by method 1, with or without mismatch control, or by method 2, into `out`; or 12 or 13, and `out` as it was.
+pub fn inverse_quant_rows(
+    qf: [[i32; 8]; 8],
+    w: [[u8; 8]; 8],
+    ctx: InverseQuantContext,
+    method1: bool,
+    control: bool,
+    out: &mut [[i32; 8]; 8],
+) -> Stage
+    ensures { λ r. ⌜ (r ≡ answerBy method1 ctx w qf) × (now (out .exit) ≡ after (answerBy method1 ctx w qf) (dequantisedBy method1 control ctx w qf) (now (out .entry))) ⌝ }
+    ensures outcome { λ r. ⌜ stageOutcome r ≡ dueBy method1 ctx w qf ⌝ }
+{
+    if !context_fine(ctx) {
+        return Stage::Refused(CoefficientError::Context);
+    }
+    let levels = &qf;
+    if !method1 {
+        return rows2(levels, ctx, out);
+    }
+    if !matrix_fine(w) {
+        return Stage::Refused(CoefficientError::Context);
+    }
+    let weights = &w;
+    rows1(levels, weights, ctx, control, out)
+}

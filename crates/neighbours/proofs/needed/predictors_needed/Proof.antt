@@ -1,0 +1,53 @@
+-- `neighbours::needed::predictors_needed` meets its contract: what is refused, or what is needed of that which the block takes. Assumes nothing.
+use mathlib.Core.Path.{sym, _∙_}
+use borrow.Author.Needs.{needs}
+use denote.Ref.{now}
+use lib.ListN.{length}
+use Rattle.numbers.proofs.OutcomeLaws.{also}
+use Rattle.neighbours.specs.Refusals.{recordedOutcome}
+use Rattle.neighbours.proofs.OutcomeLaws.{taken-due}
+use Rattle.neighbours.proofs.RefusalLaws.{beside, taken-below}
+use Rattle.neighbours.proofs.needed.predictors_needed.Statement.{statement}
+use Rattle.neighbours.proofs.needed.predictors_needed.Tie as tie
+
+check-taken-requires : tie.Need-check-taken-requires
+check-taken-requires c κs = search needs
+
+enum-known-answer : tie.Need-enum-known-answer
+enum-known-answer c = search needs
+
+outside-requires : tie.Need-outside-requires
+outside-requires c κs = search needs
+
+enum-told : tie.Need-enum-told
+enum-told c = search needs
+
+needed-requires : tie.Need-needed-requires
+needed-requires c κs =
+    let t = c .before .before in
+    let a = t .before .args in
+    taken-below (length (now (a .store))) (length (now (a .own))) (a .p) (a .i) (sym (t .check-taken .ensures) ∙ c .enum-told .given .1)
+
+returns : tie.Need-returns
+returns c =
+    let t = c .before .before .before .before in
+    let a = t .before .args in
+    also recordedOutcome (beside _ _ (sym (t .check-taken .ensures) ∙ c .before .before .answer .given .1) (c .outside .ensures)) (taken-due (length (now (a .store))) (length (now (a .own))) (a .p) (a .i))
+
+returns-2 : tie.Need-returns-2
+returns-2 c =
+    let t = c .before .before .before in
+    let a = t .before .args in
+    also recordedOutcome (beside _ _ (sym (t .check-taken .ensures) ∙ c .before .enum-told .given .1) (c .needed .ensures)) (taken-due (length (now (a .store))) (length (now (a .own))) (a .p) (a .i))
+
+pub predictors-needed-spec : {M : Type 1} → statement M
+predictors-needed-spec =
+    tie.close
+    (tie.spec
+    check-taken-requires
+    enum-known-answer
+    outside-requires
+    enum-told
+    needed-requires
+    returns
+    returns-2)
