@@ -1,18 +1,16 @@
--- The next 32 bits, where all of them are in the data, where some are, and where none is; and the fields that stand in them. Assumes nothing.
+-- The next 32 bits, where all of them are in the data and where not; and the fields that stand in them. Assumes nothing.
 use mathlib.Core.Bool.{false}
 use mathlib.Core.List.{List, [], _∷_, _++_, append-assoc}
-use mathlib.Core.Logic.{⊎-elim}
 use mathlib.Core.Path.{_≡_, refl, sym, ap, ap₂, _∙_}
 use Prim.Native.Nat.{ℕ, zero, suc, _+_, _-_, _*_, _/_, _%_, _^_, _<_, _≤_}
 use native.Mathlib.Nat.{add-zero, zero-mul}
 use native.Mathlib.Omega.{arith}
-use lib.ListN.{List·getD-append, List·getD-eq-default, drop, getD, getD-replicate, length, length-append, length-drop, length-replicate, replicate, take, take-append-drop}
+use lib.ListN.{drop, getD, length, length-append, length-drop, length-replicate, replicate, take, take-append-drop}
 use lib.Pow.{low}
-use lib.Seq.{drop-append-le, drop-drop, getD-append-add, length-take-le, take-add, take-all, take-append-le, take-take}
-use Rattle.numbers.proofs.Fill.{lt-or-le}
-use Rattle.bits.proofs.BitLaws.{bin-val, length-bitsFrom, length-bitsOf, val-append, val-lt}
+use lib.Seq.{drop-drop, ext-getD, getD-drop, getD-take, length-take-le, take-add, take-all, take-append-le, take-take}
+use Rattle.bits.proofs.BitLaws.{bin-val, length-bitsFrom, val-append, val-lt}
 use Rattle.bits.proofs.CutLaws.{val-field}
-use Rattle.bits.specs.Ahead.{followed, window}
+use Rattle.bits.specs.Ahead.{window}
 use Rattle.bits.specs.Bits.{Bits, bin, bitsFrom, bitsOf, val}
 
 bits-append : (d e : List ℕ) → bitsOf (d ++ e) ≡ bitsOf d ++ bitsOf e
@@ -24,38 +22,57 @@ pub window-full : (d : List ℕ) (at : ℕ) → at + 32 ≤ 8 * length d → tak
 unfolding window
 window-full d at h = sym (take-append-le 32 (bitsFrom d at) (replicate 32 false) (omega (arith, length-bitsFrom d at)))
 
-pub window-part : (d : List ℕ) (at : ℕ) → at ≤ 8 * length d → take 32 (bitsFrom (followed d) at) ≡ window d at
-unfolding window bitsOf bin
-window-part d at h =
-    let z : bitsOf (replicate 4 0) ≡ replicate 32 false = refl in
-    ap (λ (b : Bits). take 32 (drop at b)) (bits-append d (replicate 4 0))
-    ∙ ap (take 32) (drop-append-le at (bitsOf d) (bitsOf (replicate 4 0)) (omega (arith, length-bitsOf d)))
-    ∙ ap (λ (b : Bits). take 32 (bitsFrom d at ++ b)) z
+-- ---- the data with bytes 0 behind it
 
--- a byte of the data, 0 past its end
-pub followed-at : (d : List ℕ) (i : ℕ) → i < length d + 4 → getD (followed d) i 0 ≡ getD d i 0
-followed-at d i h = ⊎-elim inside past (lt-or-le i (length d))
-  where
-    inside : i < length d → getD (followed d) i 0 ≡ getD d i 0
-    inside l = List·getD-append d (replicate 4 0) 0 i l
+abbrev pub followed : ℕ → List ℕ → List ℕ
+followed n d = d ++ replicate n 0
 
-    past : length d ≤ i → getD (followed d) i 0 ≡ getD d i 0
-    past l =
-        let e : i ≡ length d + (i - length d) = omega arith in
-        ap (λ (j : ℕ). getD (followed d) j 0) e
-        ∙ getD-append-add d (replicate 4 0) (i - length d) 0
-        ∙ getD-replicate 4 (i - length d) 0 0 (omega arith)
-        ∙ sym (List·getD-eq-default d 0 l)
+-- a byte of it is one of the data, 0 past its end
+pub followed-at : (n : ℕ) (d : List ℕ) (i : ℕ) → getD (followed n d) i 0 ≡ getD d i 0
+followed-at zero [] i = refl
+followed-at (suc n) [] zero = refl
+followed-at (suc n) [] (suc i) = followed-at n [] i
+followed-at n (x ∷ d) zero = refl
+followed-at n (x ∷ d) (suc i) = followed-at n d i
 
-pub window-past : (d : List ℕ) (at : ℕ) → 8 * length d ≤ at → val (window d at) ≡ 0
-unfolding window val
-window-past d at h =
-    let e : bitsFrom d at ≡ [] = take-nothing (bitsFrom d at) (length-bitsFrom d at ∙ (let z : 8 * length d - at ≡ 0 = omega arith in z)) in
-    ap (λ (b : Bits). val (take 32 (b ++ replicate 32 false))) e
-  where
-    take-nothing : (b : Bits) → length b ≡ 0 → b ≡ []
-    take-nothing [] l = refl
-    take-nothing (x ∷ b) l = absurd (let m : suc (length b) ≡ 0 = l in omega arith)
+-- a list of bits 0
+abbrev None : Bits → Type 0
+None z = (j : ℕ) → getD z j false ≡ false
+
+none-more : (z : Bits) → None z → None (false ∷ z)
+none-more z h zero = refl
+none-more z h (suc j) = h j
+
+none-bits : (n : ℕ) → None (replicate n false)
+none-bits zero = λ j. refl
+none-bits (suc n) = none-more (replicate n false) (none-bits n)
+
+-- behind a list they are what is read past its end
+padded : (b z : Bits) → None z → (j : ℕ) → getD (b ++ z) j false ≡ getD b j false
+padded [] z h j = h j
+padded (x ∷ b) z h zero = refl
+padded (x ∷ b) z h (suc j) = padded b z h j
+
+none-bytes : (n : ℕ) → None (bitsOf (replicate n 0))
+unfolding bitsOf bin
+none-bytes zero = λ j. refl
+none-bytes (suc n) = λ j. padded (bin 8 0) (bitsOf (replicate n 0)) (none-bytes n) j ∙ none-bits 8 j
+
+pub window-followed : (d : List ℕ) (at n : ℕ) → at + 32 ≤ 8 * (length d + n) → take 32 (bitsFrom (followed n d) at) ≡ window d at
+unfolding window
+window-followed d at n h =
+    let l : List ℕ = followed n d in
+    let len : length l ≡ length d + n = length-append d (replicate n 0) ∙ ap (λ (m : ℕ). length d + m) (length-replicate n 0) in
+    let left : length (take 32 (bitsFrom l at)) ≡ 32 = length-take-le 32 (bitsFrom l at) (omega (arith, length-bitsFrom l at)) in
+    let right : length (take 32 (bitsFrom d at ++ replicate 32 false)) ≡ 32 =
+    length-take-le 32 (bitsFrom d at ++ replicate 32 false) (omega (arith, length-append (bitsFrom d at) (replicate 32 false), length-replicate 32 false)) in
+    ext-getD false (take 32 (bitsFrom l at)) (take 32 (bitsFrom d at ++ replicate 32 false)) (left ∙ sym right)
+    (λ (k : ℕ) (p : k < length (take 32 (bitsFrom l at))).
+    let below : k < 32 = omega arith in
+    getD-take 32 (bitsFrom l at) k false below ∙ getD-drop at (bitsOf l) k false
+    ∙ ap (λ (b : Bits). getD b (at + k) false) (bits-append d (replicate n 0)) ∙ padded (bitsOf d) (bitsOf (replicate n 0)) (none-bytes n) (at + k)
+    ∙ sym (getD-drop at (bitsOf d) k false) ∙ sym (padded (bitsFrom d at) (replicate 32 false) (none-bits 32) k)
+    ∙ sym (getD-take 32 (bitsFrom d at ++ replicate 32 false) k false below))
 
 -- ---- fields of a window
 

@@ -12,8 +12,3 @@ window d at = take 32 (bitsFrom d at ++ replicate 32 false)
 -- and the number that they write
 abbrev pub aheadOf : List ℕ → ℕ → ℕ
 aheadOf d at = val (window d at)
-
--- ---- inside the crate: the data with four bytes 0 behind it
-
-abbrev pub followed : List ℕ → List ℕ
-followed d = d ++ replicate 4 0

@@ -51,7 +51,7 @@ pub enum BitCount {
 }
 
 // The number that `count` bytes from `first` on write.
-fn gather(data: &[u8], first: usize, count: usize) -> u64
+pub(crate) fn gather(data: &[u8], first: usize, count: usize) -> u64
     requires { ⌜ (count ≤ 8) × (first + count ≤ length (now «data»)) ⌝ }
     ensures { λ r. ⌜ r ≡ val (take (8 * count) (bitsFrom (now («data» .entry)) (8 * first))) ⌝ }
 {
@@ -65,7 +65,7 @@ fn gather(data: &[u8], first: usize, count: usize) -> u64
 }
 
 // The next n bits as a number, cut out of `count` bytes that hold them.
-pub(crate) fn cut(data: &[u8], at: usize, n: usize, count: usize) -> u32
+fn cut(data: &[u8], at: usize, n: usize, count: usize) -> u32
     requires { ⌜ (0 < n) × (n ≤ 32) × (at % 8 + n ≤ 8 * count) × (count ≤ 8) × (at / 8 + count ≤ length (now «data»)) ⌝ }
     ensures { λ r. ⌜ r ≡ val (take n (bitsFrom (now («data» .entry)) at)) ⌝ }
 {

@@ -11,3 +11,5 @@ pub mod StateLaws
 pub mod AnswerLaws
 pub mod RowLaws
 pub mod Blocks
+pub mod ShortLaws
+pub mod ShortAnswers

@@ -107,3 +107,11 @@ module _ (rev dcCoded : Bool) where
 
   pub good-places : (s : Place) (p : Parts) → GoodBlock dcCoded rev s p → placesFine (qfsOf (s .0) dcCoded p) ≡ true
   good-places s p g = with-dc (s .0) (p .0) (listPlaces dcCoded (p .1)) (g .0) (list-levels (s .1) (p .1) (g .1))
+
+  -- there are 64 of them
+  pub places-long : (s : Place) (p : Parts) → GoodBlock dcCoded rev s p → length (qfsOf (s .0) dcCoded p) ≡ 64
+  places-long s p g = with-long (p .0)
+    where
+      with-long : (x : Option Dc) → length (withDc (s .0) x (listPlaces dcCoded (p .1))) ≡ 64
+      with-long none = list-levels (s .1) (p .1) (g .1) .long
+      with-long (some v) = length-set (listPlaces dcCoded (p .1)) 0 (differenceOf (s .0) v) ∙ list-levels (s .1) (p .1) (g .1) .long

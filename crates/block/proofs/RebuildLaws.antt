@@ -77,6 +77,11 @@ module _ (c : DcComponent) (x : MacroblockTextureContext) (p : BlockPredictors) 
     (f ∙ sym (ap (λ (k : Checked). keptBy k (samplesOf x (valuesHere c x p w qfs)) a) s), l ∙ sym (ap (λ (k : Checked). keptBy k (levelsHere c x p w qfs) b) s)),
   )
 
+  -- the same of an answer that is so
+  pub rebuilt-as : (oldSamples oldLevels samples levels : List (List ℤ)) (r : BlockRebuilt) → handed ≡ true → r ≡ Rebuilt (dcHere c x p w qfs) → samples ≡ samplesOf x (valuesHere c x p w qfs) → levels ≡ levelsHere c x p w qfs
+      → Given (firstBad (handedTests c x p w qfs)) r samples oldSamples levels oldLevels
+  rebuilt-as a b samples levels r e d f l = let g = rebuilt a b samples levels (dcHere c x p w qfs) e refl f l in (d ∙ g .0, g .1)
+
   -- where 13 does not arise
   pub handed-over : (r : BlockRebuilt) (samples oldSamples levels oldLevels : List (List ℤ)) → predictorsFine p ≡ true → placesFine qfs ≡ true
       → Given (firstBad (handedTests c x p w qfs)) r samples oldSamples levels oldLevels → Given Fine r samples oldSamples levels oldLevels

@@ -28,7 +28,7 @@ use Rattle.texture.specs.declared.error.TextureParseError.the-variants.{OutOfRa
 use Rattle.texture.specs.declared.list.EventsRead.{EventsRead}
 use Rattle.texture.specs.declared.list.EventsRead.the-variants.{Read as EventsAre, Refused as EventsRefused}
 use Rattle.block.proofs.AnswerLaws.{none, sentence}
-use Rattle.block.proofs.PlaceLaws.{good-places}
+use Rattle.block.proofs.PlaceLaws.{good-places, places-long}
 use Rattle.block.specs.Reading.{partsAt}
 use Rattle.codes.specs.Component.{componentAt}
 use Rattle.block.specs.Rows.{InsideRows, RowsSay, blocksAnswer, blocksTold, readRow, readRows, rowOf, rowsAfter, rowsOf, rowsTold, saidRows}
@@ -142,6 +142,7 @@ pub record SixRead (d : List ℕ) (at : ℕ) (pattern : List Bool) (dcCoded rev 
   pub place : next ≡ after d rest
   pub rows-are : rows ≡ rowsOf dcCoded pattern parts
   pub fine : (i : ℕ) → i < 6 → placesFine (getD rows i []) ≡ true
+  pub long : (i : ℕ) → i < 6 → length (getD rows i []) ≡ 64
   pub onward : at ≤ next .«bit_pos»
 
 module _ (d : List ℕ) (at : ℕ) (pattern : List Bool) (dcCoded rev : Bool) (h : inData (length d) at ≡ true) (r : EventsRead) (q : r ≡ blocksAnswer d at pattern dcCoded rev) where
@@ -159,6 +160,10 @@ module _ (d : List ℕ) (at : ℕ) (pattern : List Bool) (dcCoded rev : Bool) (h
   good-rows : (s : List Parts) → GoodMacroblock dcCoded rev pattern s → (i : ℕ) → i < 6 → placesFine (getD (rowsOf dcCoded pattern s) i []) ≡ true
   good-rows s g i l =
       each-holds (GoodBlock dcCoded rev) (λ (xs : List ℤ). placesFine xs ≡ true) (rowOf dcCoded) (λ x p k. good-places rev dcCoded x p k) (placesOfPattern pattern) s g [] i l
+
+  long-rows : (s : List Parts) → GoodMacroblock dcCoded rev pattern s → (i : ℕ) → i < 6 → length (getD (rowsOf dcCoded pattern s) i []) ≡ 64
+  long-rows s g i l =
+      each-holds (GoodBlock dcCoded rev) (λ (xs : List ℤ). length xs ≡ 64) (rowOf dcCoded) (λ x p k. places-long rev dcCoded x p k) (placesOfPattern pattern) s g [] i l
 
   pub six-read : (rows old : List (List ℤ)) {next : Cursor} → rows ≡ rowsAfter d at pattern dcCoded rev old → r ≡ EventsAre next → SixRead d at pattern dcCoded rev rows next
   unfolding rowsAfter
@@ -179,5 +184,6 @@ module _ (d : List ℕ) (at : ℕ) (pattern : List Bool) (dcCoded rev : Bool) (h
             place = p;
             rows-are = m;
             fine = λ i b. subst⁻¹ (λ (xs : List (List ℤ)). placesFine (getD xs i []) ≡ true) m (good-rows ps (sen .begins (bitsFrom d at) ps s e .0) i b);
+            long = λ i b. subst⁻¹ (λ (xs : List (List ℤ)). length (getD xs i []) ≡ 64) m (long-rows ps (sen .begins (bitsFrom d at) ps s e .0) i b);
             onward = omega arith;
           }

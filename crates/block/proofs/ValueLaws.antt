@@ -1,11 +1,13 @@
 -- A context that is fine, and the values of levels under it: no method refuses. Assumes nothing.
 use mathlib.Core.Bool.{Bool, cond, false, not, true, _&&_}
 use mathlib.Core.List.{List}
-use mathlib.Core.Path.{_≡_, ap, ap₂, sym, _∙_}
+use mathlib.Core.Path.{_≡_, ap, ap₂, refl, sym, _∙_}
 use Prim.Native.Nat.{ℕ}
 use lib.IntN.{ℤ}
 use Rattle.codes.specs.declared.dc_size.DcComponent.{DcComponent}
 use Rattle.inverse_quant.specs.Dequantised.{answer1, answer2, dequantised1, dequantised2, nonZero}
+use Rattle.inverse_quant.specs.Either.{answerBy, dequantisedBy}
+use Rattle.inverse_quant.specs.declared.context.InverseQuantContext.{InverseQuantContext}
 use Rattle.coefficients.specs.Level.{blockFine}
 use Rattle.coefficients.specs.Refusal.{after, firstBad}
 use Rattle.coefficients.specs.declared.refusal.Stage.{Stage}
@@ -38,11 +40,32 @@ module _ (x : MacroblockTextureContext) (w : List (List ℕ)) (h : contextFine x
     abbrev byMethod : Bool → Bool → List (List ℤ)
     byMethod t control = cond t (dequantised1 control (quantOf c x) w qf) (dequantised2 (quantOf c x) qf)
 
-    pub by-method2 : (r old : List (List ℤ)) → x .«quant_type» ≡ false → r ≡ after (answer2 (quantOf c x) qf) (dequantised2 (quantOf c x) qf) old → r ≡ valuesOf c x w qf
-    by-method2 r old e q = q ∙ done-leaves (answer2 (quantOf c x) qf) _ old (ap₂ firstBad both g) ∙ sym (ap (λ (t : Bool). byMethod t (not (x .«intra_mismatch_exempt»))) e)
+    -- the matrix, by the method that is asked for
+    matrix-by : (t : Bool) → x .«quant_type» ≡ t → cond t (every (every nonZero) w) true ≡ true
+    matrix-by t e = sym (ap (λ (s : Bool). cond s (every (every nonZero) w) true) e) ∙ matrix-fine
 
-    pub by-method1 : (r old : List (List ℤ)) (control : Bool) → x .«quant_type» ≡ true → not (x .«intra_mismatch_exempt») ≡ control
-        → r ≡ after (answer1 (quantOf c x) w qf) (dequantised1 control (quantOf c x) w qf) old → r ≡ valuesOf c x w qf
-    by-method1 r old control e f q =
-        let m = sym (ap (λ (t : Bool). cond t (every (every nonZero) w) true) e) ∙ matrix-fine in
-        q ∙ done-leaves (answer1 (quantOf c x) w qf) _ old (ap₂ firstBad (true-both both m) g) ∙ sym (ap₂ byMethod e f)
+    module _ (k : InverseQuantContext) (is : k ≡ quantOf c x) where
+      pub by-method2 : (r old : List (List ℤ)) → x .«quant_type» ≡ false → r ≡ after (answer2 k qf) (dequantised2 k qf) old → r ≡ valuesOf c x w qf
+      by-method2 r old e q =
+          q ∙ ap (λ (y : InverseQuantContext). after (answer2 y qf) (dequantised2 y qf) old) is
+          ∙ done-leaves (answer2 (quantOf c x) qf) _ old (ap₂ firstBad both g) ∙ sym (ap (λ (t : Bool). byMethod t (not (x .«intra_mismatch_exempt»))) e)
+
+      pub by-method1 : (r old : List (List ℤ)) (control : Bool) → x .«quant_type» ≡ true → not (x .«intra_mismatch_exempt») ≡ control
+          → r ≡ after (answer1 k w qf) (dequantised1 control k w qf) old → r ≡ valuesOf c x w qf
+      by-method1 r old control e f q =
+          q ∙ ap (λ (y : InverseQuantContext). after (answer1 y w qf) (dequantised1 control y w qf) old) is
+          ∙ done-leaves (answer1 (quantOf c x) w qf) _ old (ap₂ firstBad (true-both both (matrix-by true e)) g) ∙ sym (ap₂ byMethod e f)
+
+      -- by either method at once: it is done
+      pub rows-done : (s : Stage) → s ≡ answerBy (x .«quant_type») k w qf → s ≡ Done
+      rows-done s e = e ∙ ap (λ (y : InverseQuantContext). answerBy (x .«quant_type») y w qf) is ∙ go (x .«quant_type») refl
+        where
+          go : (t : Bool) → x .«quant_type» ≡ t → answerBy t (quantOf c x) w qf ≡ Done
+          go true f = ap₂ firstBad (true-both both (matrix-by true f)) g
+          go false f = ap₂ firstBad both g
+
+      pub by-rows : (s : Stage) (r old : List (List ℤ)) → s ≡ answerBy (x .«quant_type») k w qf
+          → r ≡ after (answerBy (x .«quant_type») k w qf) (dequantisedBy (x .«quant_type») (not (x .«intra_mismatch_exempt»)) k w qf) old → r ≡ valuesOf c x w qf
+      by-rows s r old e q =
+          q ∙ done-leaves (answerBy (x .«quant_type») k w qf) _ old (sym e ∙ rows-done s e)
+          ∙ ap (λ (y : InverseQuantContext). dequantisedBy (x .«quant_type») (not (x .«intra_mismatch_exempt»)) y w qf) is

@@ -7,3 +7,4 @@ pub mod Rebuilt
 pub mod Outcomes
 pub mod Pattern
 pub mod Matrix
+pub mod Short

@@ -10,6 +10,7 @@ mod matrix;
 mod pattern;
 mod read;
 mod reconstruct;
+mod short;
 
 pub use context::MacroblockTextureContext;
 pub use error::BlockAssemblyError;
@@ -23,3 +24,4 @@ pub use pattern::pattern_code;
 pub use read::read_blocks;
 pub use reconstruct::BlockRebuilt;
 pub use reconstruct::reconstruct_block;
+pub use short::reconstruct_up_to;

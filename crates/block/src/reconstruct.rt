@@ -9,7 +9,7 @@ ghost use Rattle.coefficients.specs.Level.{blockFine};
 ghost use Rattle.idct.specs.Limits.{valuesFine};
 ghost use Rattle.block.specs.Answer.{firstBad};
 ghost use Rattle.block.specs.Rebuilt.{dcHere, handedTests, keptBy, levelsHere, rebuiltAnswer, rebuiltBy, rebuiltDue, rebuiltLevels, rebuiltOutcome, rebuiltSamples, valuesHere};
-ghost use Rattle.block.specs.Values.{contextFine, samplesOf, valuesOf};
+ghost use Rattle.block.specs.Values.{contextFine, quantOf, samplesOf, valuesOf};
 use crate::context::MacroblockTextureContext;
 use crate::error::BlockAssemblyError;
 use codes::BlockComponent;
@@ -19,6 +19,19 @@ use coefficients::Stage;
 use inverse_quant::InverseQuantContext;
 use ranges::Depth;
 use ranges::DepthLimits;
+
+// An intra block under inverse quantisation.
+pub(crate) fn quant_of(component: DcComponent, ctx: MacroblockTextureContext) -> InverseQuantContext
+    ensures { λ r. ⌜ r ≡ quantOf component ctx ⌝ }
+{
+    InverseQuantContext {
+        macroblock_intra: true,
+        component,
+        quantiser_scale: ctx.quantiser_scale,
+        bits_per_pixel: ctx.bits_per_pixel,
+        short_video_header: false,
+    }
+}
 
 // F.
 fn values_of(
@@ -31,13 +44,7 @@ fn values_of(
     ensures { λ r. ⌜ r ≡ valuesOf component ctx w qf ⌝ }
 {
     let mut f = [[0i32; 8]; 8];
-    let quant = InverseQuantContext {
-        macroblock_intra: true,
-        component,
-        quantiser_scale: ctx.quantiser_scale,
-        bits_per_pixel: ctx.bits_per_pixel,
-        short_video_header: false,
-    };
+    let quant = quant_of(component, ctx);
     if !ctx.quant_type {
         inverse_quant::inverse_quant_method2(qf, quant, &mut f);
         return f;

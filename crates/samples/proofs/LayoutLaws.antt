@@ -53,11 +53,11 @@ there-and-back i y x p q r =
 -- ---- the samples
 
 module _ (blocks : List (List (List ℤ))) where
-  mb-length : length (mbSamples blocks) ≡ 384
+  pub mb-length : length (mbSamples blocks) ≡ 384
   unfolding mbSamples
   mb-length = length-build 384 _
 
-  mb-at : (k : ℕ) → k < 384 → getD (mbSamples blocks) k (pos 0) ≡ cell (getD blocks (blockOf k) []) (rowOf k) (colOf k)
+  pub mb-at : (k : ℕ) → k < 384 → getD (mbSamples blocks) k (pos 0) ≡ cell (getD blocks (blockOf k) []) (rowOf k) (colOf k)
   unfolding mbSamples
   mb-at k h = getD-build 384 _ k (pos 0) h
 

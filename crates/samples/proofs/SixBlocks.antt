@@ -30,14 +30,14 @@ unfolding written
 length-written s w b = length-build (length s) _
 
 -- whether k is in the block's place
-abbrev inside : ℕ → ℕ → ℕ → ℕ → Bool
+abbrev pub inside : ℕ → ℕ → ℕ → ℕ → Bool
 inside a n w k = leb a k && (ltb k (a + n) && (ltb ((k - a) / w) 8 && ltb ((k - a) % w) 8))
 
 module _ (a n w : ℕ) (b : List (List ℤ)) (s : List ℤ) (h : a + n ≤ length s) where
   part-length : length (take n (drop a s)) ≡ n
   part-length = length-take-le n (drop a s) (omega (arith, length-drop a s))
 
-  put-length : length (put a n w b s) ≡ length s
+  pub put-length : length (put a n w b s) ≡ length s
   unfolding put
   put-length =
       let y = written (take n (drop a s)) w b in
@@ -48,7 +48,7 @@ module _ (a n w : ℕ) (b : List (List ℤ)) (s : List ℤ) (h : a + n ≤ lengt
   unfolding written
   in-part j p = getD-build (length (take n (drop a s))) _ j (pos 0) (omega (arith, part-length))
 
-  put-at : (k : ℕ) → k < length s → getD (put a n w b s) k (pos 0) ≡ cond (inside a n w k) (cell b ((k - a) / w) ((k - a) % w)) (getD s k (pos 0))
+  pub put-at : (k : ℕ) → k < length s → getD (put a n w b s) k (pos 0) ≡ cond (inside a n w k) (cell b ((k - a) / w) ((k - a) % w)) (getD s k (pos 0))
   unfolding put
   put-at k q =
       let y = written (take n (drop a s)) w b in

@@ -2,11 +2,13 @@
 use mathlib.Core.Bool.{cond, _&&_}
 use mathlib.Core.List.{List, [], _++_, _∷_}
 use Prim.Native.Nat.{ℕ, _+_, _*_, _/_, _%_, _-_}
-use lib.Dec.{leb, ltb}
+use lib.Dec.{eqb, leb, ltb}
 use lib.IntN.{ℤ, pos}
 use lib.ListN.{length, getD, drop}
 use Rattle.numbers.specs.Grid.{build, cell}
 use Rattle.numbers.specs.Outcome.{Outcome, checked, done, refused}
+use Rattle.samples.specs.declared.BlockWritten.{BlockWritten}
+use Rattle.samples.specs.declared.BlockWritten.the-variants as one
 use Rattle.samples.specs.declared.Written.{Written}
 use Rattle.samples.specs.declared.Written.the-variants.{Done, TooShort}
 
@@ -46,3 +48,30 @@ writtenDue s = checked ((leb 384 (length s), 14) ∷ []) done
 -- what a part of them holds after block b, its rows w apart: at k the cell at row k / w, column k % w, or what stood there
 unfoldable pub written : List ℤ → ℕ → List (List ℤ) → List ℤ
 written s w b = build (length s) (λ (k : ℕ). cond (ltb (k / w) 8 && ltb (k % w) 8) (cell b (k / w) (k % w)) (getD s k (pos 0)))
+
+-- ---- one block of six
+
+-- what samples s hold after block i alone: its 64 among the first 384; or s where there is no such block or they are fewer
+unfoldable pub blockAfter : ℕ → List (List ℤ) → List ℤ → List ℤ
+blockAfter i b s =
+    cond (ltb i 6 && leb 384 (length s))
+    (build (length s) (λ (k : ℕ). cond (ltb k 384 && eqb (blockOf k) i) (cell b (rowOf k) (colOf k)) (getD s k (pos 0))))
+    s
+
+-- 11, then 14
+abbrev pub blockWritten : ℕ → List ℤ → BlockWritten
+blockWritten i s = cond (ltb i 6) (cond (leb 384 (length s)) one.Done one.TooShort) one.OutOfRange
+
+abbrev pub blockOutcome : BlockWritten → Outcome (Unit {0})
+blockOutcome one.Done = done
+blockOutcome one.OutOfRange = refused 11 0
+blockOutcome one.TooShort = refused 14 0
+
+abbrev pub blockDue : ℕ → List ℤ → Outcome (Unit {0})
+blockDue i s = checked ((ltb i 6, 11) ∷ (leb 384 (length s), 14) ∷ []) done
+
+-- ---- for laws of writing in turn
+
+-- what samples s hold once the blocks below n are written, one after the other
+unfoldable pub blocksAfter : ℕ → List (List (List ℤ)) → List ℤ → List ℤ
+blocksAfter n blocks s = build (length s) (λ (k : ℕ). cond (ltb k 384 && ltb (blockOf k) n) (cell (getD blocks (blockOf k) []) (rowOf k) (colOf k)) (getD s k (pos 0)))

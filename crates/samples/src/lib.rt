@@ -1,8 +1,10 @@
 // How the six blocks of a macroblock lie in its 384 samples (IntraMacroblock of block.rs): luma 16 wide, blocks 0 and 1 above 2 and 3; Cb; Cr.
+ghost use mathlib.Core.Bool.{cond};
 ghost use mathlib.Core.Path.{_≡_};
-ghost use Prim.Native.Nat.{_≤_, _+_, _*_};
+ghost use Prim.Native.Nat.{_≤_, _<_, _+_, _*_};
+ghost use lib.Dec.{ltb};
 ghost use lib.ListN.{length};
-ghost use Rattle.samples.specs.Samples.{mbSamples, samplesAfter, written, writtenBy, writtenDue, writtenOutcome};
+ghost use Rattle.samples.specs.Samples.{blockAfter, blockDue, blockOutcome, blockWritten, mbSamples, placeOf, samplesAfter, written, writtenBy, writtenDue, writtenOutcome};
 
 // The eight rows of a block, `row_length` apart, from the start of `part`.
 fn write_block(part: &mut [i32], row_length: usize, block: [[i32; 8]; 8])
@@ -45,4 +47,52 @@ pub fn write_macroblock(samples: &mut [i32], blocks: [[[i32; 8]; 8]; 6]) -> Writ
     }
     write_all(&mut samples[0..384], blocks);
     Written::Done
+}
+
+// Whether a block was written: 11 for a block above 5, 14 where fewer than 384 samples are lent.
+pub enum BlockWritten {
+    Done,
+    OutOfRange,
+    TooShort,
+}
+
+// Where block i of six begins.
+fn begin_of(i: usize) -> usize
+    requires { ⌜ i < 6 ⌝ }
+    ensures { λ r. ⌜ r ≡ placeOf i 0 0 ⌝ }
+{
+    match i {
+        0 => 0,
+        1 => 8,
+        2 => 128,
+        3 => 136,
+        4 => 256,
+        _ => 320,
+    }
+}
+
+// How far apart its rows are.
+fn row_length(i: usize) -> usize
+    ensures { λ r. ⌜ r ≡ cond (ltb i 4) 16 8 ⌝ }
+{
+    if i < 4 {
+        return 16;
+    }
+    8
+}
+
+// Block i into its part of the first 384 samples, where there are as many; otherwise nothing is written.
+pub fn write_one(samples: &mut [i32], i: usize, block: [[i32; 8]; 8]) -> BlockWritten
+    ensures { λ r. ⌜ (r ≡ blockWritten i (now (samples .entry))) × (now (samples .exit) ≡ blockAfter i block (now (samples .entry))) ⌝ }
+    ensures outcome { λ r. ⌜ blockOutcome r ≡ blockDue i (now (samples .entry)) ⌝ }
+{
+    if 6 <= i {
+        return BlockWritten::OutOfRange;
+    }
+    if samples.len() < 384 {
+        return BlockWritten::TooShort;
+    }
+    let begin = begin_of(i);
+    write_block(&mut samples[begin..384], row_length(i), block);
+    BlockWritten::Done
 }

@@ -1,0 +1,30 @@
+-- Inside the crate: a block with a DC alone, as its level, its value and its values. Definitions only.
+use mathlib.Core.Bool.{Bool, cond, false, not, _&&_}
+use mathlib.Core.List.{List}
+use Prim.Native.Nat.{ℕ}
+use lib.IntN.{ℤ, _+ℤ_}
+use Rattle.codes.specs.declared.dc_size.DcComponent.{DcComponent}
+use Rattle.coefficients.specs.Level.{saturated}
+use Rattle.coefficients.specs.Prediction.{dcPrediction, dcScaler, directionBy}
+use Rattle.coefficients.specs.declared.predictor.BlockPredictors.{BlockPredictors}
+use Rattle.coefficients.specs.declared.scan.DcPredictionDirection.{DcPredictionDirection}
+use Rattle.coefficients.specs.declared.scan.DcPredictionDirection.the-variants.{FromLeft, FromAbove}
+use Rattle.idct.specs.Clipped.{dcAndLast, dcBlock}
+use Rattle.inverse_quant.specs.Dequantised.{even, intraDc, limitedF}
+use Rattle.block.specs.declared.context.MacroblockTextureContext.{MacroblockTextureContext}
+
+-- AC values of a neighbour are added: AC prediction is set, and the side that the DCs choose has some
+abbrev pub adds : Bool → DcPredictionDirection → BlockPredictors → Bool
+adds acPred FromLeft p = acPred && p .«a_has_column»
+adds acPred FromAbove p = acPred && p .«c_has_row»
+
+-- the level of a difference (7.4.3.2, 7.4.3.4) and its dequantised value (7.4.4.1.1, 7.4.4.4)
+abbrev pub dcLevel : DcComponent → ℕ → BlockPredictors → ℤ → ℤ
+dcLevel c q p z = saturated (z +ℤ dcPrediction (directionBy p) (p .«fa_dc») (p .«fc_dc») (dcScaler c q))
+
+abbrev pub dcValue : DcComponent → MacroblockTextureContext → ℤ → ℤ
+dcValue c x level = limitedF (x .«bits_per_pixel») (intraDc level c (x .«quantiser_scale») false)
+
+-- its values: mismatch control puts 1 at (7, 7) beside an even DC (7.4.4.5)
+abbrev pub dcValues : MacroblockTextureContext → ℤ → List (List ℤ)
+dcValues x dc = cond (x .«quant_type» && (not (x .«intra_mismatch_exempt») && even dc)) (dcAndLast dc) (dcBlock dc)

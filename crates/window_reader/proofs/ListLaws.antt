@@ -1,0 +1,144 @@
+-- The loop over the events of a list that windows settle: what is left to answer stays the same, and the last event ends the places. Assumes nothing.
+use mathlib.Core.Bool.{Bool, true, false, cond}
+use mathlib.Core.List.{List}
+use mathlib.Core.Path.{_≡_, refl, sym, ap, ap₂, subst, subst₂, _∙_}
+use Prim.Native.Nat.{ℕ, _+_, _-_, _*_, _≤_, _<_}
+use native.Mathlib.Omega.{arith}
+use lib.Dec.{eqb, leb}
+use lib.IntN.{ℤ, natAbs, negℤ, pos, _-ℤ_}
+use lib.ListN.{getD, getD-replicate, length, length-set, set}
+use lib.Seq.{getD-set-other, getD-set-same}
+use borrow.Author.Tests.{leb-true, lt-ltb}
+use Rattle.numbers.proofs.Integers.{diff-is, halves}
+use Rattle.numbers.proofs.Magnitudes.{abs-neg}
+use Rattle.bits.proofs.BitLaws.{length-bitsFrom}
+use Rattle.bits.specs.Bits.{bitsFrom}
+use Rattle.codes.proofs.FirstBitsLaws.{intraRow, row-small}
+use Rattle.codes.specs.Tcoef.{lmaxBy, tcoefIntra}
+use Rattle.codes.specs.Tcoef as T
+use Rattle.codes.specs.declared.tcoef_tables.TcoefTable.the-variants.{Intra}
+use Rattle.texture.proofs.ListLaws.{event-complete}
+use Rattle.texture.proofs.LoopLaws.{ended, event-less, rest, rest-last, rest-more, rest-start, small, startOf}
+use Rattle.texture.specs.Event.{Event, GoodEvent, lastOf, levelOf, plain, runOf, rvlc, rvlcEscape, signed12, signedBy, type1, type2, type3}
+use Rattle.texture.specs.EventReader.{event}
+use Rattle.texture.specs.Inside.{State, putOf}
+use Rattle.texture.specs.Places.{zeros}
+use Rattle.texture.specs.Reader.{ok}
+use Rattle.texture.specs.declared.event.AcEvent.{AcEvent}
+use Rattle.window_reader.proofs.EndLaws.{end-last}
+use Rattle.window_reader.specs.Told.{EventTold, ListTold}
+use Rattle.window_reader.specs.declared.symbol.EventAt.{EventAt}
+
+-- ---- the level of a good plain event is not 0
+
+signed-not : (s n : ℕ) → 0 < n → 0 < natAbs (signedBy s n)
+signed-not s n h = go (eqb s 1)
+  where
+    go : (t : Bool) → 0 < natAbs (cond t (negℤ (pos n)) (pos n))
+    go true = omega (arith, abs-neg (pos n))
+    go false = h
+
+twelve-not : (v : ℕ) → v < 4096 → (v ≡ 0 → ⊥) → 0 < natAbs (signed12 v)
+twelve-not v h n = go (leb 2048 v) refl
+  where
+    go : (t : Bool) → leb 2048 v ≡ t → 0 < natAbs (cond t (pos v -ℤ pos 4096) (pos v))
+    go true e = let l = leb-true 2048 v e in let z = pos v -ℤ pos 4096 in omega (arith, halves z, diff-is (pos v) (pos 4096))
+    go false e = let l : 0 < v = omega arith in l
+
+pub level-not : (e : Event) → GoodEvent false e → 0 < natAbs (levelOf Intra e)
+unfolding GoodEvent levelOf
+level-not (plain i s) g = signed-not s (T.levelOf (intraRow i)) (row-small i (g .0) .level-pos)
+level-not (type1 i s) g = signed-not s (T.levelOf (intraRow i) + lmaxBy tcoefIntra (intraRow i)) (let h = row-small i (g .0) .level-pos in omega arith)
+level-not (type2 i s) g = signed-not s (T.levelOf (intraRow i)) (row-small i (g .0) .level-pos)
+level-not (type3 l r v) g = twelve-not v (g .2) (g .3)
+level-not (rvlc i s) g = absurd g
+level-not (rvlcEscape l r m s) g = absurd g
+
+-- ---- one turn
+
+-- what is known of an event that was told
+pub record Turn (d : List ℕ) (at : ℕ) (r : EventAt) : Type 0 where
+  pub e : Event
+  pub read : event false (bitsFrom d at) ≡ ok e (bitsFrom d (r .next))
+  pub last-is : lastOf Intra e ≡ r .last
+  pub run-is : runOf Intra e ≡ r .run
+  pub level-is : levelOf Intra e ≡ r .level
+  pub run-le : r .run ≤ 1024
+  pub level-le : natAbs (r .level) ≤ 2047
+  pub level-pos : 0 < natAbs (r .level)
+  pub inside : r .next ≤ 8 * length d
+  pub less : 8 * length d - r .next < 8 * length d - at
+
+pub turn : (d : List ℕ) (at : ℕ) (r : EventAt) → EventTold d at r → Turn d at r
+turn d at r t =
+    let read : event false (bitsFrom d at) ≡ ok (t .event) (bitsFrom d (r .next)) = ap (event false) (t .bits) ∙ event-complete false (t .event) (bitsFrom d (r .next)) (t .good) in
+    let run-is : runOf Intra (t .event) ≡ r .run = ap (λ (v : AcEvent). v .run) (t .says) in
+    let level-is : levelOf Intra (t .event) ≡ r .level = ap (λ (v : AcEvent). v .level) (t .says) in
+    let s = small false Intra (t .event) (t .good) in
+    record {
+      e = t .event;
+      read = read;
+      last-is = ap (λ (v : AcEvent). v .last) (t .says);
+      run-is = run-is;
+      level-is = level-is;
+      run-le = subst (λ (n : ℕ). n ≤ 1024) run-is (s .run-le);
+      level-le = subst (λ (z : ℤ). natAbs z ≤ 2047) level-is (s .level-le);
+      level-pos = subst (λ (z : ℤ). 0 < natAbs z) level-is (level-not (t .event) (t .good));
+      inside = t .inside;
+      less = subst₂ (λ (i j : ℕ). i < j) (length-bitsFrom d (r .next)) (length-bitsFrom d at) (event-less false (bitsFrom d at) (t .event) (bitsFrom d (r .next)) read);
+    }
+
+-- ---- the loop
+
+abbrev st : ℕ → List ℤ → State
+st place qfs = record { place = place; bad = 0; qfs = qfs }
+
+-- where a list stands that began at a position: all places from the next on are 0
+pub record Stands (d : List ℕ) (start at place : ℕ) (qfs : List ℤ) : Type 0 where
+  pub inside : at ≤ 8 * length d
+  pub place-le : place ≤ 64
+  pub long : length qfs ≡ 64
+  pub beyond : (k : ℕ) → place ≤ k → k < 64 → getD qfs k (pos 0) ≡ pos 0
+  pub same : rest false Intra (startOf 1) (bitsFrom d start) ≡ rest false Intra (st place qfs) (bitsFrom d at)
+
+pub stands-first : (d : List ℕ) (start : ℕ) (qfs : List ℤ) → start ≤ 8 * length d → qfs ≡ zeros → Stands d start start 1 qfs
+stands-first d start qfs h q =
+    record {
+      inside = h;
+      place-le = omega arith;
+      long = ap length q;
+      beyond = λ k a b. ap (λ (xs : List ℤ). getD xs k (pos 0)) q ∙ getD-replicate 64 k (pos 0) (pos 0) b;
+      same = ap (λ (xs : List ℤ). rest false Intra (st 1 xs) (bitsFrom d start)) (sym q);
+    }
+
+module _ (d : List ℕ) (start at place : ℕ) (qfs : List ℤ) (s : Stands d start at place qfs) (r : EventAt) (t : Turn d at r) (low : place + r .run < 64) where
+  -- the event in its place
+  put-is : putOf (st place qfs) (runOf Intra (t .e)) (levelOf Intra (t .e)) ≡ st (place + r .run + 1) (set qfs (place + r .run) (r .level))
+  put-is =
+      ap₂ (putOf (st place qfs)) (t .run-is) (t .level-is)
+      ∙ ap (λ (u : Bool). cond u (st (place + r .run + 1) (set qfs (place + r .run) (r .level))) (record { place = place; bad = place + r .run; qfs = qfs })) (lt-ltb (place + r .run) 64 low)
+
+  after-zero : (k : ℕ) → place + r .run < k → k < 64 → getD (set qfs (place + r .run) (r .level)) k (pos 0) ≡ pos 0
+  after-zero k a b = getD-set-other qfs (place + r .run) k (r .level) (pos 0) (λ (e : k ≡ place + r .run). omega arith) ∙ s .beyond k (omega arith) b
+
+  pub stands-on : r .last ≡ false → Stands d start (r .next) (place + r .run + 1) (set qfs (place + r .run) (r .level))
+  stands-on l =
+      record {
+        inside = t .inside;
+        place-le = omega arith;
+        long = length-set qfs (place + r .run) (r .level) ∙ s .long;
+        beyond = λ k a b. after-zero k (omega arith) b;
+        same = s .same ∙ rest-more false Intra (st place qfs) (bitsFrom d at) (t .e) (bitsFrom d (r .next)) (t .read) (t .last-is ∙ l)
+            ∙ ap (λ (x : State). rest false Intra x (bitsFrom d (r .next))) put-is;
+      }
+
+  pub stands-last : r .last ≡ true → ListTold d start (record { next = r .next; end = place + r .run + 1 }) (set qfs (place + r .run) (r .level))
+  stands-last l =
+      record {
+        read = sym (rest-start false Intra 1 (bitsFrom d start)) ∙ s .same
+            ∙ rest-last false Intra (st place qfs) (bitsFrom d at) (t .e) (bitsFrom d (r .next)) (t .read) (t .last-is ∙ l)
+            ∙ ap (λ (x : State). ended x (bitsFrom d (r .next))) put-is;
+        inside = t .inside;
+        ends = sym (end-last (set qfs (place + r .run) (r .level)) (place + r .run) low
+            (λ q. let z : natAbs (r .level) ≡ 0 = ap natAbs (sym (getD-set-same qfs (place + r .run) (r .level) (pos 0) (omega (arith, s .long))) ∙ q) in omega (arith, t .level-pos)) after-zero);
+      }
