@@ -1,4 +1,5 @@
 // How long a macroblock takes, alone and in a picture of 45 by 36, beside the original's; both decode the same bits into one buffer.
+// Then the same of whole pictures of clips, each a file of the lines that `still` reads.
 use crate::bitreader::BitReader;
 use crate::block::{self, MacroblockTextureContext};
 use crate::common::bits::{Bits, bytes_of, push};
@@ -12,6 +13,8 @@ use std::hint::black_box;
 use std::time::Instant;
 use vaxembro::{Context, Matrix, Method, Neighbours, Picture, STORE, Samples};
 
+#[path = "clip.rs"]
+mod clip;
 #[path = "layer.rs"]
 mod layer;
 
@@ -22,9 +25,12 @@ const HEIGHT: u32 = 36;
 // How many macroblocks are timed together: few, so that a busy machine leaves some round of them alone.
 const CHUNK: usize = 20;
 
-// Headers of intra macroblocks, and their bits one after the other.
-struct Stream {
-    headers: Vec<Header>,
+// Headers of intra macroblocks with their quantisers, and their bits: one macroblock's after the other's, or each by itself.
+pub struct Stream {
+    width: u32,
+    height: u32,
+    headers: Vec<(Header, u32)>,
+    parts: Vec<std::ops::Range<usize>>,
     data: Vec<u8>,
 }
 
@@ -33,10 +39,11 @@ impl Stream {
         let (mut headers, mut bits, mut data) = (Vec::new(), Bits::new(), Vec::new());
         for _ in 0..macroblocks {
             let pattern = if events == 0 { 0 } else { 63 };
-            headers.push(Header {
+            let header = Header {
                 mb_type: 4,
                 ..Header::intra(dice, pattern)
-            });
+            };
+            headers.push((header, QUANTISER));
             for i in 0..6 {
                 sentence::dc_part(dice, &mut bits, component(i >= 4), Some(6));
                 list(dice, &mut bits, events);
@@ -45,7 +52,21 @@ impl Stream {
         let rest = (8 - bits.len() % 8) % 8;
         push(&mut bits, 0, rest);
         bytes_of(&mut data, &bits, 0, 0);
-        Stream { headers, data }
+        Stream {
+            width: WIDTH,
+            height: HEIGHT,
+            headers,
+            parts: Vec::new(),
+            data,
+        }
+    }
+
+    // The bits of macroblock n, where the one before it ended at a position.
+    fn bits(&self, n: usize, at: usize) -> (&[u8], usize) {
+        match self.parts.get(n) {
+            None => (&self.data, at),
+            Some(part) => (&self.data[part.clone()], 0),
+        }
     }
 }
 
@@ -78,8 +99,8 @@ struct OriginalAlone(MacroblockTextureContext);
 struct OursInPicture(Method);
 struct OriginalInPicture(MacroblockTextureContext);
 
-fn ours(h: &Header, in_picture: bool) -> (vaxembro::Header, Context) {
-    let mut context = Context::new(QUANTISER);
+fn ours(h: &Header, quantiser: u32, in_picture: bool) -> (vaxembro::Header, Context) {
+    let mut context = Context::new(quantiser);
     context.ac_pred_flag = in_picture && h.ac_pred_flag;
     (vaxembro::Header::intra(h.cbpy, h.cbpc), context)
 }
@@ -100,8 +121,8 @@ impl Decoder for OursAlone {
     fn decode(&mut self, stream: &Stream, each: &mut dyn FnMut(&mut Samples)) {
         let (neighbours, matrix) = (Neighbours::outside(DEPTH, QUANTISER), Matrix::default());
         let (mut at, mut samples) = (0, [0; 384]);
-        for h in &stream.headers {
-            let (header, context) = ours(h, false);
+        for (h, quantiser) in &stream.headers {
+            let (header, context) = ours(h, *quantiser, false);
             let decoded =
                 vaxembro::decode_intra_macroblock(&stream.data, at, header, context, DEPTH, self.0, &neighbours, &matrix, &mut samples);
             at = decoded.expect("a macroblock").position;
@@ -114,7 +135,7 @@ impl Decoder for OriginalAlone {
     fn decode(&mut self, stream: &Stream, each: &mut dyn FnMut(&mut Samples)) {
         let predictors = block::BlockPredictors::outside(DEPTH, QUANTISER);
         let (mut br, mut samples) = (BitReader::new(&stream.data), [0; 384]);
-        for h in &stream.headers {
+        for (h, _) in &stream.headers {
             let matrix = &block::DEFAULT_INTRA_QUANT_MATRIX;
             let one = block::decode_intra_macroblock(&mut br, &h.original(), self.0, predictors, matrix).expect("a macroblock");
             samples[..256].copy_from_slice(one.luma.as_flattened());
@@ -128,11 +149,12 @@ impl Decoder for OriginalAlone {
 impl Decoder for OursInPicture {
     fn decode(&mut self, stream: &Stream, each: &mut dyn FnMut(&mut Samples)) {
         let mut store = [0; STORE * WIDTH as usize];
-        let mut picture = Picture::open(WIDTH, HEIGHT, DEPTH, self.0, &mut store).expect("a picture");
+        let mut picture = Picture::open(stream.width, stream.height, DEPTH, self.0, &mut store).expect("a picture");
         let (matrix, mut at, mut samples) = (Matrix::default(), 0, [0; 384]);
-        for h in &stream.headers {
-            let (header, context) = ours(h, true);
-            let decoded = picture.decode_macroblock(&stream.data, at, header, context, &matrix, &mut samples);
+        for (n, (h, quantiser)) in stream.headers.iter().enumerate() {
+            let (header, context) = ours(h, *quantiser, true);
+            let (data, start) = stream.bits(n, at);
+            let decoded = picture.decode_macroblock(data, start, header, context, &matrix, &mut samples);
             at = decoded.expect("a macroblock").position;
             each(&mut samples);
         }
@@ -141,13 +163,17 @@ impl Decoder for OursInPicture {
 
 impl Decoder for OriginalInPicture {
     fn decode(&mut self, stream: &Stream, each: &mut dyn FnMut(&mut Samples)) {
-        let mut layer = Layer::new(WIDTH as usize, DEPTH);
+        let mut layer = Layer::new(stream.width as usize, DEPTH);
         let (mut br, mut samples) = (BitReader::new(&stream.data), [0; 384]);
-        for (n, h) in stream.headers.iter().enumerate() {
+        for (n, (h, quantiser)) in stream.headers.iter().enumerate() {
             let context = MacroblockTextureContext {
+                quantiser_scale: *quantiser,
                 ac_pred_flag: h.ac_pred_flag,
                 ..self.0
             };
+            if let Some(part) = stream.parts.get(n) {
+                br = BitReader::new(&stream.data[part.clone()]);
+            }
             layer.decode(&mut br, n, h, context, &mut samples);
             each(&mut samples);
         }
@@ -191,7 +217,8 @@ fn beside(name: &str, sides: [&mut dyn Decoder; 2], stream: &Stream, rounds: usi
 
 pub fn main() {
     let mut dice = Dice(7);
-    let rounds: usize = std::env::args().nth(1).map_or(50, |n| n.parse().expect("a number of rounds"));
+    let mut arguments = std::env::args().skip(1);
+    let rounds: usize = arguments.next().map_or(50, |n| n.parse().expect("a number of rounds"));
     // so many that no branch predictor learns them
     let mut drawn = |events| (events, Stream::drawn(&mut dice, (WIDTH * HEIGHT) as usize, events));
     let streams = [0, 6, 44].map(&mut drawn);
@@ -215,5 +242,10 @@ pub fn main() {
                 }
             }
         }
+    }
+    for file in arguments {
+        let (method, stream) = clip::read(&file);
+        let mut sides = (OursInPicture(method), OriginalInPicture(original(method)));
+        beside(&clip::name(&file), [&mut sides.0, &mut sides.1], &stream, rounds);
     }
 }

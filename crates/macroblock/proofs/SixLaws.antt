@@ -1,18 +1,27 @@
--- Six blocks: their values lie within the depth's limits, and their samples are those of each. Assumes nothing.
+-- Six blocks: their values lie within the depth's limits, their samples are those of each and stand where they are written in turn, and what lies from a row's end on is 0. Assumes nothing.
 use mathlib.Core.Bool.{true}
-use mathlib.Core.List.{List, []}
-use mathlib.Core.Path.{_≡_, ap, subst⁻¹, sym}
-use Prim.Native.Nat.{ℕ, _<_}
+use mathlib.Core.List.{List, [], _∷_}
+use mathlib.Core.Logic.{⊎-elim}
+use mathlib.Core.Path.{_≡_, ap, refl, subst⁻¹, sym, _∙_}
+use Prim.Native.Nat.{ℕ, suc, zero, _+_, _<_, _≤_}
+use native.Mathlib.Numerals.{add-one}
+use native.Mathlib.Omega.{arith}
 use lib.IntN.{ℤ}
-use lib.ListN.{getD}
-use Rattle.numbers.proofs.Fill.{getD-build}
+use lib.ListN.{getD, length, List·getD-eq-default}
+use Rattle.numbers.proofs.Fill.{getD-build, lt-or-le}
 use Rattle.codes.specs.Component.{componentAt}
+use Rattle.coefficients.proofs.UpToLaws.{up-to-all}
+use Rattle.coefficients.specs.UpTo.{upTo}
 use Rattle.coefficients.specs.declared.predictor.BlockPredictors.{BlockPredictors}
 use Rattle.idct.specs.Limits.{valuesFine}
 use Rattle.block.proofs.AnswerLaws.{values-fine}
 use Rattle.block.specs.Rebuilt.{valuesHere}
 use Rattle.block.specs.Values.{samplesOf}
 use Rattle.block.specs.declared.context.MacroblockTextureContext.{MacroblockTextureContext}
+use Rattle.samples.proofs.TurnLaws.{turn-all, turn-by}
+use Rattle.samples.specs.Samples.{blockAfter, blocksAfter, samplesAfter}
+use Rattle.window_reader.proofs.EndLaws.{beyond-end}
+use Rattle.window_reader.specs.Ends.{endOf, endsOf}
 use Rattle.macroblock.specs.Six.{blockAt, samplesOfSix, valuesOfSix}
 
 module _ (x : MacroblockTextureContext) (p : BlockPredictors) (w : List (List ℕ)) (rows : List (List ℤ)) where
@@ -29,3 +38,31 @@ module _ (x : MacroblockTextureContext) (p : BlockPredictors) (w : List (List �
 pub samples-at : (x : MacroblockTextureContext) (fs : List (List (List ℤ))) (i : ℕ) → i < 6 → blockAt (samplesOfSix x fs) i ≡ samplesOf x (blockAt fs i)
 unfolding samplesOfSix
 samples-at x fs i l = getD-build 6 _ i [] l
+
+-- ---- six blocks that are written in turn
+
+module _ (x : MacroblockTextureContext) (p : BlockPredictors) (w : List (List ℕ)) (rows : List (List ℤ)) (i : ℕ) (s t : List ℤ) (room : 384 ≤ length s) (so-far : t ≡ blocksAfter i (samplesOfSix x (valuesOfSix x p w rows)) s) where
+  pub one-more : i < 6 → blockAfter i (samplesOf x (valuesHere (componentAt i) x p w (getD rows i []))) t ≡ blocksAfter (i + 1) (samplesOfSix x (valuesOfSix x p w rows)) s
+  one-more l =
+      let fs = valuesOfSix x p w rows in
+      turn-by i (samplesOfSix x fs) s _ t l room (samples-six-at x p w rows i l ∙ sym (samples-at x fs i l)) so-far ∙ ap (λ (k : ℕ). blocksAfter k (samplesOfSix x fs) s) (sym (add-one i))
+
+  pub all-six : i ≡ 6 → t ≡ samplesAfter (samplesOfSix x (valuesOfSix x p w rows)) s
+  all-six e = let b = samplesOfSix x (valuesOfSix x p w rows) in so-far ∙ ap (λ (k : ℕ). blocksAfter k b s) e ∙ turn-all b s room
+
+-- ---- the ends of rows
+
+-- a row of 64 is one of the rows
+row-in : (rows : List (List ℤ)) (i : ℕ) → length (getD rows i []) ≡ 64 → i < length rows
+row-in rows i n = ⊎-elim (λ (l : i < length rows). l) (λ (l : length rows ≤ i). absurd (omega (arith, n, ap length (List·getD-eq-default rows [] {n = i} l)))) (lt-or-le i (length rows))
+
+-- the end of row i
+end-at : (rows : List (List ℤ)) (i : ℕ) → i < length rows → getD (endsOf rows) i 0 ≡ endOf (getD rows i [])
+end-at [] i l = absurd (omega arith)
+end-at (r ∷ rows) zero l = refl
+end-at (r ∷ rows) (suc i) l = end-at rows i (omega arith)
+
+-- what lies from a row's end on is 0
+pub all-below-end : (rows : List (List ℤ)) (ends : List ℕ) (i : ℕ) → ends ≡ endsOf rows → length (getD rows i []) ≡ 64 → upTo (getD ends i 0) (getD rows i []) ≡ getD rows i []
+all-below-end rows ends i e n =
+    ap (λ (k : ℕ). upTo k (getD rows i [])) (ap (λ (ns : List ℕ). getD ns i 0) e ∙ end-at rows i (row-in rows i n)) ∙ up-to-all (endOf (getD rows i [])) (getD rows i []) n (beyond-end (getD rows i []))

@@ -1,8 +1,6 @@
 // A macroblock out of bits into 384 samples.
 ghost use mathlib.Core.Path.{_≡_};
-ghost use Prim.Native.Nat.{_-_, _≤_};
 ghost use lib.ListN.{length};
-ghost use Rattle.samples.specs.Samples.{samplesAfter};
 ghost use Rattle.macroblock.specs.Answer.{macroblockAnswer, samplesOut, samplesTold, sentenceOf, stateOf, told};
 ghost use Rattle.macroblock.specs.Alone.{DemandAlone};
 ghost use Rattle.macroblock.specs.Outcomes.{macroblockDue, macroblockOutcome};
@@ -13,7 +11,6 @@ use block::BlockAssemblyError;
 use block::Checked;
 use block::MacroblockTextureContext;
 use coefficients::BlockPredictors;
-use samples::Written;
 use texture::EventsRead;
 
 // The number of bits taken and the cursor after them, or a refusal.
@@ -46,26 +43,6 @@ fn check_state(
     }
 }
 
-// The samples of a macroblock that was read from `c` to `next`, and the bits between.
-fn written(
-    samples: &mut [i32],
-    blocks: [[[i32; 8]; 8]; 6],
-    c: Cursor,
-    next: Cursor,
-) -> MacroblockDecoded
-    requires { ⌜ (384 ≤ length (now samples)) × (c .«bit_pos» ≤ next .«bit_pos») ⌝ }
-    ensures { λ r. ⌜ (r ≡ MacroblockDecoded.Decoded (next .«bit_pos» - c .«bit_pos») next) × (now (samples .exit) ≡ samplesAfter blocks (now (samples .entry))) ⌝ }
-{
-    let answer = samples::write_macroblock(samples, blocks);
-    match answer {
-        Written::TooShort => MacroblockDecoded::Refused(BlockAssemblyError::TooShort),
-        Written::Done => {
-            let bits = next.bit_pos - c.bit_pos;
-            MacroblockDecoded::Decoded(bits, next)
-        }
-    }
-}
-
 // Once the state is checked: all bits first, then the samples.
 fn decode_checked(
     data: &[u8],
@@ -84,22 +61,26 @@ fn decode_checked(
 {
     let pattern = block::pattern_code(header.cbpy, header.cbpc);
     let mut rows = [[0i32; 64]; 6];
-    let answer = block::read_blocks(
+    let mut ends = [0usize; 6];
+    let answer = window_reader::read_six(
         data,
         c,
         pattern,
         use_intra_dc_vlc,
         reversible_vlc,
         &mut rows,
+        &mut ends,
     );
     match answer {
         EventsRead::Refused(e) => MacroblockDecoded::Refused(BlockAssemblyError::Texture(e)),
         EventsRead::Read(next) => {
-            let mut blocks = [[[0i32; 8]; 8]; 6];
-            let rebuilt = crate::six::samples_of_six(rows, ctx, predictors, w, &mut blocks);
+            let rebuilt = crate::six::samples_of_six(&rows, ends, ctx, predictors, w, samples);
             match rebuilt {
                 Checked::Bad(e) => MacroblockDecoded::Refused(e),
-                Checked::Fine => written(samples, blocks, c, next),
+                Checked::Fine => {
+                    let bits = next.bit_pos - c.bit_pos;
+                    MacroblockDecoded::Decoded(bits, next)
+                }
             }
         }
     }

@@ -2,38 +2,73 @@
 ghost use mathlib.Core.Bool.{true};
 ghost use mathlib.Core.List.{[]};
 ghost use mathlib.Core.Path.{_≡_};
-ghost use Prim.Native.Nat.{ℕ, _<_};
+ghost use Prim.Native.Nat.{ℕ, _<_, _≤_};
 ghost use lib.ListN.{getD, length};
+ghost use Rattle.codes.specs.Component.{componentAt};
 ghost use Rattle.coefficients.specs.Level.{placesFine, predictorsFine};
-ghost use Rattle.block.specs.Values.{contextFine};
+ghost use Rattle.coefficients.specs.UpTo.{upTo};
+ghost use Rattle.block.specs.Rebuilt.{valuesHere};
+ghost use Rattle.block.specs.Values.{contextFine, samplesOf};
 ghost use Rattle.block.specs.declared.error.Checked.the-variants.{Fine};
+ghost use Rattle.samples.specs.Samples.{blockAfter, samplesAfter};
+ghost use Rattle.window_reader.specs.Ends.{endsOf};
 ghost use Rattle.macroblock.specs.Six.{samplesOfSix, valuesOfSix};
+use block::BlockAssemblyError;
 use block::BlockRebuilt;
 use block::Checked;
 use block::MacroblockTextureContext;
 use coefficients::BlockPredictors;
+use samples::BlockWritten;
 
-// The samples of six blocks with the same predictors into `out`. The state is fine and the places are a sentence's, so
-// no block is refused.
-pub(crate) fn samples_of_six(
-    rows: [[i32; 64]; 6],
+// Block `i` out of its places below `end` into its part of the samples. The state is fine and the places are a sentence's,
+// so nothing is refused.
+fn block_into(
+    i: usize,
+    qfs: &[i32],
+    end: usize,
     ctx: MacroblockTextureContext,
     predictors: BlockPredictors,
     w: [[u8; 8]; 8],
-    out: &mut [[[i32; 8]; 8]; 6],
+    samples: &mut [i32],
 ) -> Checked
-    requires { ⌜ (length (now out) ≡ 6) × (contextFine ctx w ≡ true) × (predictorsFine predictors ≡ true) × ((i : ℕ) → i < 6 → placesFine (getD rows i []) ≡ true) ⌝ }
-    ensures { λ r. ⌜ (r ≡ Fine) × (now (out .exit) ≡ samplesOfSix ctx (valuesOfSix ctx predictors w rows)) ⌝ }
+    requires { ⌜ (i < 6) × (384 ≤ length (now samples)) × (contextFine ctx w ≡ true) × (predictorsFine predictors ≡ true) × (placesFine (now qfs) ≡ true) × (upTo end (now qfs) ≡ now qfs) ⌝ }
+    ensures { λ r. ⌜ (r ≡ Fine) × (now (samples .exit) ≡ blockAfter i (samplesOf ctx (valuesHere (componentAt i) ctx predictors w (now (qfs .entry)))) (now (samples .entry))) ⌝ }
 {
+    let mut spatial = [[0i32; 8]; 8];
     let mut qf = [[0i32; 8]; 8];
+    let one = block::reconstruct_up_to(i, qfs, end, ctx, predictors, w, &mut spatial, &mut qf);
+    match one {
+        BlockRebuilt::Refused(e) => Checked::Bad(e),
+        BlockRebuilt::Rebuilt(_) => {
+            let put = samples::write_one(samples, i, spatial);
+            match put {
+                BlockWritten::OutOfRange => Checked::Bad(BlockAssemblyError::OutOfRange),
+                BlockWritten::TooShort => Checked::Bad(BlockAssemblyError::TooShort),
+                BlockWritten::Done => Checked::Fine,
+            }
+        }
+    }
+}
+
+// The samples of six blocks with the same predictors, each row with its end.
+pub(crate) fn samples_of_six(
+    rows: &[[i32; 64]; 6],
+    ends: [usize; 6],
+    ctx: MacroblockTextureContext,
+    predictors: BlockPredictors,
+    w: [[u8; 8]; 8],
+    samples: &mut [i32],
+) -> Checked
+    requires { ⌜ (384 ≤ length (now samples)) × (contextFine ctx w ≡ true) × (predictorsFine predictors ≡ true) × (ends ≡ endsOf (now rows)) × ((i : ℕ) → i < 6 → (placesFine (getD (now rows) i []) ≡ true) × (length (getD (now rows) i []) ≡ 64)) ⌝ }
+    ensures { λ r. ⌜ (r ≡ Fine) × (now (samples .exit) ≡ samplesAfter (samplesOfSix ctx (valuesOfSix ctx predictors w (now (rows .entry)))) (now (samples .entry))) ⌝ }
+{
     for i in 0..6 {
-        let qfs = rows[i];
-        let one = block::reconstruct_block(i, qfs, ctx, predictors, w, &mut out[i], &mut qf);
+        let one = block_into(i, &rows[i], ends[i], ctx, predictors, w, samples);
         match one {
-            BlockRebuilt::Refused(e) => {
+            Checked::Bad(e) => {
                 return Checked::Bad(e);
             }
-            BlockRebuilt::Rebuilt(_) => {}
+            Checked::Fine => {}
         }
     }
     Checked::Fine

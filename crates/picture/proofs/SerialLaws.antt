@@ -20,8 +20,9 @@ use Rattle.ranges.specs.Range.{levelFine}
 use Rattle.block.proofs.AnswerLaws.{values-fine, values-small}
 use Rattle.block.proofs.ValueLaws.{depth-fine, quantiser-fine}
 use Rattle.codes.specs.Component.{componentAt}
-use Rattle.block.specs.Values.{contextFine}
+use Rattle.block.specs.Values.{contextFine, samplesOf}
 use Rattle.block.specs.declared.context.MacroblockTextureContext.{MacroblockTextureContext}
+use Rattle.macroblock.specs.Six.{samplesOfSix}
 use Rattle.neighbours.proofs.RecordLaws.{known-other, known-own, quantiser-at}
 use Rattle.neighbours.proofs.SoundLaws.{Sound, blank-sound, taken-fine, with-block-sound}
 use Rattle.neighbours.specs.Neighbours.{Around, neighboursFine, predictors}
@@ -40,6 +41,10 @@ module _ (x : MacroblockTextureContext) (w : List (List ℕ)) (ar : Around) (row
   pub turn-values : (i : ℕ) → i < 6 → getD (valuesInTurn x w ar rows) i [] ≡ valuesAt x w ar rows (upTo i) i
   unfolding valuesInTurn
   turn-values i l = getD-build 6 _ i [] l
+
+  pub turn-samples : (i : ℕ) → i < 6 → samplesOf x (valuesAt x w ar rows (upTo i) i) ≡ getD (samplesOfSix x (valuesInTurn x w ar rows)) i []
+  unfolding samplesOfSix
+  turn-samples i l = sym (getD-build 6 _ i [] l ∙ ap (samplesOf x) (turn-values i l))
 
   pub turn-fine : (i : ℕ) → i < 6 → valuesFine (x .«bits_per_pixel») (getD (valuesInTurn x w ar rows) i []) ≡ true
   turn-fine i l = subst⁻¹ (λ (f : List (List ℤ)). valuesFine (x .«bits_per_pixel») f ≡ true) (turn-values i l) (values-fine (componentAt i) x w _)

@@ -23,10 +23,9 @@ use Rattle.block.specs.declared.error.Checked.{Checked}
 use Rattle.block.specs.declared.error.Checked.the-variants.{Bad, Fine}
 use Rattle.macroblock.specs.Header.{headerCheck}
 use Rattle.macroblock.specs.declared.header.MacroblockHeader.{MacroblockHeader}
-use Rattle.neighbours.proofs.RecordLaws.{blank-length, record-whole}
 use Rattle.neighbours.proofs.RefusalLaws.{place-passes}
 use Rattle.neighbours.specs.Neighbours.{Around, aroundBy, neighboursFine}
-use Rattle.neighbours.specs.Record.{blank, recordAt}
+use Rattle.neighbours.specs.Record.{blank}
 use Rattle.neighbours.specs.Refusals.{placeLies}
 use Rattle.neighbours.specs.declared.place.Place.{Place}
 use Rattle.picture.proofs.RingLaws.{slot-in}
@@ -113,15 +112,12 @@ module _ (p : Picture) (d : List ℕ) (at : ℕ) (x : MacroblockTextureContext) 
     unfolding stateBy
     state-neighbours q = all-pass (firstTests p d at x w room stored ++ laterTests p d at h x ar) q .1 .1 .1 .1 .1 .1 .0
 
--- ---- the neighbours, out of the place and the new record that the code makes
+-- ---- the neighbours, out of the place that the code makes
 
-pub neighbours-by : (p : Picture) (q : ℕ) (store : List ℤ) (place : Place) (own : List ℤ) (r : Bool) → place ≡ placeOf p q → own ≡ blank q
-    → r ≡ neighboursFine (place .«bits_per_pixel») (place .«quantiser_scale») (aroundBy place store) (recordAt own 0) → r ≡ neighboursFine (p .«bits_per_pixel») q (aroundDue p q store) (blank q)
+pub neighbours-by : (p : Picture) (q : ℕ) (store : List ℤ) (place : Place) (r : Bool) → place ≡ placeOf p q
+    → r ≡ neighboursFine (place .«bits_per_pixel») (place .«quantiser_scale») (aroundBy place store) (blank (place .«quantiser_scale»)) → r ≡ neighboursFine (p .«bits_per_pixel») q (aroundDue p q store) (blank q)
 unfolding aroundDue
-neighbours-by p q store place own r e f g =
-    g
-    ∙ ap₂ (λ (y : Place) (o : List ℤ). neighboursFine (y .«bits_per_pixel») (y .«quantiser_scale») (aroundBy y store) (recordAt o 0)) e f
-    ∙ ap (neighboursFine (p .«bits_per_pixel») q (aroundBy (placeOf p q) store)) (record-whole (blank q) (blank-length q))
+neighbours-by p q store place r e g = g ∙ ap (λ (y : Place). neighboursFine (y .«bits_per_pixel») (y .«quantiser_scale») (aroundBy y store) (blank (y .«quantiser_scale»))) e
 
 -- 11, then 12, by number
 pub open-due : (w h depth : ℕ) (method : Bool) → openedOutcome (openOf w h depth method) ≡ openDue w h depth method

@@ -2,7 +2,6 @@
 ghost use mathlib.Core.Path.{_≡_};
 ghost use Prim.Native.Nat.{_*_, _-_, _<_, _≤_};
 ghost use lib.ListN.{length};
-ghost use Rattle.samples.specs.Samples.{samplesAfter};
 ghost use Rattle.neighbours.specs.Record.{storedAt};
 ghost use Rattle.picture.specs.Picture.{onward};
 ghost use Rattle.block.specs.declared.error.Checked.the-variants.{Fine};
@@ -20,7 +19,6 @@ use block::Checked;
 use block::MacroblockTextureContext;
 use macroblock::MacroblockHeader;
 use neighbours::Recorded;
-use samples::Written;
 use texture::EventsRead;
 
 // The number of bits taken, the cursor after them and the picture with one more accepted; or a refusal.
@@ -29,36 +27,21 @@ pub enum PictureDecoded {
     Refused(BlockAssemblyError),
 }
 
-// The samples and the record of a macroblock that was read from `c` to `next`, and the picture with one more accepted.
-fn kept(
-    p: Picture,
-    samples: &mut [i32],
-    store: &mut [i32],
-    blocks: [[[i32; 8]; 8]; 6],
-    own: [i32; 91],
-    c: Cursor,
-    next: Cursor,
-) -> PictureDecoded
-    requires { ⌜ (384 ≤ length (now samples)) × (192 * p .width ≤ length (now store)) × (1 ≤ p .width) × (p .width ≤ 45) × (p .accepted < 1620) × (c .«bit_pos» ≤ next .«bit_pos») ⌝ }
+// The record of a macroblock that was read from `c` to `next`, and the picture with one more accepted.
+fn kept(p: Picture, store: &mut [i32], own: [i32; 91], c: Cursor, next: Cursor) -> PictureDecoded
+    requires { ⌜ (192 * p .width ≤ length (now store)) × (1 ≤ p .width) × (p .width ≤ 45) × (p .accepted < 1620) × (c .«bit_pos» ≤ next .«bit_pos») ⌝ }
     ensures { λ r. ⌜ r ≡ PictureDecoded.Decoded (next .«bit_pos» - c .«bit_pos») next (onward p) ⌝ }
-    ensures samples { λ r. ⌜ now (samples .exit) ≡ samplesAfter blocks (now (samples .entry)) ⌝ }
     ensures store { λ r. ⌜ now (store .exit) ≡ storedAt (now (store .entry)) (offset (p .width) (p .accepted) 0) own ⌝ }
 {
-    let answer = samples::write_macroblock(samples, blocks);
-    match answer {
-        Written::TooShort => PictureDecoded::Refused(BlockAssemblyError::TooShort),
-        Written::Done => {
-            let at = crate::ring::offset_of(p.width, p.accepted, 0);
-            let put = neighbours::put_record(store, at, own);
-            match put {
-                Recorded::Refused(_) => PictureDecoded::Refused(BlockAssemblyError::TooShort),
-                Recorded::Done => {
-                    let mut onward = p;
-                    onward.accepted = p.accepted + 1;
-                    let bits = next.bit_pos - c.bit_pos;
-                    PictureDecoded::Decoded(bits, next, onward)
-                }
-            }
+    let at = crate::ring::offset_of(p.width, p.accepted, 0);
+    let put = neighbours::put_record(store, at, own);
+    match put {
+        Recorded::Refused(_) => PictureDecoded::Refused(BlockAssemblyError::TooShort),
+        Recorded::Done => {
+            let mut onward = p;
+            onward.accepted = p.accepted + 1;
+            let bits = next.bit_pos - c.bit_pos;
+            PictureDecoded::Decoded(bits, next, onward)
         }
     }
 }
@@ -83,32 +66,34 @@ fn decode_checked(
 {
     let pattern = block::pattern_code(header.cbpy, header.cbpc);
     let mut rows = [[0i32; 64]; 6];
-    let answer = block::read_blocks(
+    let mut ends = [0usize; 6];
+    let answer = window_reader::read_six(
         data,
         c,
         pattern,
         use_intra_dc_vlc,
         reversible_vlc,
         &mut rows,
+        &mut ends,
     );
     match answer {
         EventsRead::Refused(e) => PictureDecoded::Refused(BlockAssemblyError::Texture(e)),
         EventsRead::Read(next) => {
             let place = crate::ring::place_of(p, ctx.quantiser_scale);
-            let mut blocks = [[[0i32; 8]; 8]; 6];
             let mut own = [0i32; 91];
             let rebuilt = crate::reconstruct::reconstruct(
                 &*store,
                 place,
-                rows,
+                &rows,
+                ends,
                 ctx,
                 w,
                 &mut own,
-                &mut blocks,
+                samples,
             );
             match rebuilt {
                 Checked::Bad(e) => PictureDecoded::Refused(e),
-                Checked::Fine => kept(p, samples, store, blocks, own, c, next),
+                Checked::Fine => kept(p, store, own, c, next),
             }
         }
     }

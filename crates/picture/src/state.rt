@@ -11,7 +11,6 @@ use block::BlockAssemblyError;
 use block::Checked;
 use block::MacroblockTextureContext;
 use macroblock::MacroblockHeader;
-use neighbours::Recorded;
 
 // 11, 12, 14, 15.
 fn check_first(
@@ -67,17 +66,10 @@ pub(crate) fn check_state(
         Checked::Bad(e) => Checked::Bad(e),
         Checked::Fine => {
             let place = crate::ring::place_of(p, ctx.quantiser_scale);
-            let mut own = [0i32; 91];
-            let begun = neighbours::new_record(ctx.quantiser_scale, &mut own);
-            match begun {
-                Recorded::Refused(_) => Checked::Bad(BlockAssemblyError::Context),
-                Recorded::Done => {
-                    if !neighbours::neighbours_fine(store, &own, place) {
-                        return Checked::Bad(BlockAssemblyError::Predictor);
-                    }
-                    macroblock::check_header(header)
-                }
+            if !neighbours::stored_fine(store, place) {
+                return Checked::Bad(BlockAssemblyError::Predictor);
             }
+            macroblock::check_header(header)
         }
     }
 }

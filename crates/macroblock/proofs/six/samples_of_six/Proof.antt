@@ -1,72 +1,58 @@
--- `macroblock::six::samples_of_six` meets its contract: block after block, none refused. Assumes nothing.
-use mathlib.Core.List.{[]}
-use mathlib.Core.Path.{_≡_, ap, refl, _∙_}
+-- `macroblock::six::samples_of_six` meets its contract: block after block into the samples, none refused. Assumes nothing.
+use mathlib.Core.Path.{_≡_, ap, refl, sym, _∙_}
 use Prim.Native.Nat.{ℕ, _-_, _≤_}
 use native.Mathlib.Omega.{arith}
 use borrow.Author.Needs.{needs}
 use denote.Ref.{now}
-use lib.ListN.{getD, length, length-set}
-use Rattle.numbers.proofs.Fill.{build-eq, cells-all, cells-more, cells-none, is-build, part}
-use Rattle.codes.specs.Component.{componentAt}
-use Rattle.block.proofs.RebuildLaws.{kept-fine, tests-pass}
-use Rattle.block.specs.Answer.{firstBad}
-use Rattle.block.specs.Rebuilt.{dcHere, rebuildTests, rebuiltBy, valuesHere}
-use Rattle.block.specs.Values.{samplesOf}
-use Rattle.block.specs.declared.error.Checked.{Checked}
-use Rattle.block.specs.declared.error.Checked.the-variants.{Fine}
-use Rattle.block.specs.declared.reconstruct.BlockRebuilt.the-variants.{Rebuilt}
-use Rattle.macroblock.proofs.SixLaws.{samples-six-at}
-use Rattle.macroblock.specs.Six.{samplesOfSix}
+use lib.ListN.{length}
+use Rattle.samples.proofs.TurnLaws.{block-length, turn-none}
+use Rattle.samples.specs.Samples.{blocksAfter}
+use Rattle.macroblock.proofs.SixLaws.{all-below-end, all-six, one-more}
+use Rattle.macroblock.specs.Six.{samplesOfSix, valuesOfSix}
 use Rattle.macroblock.proofs.six.samples_of_six.Statement.{statement}
 use Rattle.macroblock.proofs.six.samples_of_six.Tie as tie
 
 abbrev Inv-loop : tie.InvT-loop
-Inv-loop ctx predictors w out₀ rows qf₀ i₀ out qf i =
-    (i ≤ 6) × (length out ≡ 6)
-    × (out ≡ part 6 (λ (k : ℕ). samplesOf ctx (valuesHere (componentAt k) ctx predictors w (getD rows k []))) (λ (k : ℕ). getD out₀ k []) i)
+Inv-loop rows ctx predictors w samples₀ ends i₀ samples i =
+    (i ≤ 6) × (length samples ≡ length samples₀) × (samples ≡ blocksAfter i (samplesOfSix ctx (valuesOfSix ctx predictors w rows)) samples₀)
 
 abbrev μ-loop : tie.MeasureT-loop
-μ-loop ctx predictors w out₀ rows qf₀ i₀ out qf i = 6 - i
-
--- the tests of the block that is due pass
-passed : (c : tie.After-reconstruct-block Inv-loop μ-loop) → let a = c .before .before .before .before .before .before .args in let i = c .before .before .before .before .before .loop .i in
-    firstBad (rebuildTests i (a .ctx) (a .predictors) (a .w) (getD (a .t1) i [])) ≡ Fine
-passed c =
-    let s = c .before .before .before .before .before .before in
-    let a = s .args in
-    let l = c .before .before .before .before .before .loop in
-    let t = c .before .before .before .before .loop-test .taken in
-    tests-pass (l .i) (a .ctx) (a .predictors) (a .w) (getD (a .t1) (l .i) []) t (s .pre .1) (s .pre .2) (s .pre .3 (l .i) t)
+μ-loop rows ctx predictors w samples₀ ends i₀ samples i = 6 - i
 
 loop-holds : tie.Need-loop-holds Inv-loop μ-loop
-loop-holds c = (omega arith, c .pre .0, cells-none 6 _ _ _ (is-build [] (now (c .args .out)) 6 _ (c .pre .0) (λ i l. refl)))
+loop-holds c = (omega arith, refl, sym (turn-none _ _))
 
-mul-qfs : tie.Need-mul-qfs Inv-loop μ-loop
-mul-qfs c = omega arith
+mul-block-into : tie.Need-mul-block-into Inv-loop μ-loop
+mul-block-into c = omega arith
 
-array-copy-out-qfs : tie.Need-array-copy-out-qfs Inv-loop μ-loop
-array-copy-out-qfs c = omega arith
+index-1-block-into : tie.Need-index-1-block-into Inv-loop μ-loop
+index-1-block-into c = omega arith
 
-mul-reconstruct-block : tie.Need-mul-reconstruct-block Inv-loop μ-loop
-mul-reconstruct-block c = omega arith
+mul-block-into-2 : tie.Need-mul-block-into-2 Inv-loop μ-loop
+mul-block-into-2 c = omega arith
 
-index-1-reconstruct-block : tie.Need-index-1-reconstruct-block Inv-loop μ-loop
-index-1-reconstruct-block c = omega arith
+array-read-block-into : tie.Need-array-read-block-into Inv-loop μ-loop
+array-read-block-into c = omega arith
 
-reconstruct-block-requires : tie.Need-reconstruct-block-requires Inv-loop μ-loop
-reconstruct-block-requires c κs = search needs
+block-into-requires : tie.Need-block-into-requires Inv-loop μ-loop
+block-into-requires c κs =
+    let l = c .before .before .before .before .loop in
+    let t = c .before .before .before .loop-test .taken in
+    let s = c .before .before .before .before .before in
+    let p = s .pre in
+    let row = p .4 (l .i) t in
+    (t, omega (arith, p .0, l .inv .1), p .1, p .2, row .0, all-below-end (now (s .args .rows)) (s .args .t2) (l .i) (p .3) (row .1))
 
 enum-known-one : tie.Need-enum-known-one Inv-loop μ-loop
 enum-known-one c = search needs
 
+same-length : tie.Need-same-length Inv-loop μ-loop
+same-length c = search needs
+
 returns : tie.Need-returns Inv-loop μ-loop
 returns c =
-    let b = c .before .before .before in
-    let a = b .before .before .before .before .before .before .args in
-    let i = b .before .before .before .before .before .loop .i in
     let t = c .before .one .given .1 in
-    let u : b .reconstruct-block .result ≡ Rebuilt (dcHere (componentAt i) (a .ctx) (a .predictors) (a .w) (getD (a .t1) i [])) =
-    b .reconstruct-block .ensures .0 ∙ ap (λ (k : Checked). rebuiltBy k (dcHere (componentAt i) (a .ctx) (a .predictors) (a .w) (getD (a .t1) i []))) (passed b) in
+    let u = c .before .before .before .before .block-into .ensures .0 in
     let z : _≡_ {A = ℕ} 0 1 = cc in
     absurd (omega arith)
 
@@ -81,21 +67,26 @@ loop-less c = omega arith
 
 loop-again : tie.Need-loop-again Inv-loop μ-loop
 loop-again c =
-    let b = c .before .before in
+    let b = c .before .before .before in
     let l = b .before .before .before .before .before .loop in
-    let t = b .before .before .before .before .loop-test .taken in (
+    let t = b .before .before .before .before .loop-test .taken in
+    let s = b .before .before .before .before .before .before in
+    let a = s .args in
+    let e = b .block-into .ensures .1 in (
       omega arith,
-      length-set (l .out) (l .i) _ ∙ l .inv .1,
-      cells-more 6 _ _ [] (l .out) (l .i) _ t (l .inv .2)
-          (b .reconstruct-block .ensures .1 .0 ∙ kept-fine _ _ (passed b)),
+      ap length e ∙ block-length (l .i) _ (l .samples) ∙ l .inv .1,
+      e ∙ one-more (a .ctx) (a .predictors) (a .w) (now (a .rows)) (l .i) (now (a .samples)) (l .samples) (s .pre .0) (l .inv .2) t,
     )
 
+same-length-2 : tie.Need-same-length-2 Inv-loop μ-loop
+same-length-2 c = c .before .loop .inv .1
+
 returns-2 : tie.Need-returns-2 Inv-loop μ-loop
-unfolding samplesOfSix
 returns-2 c =
     let l = c .before .loop in
-    let a = c .before .before .args in
-    (refl, cells-all 6 _ _ (l .out) (l .i) (omega arith) (l .inv .0) (l .inv .2) ∙ build-eq 6 _ _ (λ i h. samples-six-at (a .ctx) (a .predictors) (a .w) (a .t1) i h))
+    let s = c .before .before in
+    let a = s .args in
+    (refl, all-six (a .ctx) (a .predictors) (a .w) (now (a .rows)) (l .i) (now (a .samples)) (l .samples) (s .pre .0) (l .inv .2) (omega arith))
 
 pub samples-of-six-spec : {M : Type 1} → statement M
 samples-of-six-spec =
@@ -104,15 +95,17 @@ samples-of-six-spec =
     Inv-loop
     μ-loop
     loop-holds
-    mul-qfs
-    array-copy-out-qfs
-    mul-reconstruct-block
-    index-1-reconstruct-block
-    reconstruct-block-requires
+    mul-block-into
+    index-1-block-into
+    mul-block-into-2
+    array-read-block-into
+    block-into-requires
     enum-known-one
+    same-length
     returns
     enum-told
     add-i
     loop-less
     loop-again
+    same-length-2
     returns-2)

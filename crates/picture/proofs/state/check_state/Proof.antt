@@ -1,16 +1,11 @@
 -- `picture::state::check_state` meets its contract: the first tests, then 13, 9 and 10. Assumes nothing.
 use mathlib.Core.Bool.{false, true}
-use mathlib.Core.Path.{_≡_, ap, sym, _∙_}
-use Prim.Native.Nat.{ℕ}
+use mathlib.Core.Path.{sym, _∙_}
 use native.Mathlib.Omega.{arith}
 use borrow.Author.Needs.{needs}
 use denote.Ref.{now}
 use lib.ListN.{length}
 use Rattle.numbers.proofs.Tests.{flag-passes, flag-refuses}
-use Rattle.block.proofs.ValueLaws.{quantiser-fine}
-use Rattle.neighbours.proofs.RecordLaws.{blank-length}
-use Rattle.neighbours.proofs.RefusalLaws.{handed-out, quantiser-passes}
-use Rattle.neighbours.specs.Record.{blank}
 use Rattle.picture.proofs.StateLaws.{FirstFine, first-fine, neighbours-by, state-after, state-bad}
 use Rattle.picture.specs.Ring.{aroundDue}
 use Rattle.picture.proofs.state.check_state.Statement.{statement}
@@ -21,13 +16,6 @@ ready : (k : tie.After-enum-told) → let a = k .before .before .before .before 
 ready k =
     let a = k .before .before .before .before .args in
     first-fine (a .p) (now (a .«data»)) (a .c .«bit_pos») (a .ctx) (a .w) (a .room) (length (now (a .store))) (sym (k .before .before .check-first .ensures) ∙ k .enum-told .given .1)
-
--- so the new record is one
-passed : (n : tie.After-new-record) → let k = n .before .before .before in let a = k .before .before .before .before .args in n .new-record .last .1 .0 ≡ blank (a .ctx .«quantiser_scale»)
-passed n =
-    let k = n .before .before .before in
-    let a = k .before .before .before .before .args in
-    n .new-record .ensures .0 .1 ∙ handed-out _ _ (quantiser-passes (a .ctx .«quantiser_scale») (quantiser-fine (a .ctx) (a .w) (ready k .context)))
 
 check-first-requires : tie.Need-check-first-requires
 check-first-requires c κs = search needs
@@ -41,31 +29,18 @@ enum-told c = search needs
 place-of-requires : tie.Need-place-of-requires
 place-of-requires c κs = let f = ready c in (f .size .w-low, f .size .w-high, omega (arith, f .size .cells, f .due))
 
-new-record-requires : tie.Need-new-record-requires
-new-record-requires c κs = search needs
-
-enum-told-2 : tie.Need-enum-told-2
-enum-told-2 c = search needs
-
-enum-told-3 : tie.Need-enum-told-3
-enum-told-3 c = search needs
-
-slice-aggregate-neighbours-fine : tie.Need-slice-aggregate-neighbours-fine
-slice-aggregate-neighbours-fine c = sym (ap length (passed (c .before .before .before)) ∙ blank-length _)
-
-neighbours-fine-requires : tie.Need-neighbours-fine-requires
-neighbours-fine-requires c κs = search needs
+stored-fine-requires : tie.Need-stored-fine-requires
+stored-fine-requires c κs = search needs
 
 returns : tie.Need-returns
 returns c =
     let n = c .before in
-    let r = n .before .before .before .before in
-    let o = r .before .before in
+    let o = n .before in
     let k = o .before in
     let a = k .before .before .before .before .args in
     sym (state-after (a .p) (now (a .«data»)) (a .c .«bit_pos») (a .ctx) (a .w) (a .room) (length (now (a .store))) (a .header) (aroundDue (a .p) (a .ctx .«quantiser_scale») (now (a .store))) false
     (sym (k .before .before .check-first .ensures) ∙ k .enum-told .given .1)
-    (flag-refuses (neighbours-by (a .p) (a .ctx .«quantiser_scale») (now (a .store)) _ _ _ (o .place-of .ensures) (passed r) (n .neighbours-fine .ensures)) (c .if1 .taken)))
+    (flag-refuses (neighbours-by (a .p) (a .ctx .«quantiser_scale») (now (a .store)) _ _ (o .place-of .ensures) (n .stored-fine .ensures)) (c .if1 .taken)))
 
 check-header-requires : tie.Need-check-header-requires
 check-header-requires c κs = search needs
@@ -78,24 +53,13 @@ returns-2 c =
 returns-3 : tie.Need-returns-3
 returns-3 c =
     let n = c .before .before in
-    let k = n .before .before .before in
-    let a = k .before .before .before .before .args in
-    let t = c .enum-told2 .given .1 in
-    let u = n .new-record .ensures .0 .0 ∙ quantiser-passes (a .ctx .«quantiser_scale») (quantiser-fine (a .ctx) (a .w) (ready k .context)) in
-    let z : _≡_ {A = ℕ} 0 1 = cc in
-    absurd (omega arith)
-
-returns-4 : tie.Need-returns-4
-returns-4 c =
-    let n = c .before .before in
-    let r = n .before .before .before .before in
-    let o = r .before .before in
+    let o = n .before in
     let k = o .before in
     let a = k .before .before .before .before .args in
     c .check-header .ensures .0
     ∙ sym (state-after (a .p) (now (a .«data»)) (a .c .«bit_pos») (a .ctx) (a .w) (a .room) (length (now (a .store))) (a .header) (aroundDue (a .p) (a .ctx .«quantiser_scale») (now (a .store))) true
     (sym (k .before .before .check-first .ensures) ∙ k .enum-told .given .1)
-    (flag-passes (neighbours-by (a .p) (a .ctx .«quantiser_scale») (now (a .store)) _ _ _ (o .place-of .ensures) (passed r) (n .neighbours-fine .ensures)) (c .before .if1 .left)))
+    (flag-passes (neighbours-by (a .p) (a .ctx .«quantiser_scale») (now (a .store)) _ _ (o .place-of .ensures) (n .stored-fine .ensures)) (c .before .if1 .left)))
 
 pub check-state-spec : {M : Type 1} → statement M
 check-state-spec =
@@ -105,13 +69,8 @@ check-state-spec =
     enum-known-first
     enum-told
     place-of-requires
-    new-record-requires
-    enum-told-2
-    enum-told-3
-    slice-aggregate-neighbours-fine
-    neighbours-fine-requires
+    stored-fine-requires
     returns
     check-header-requires
     returns-2
-    returns-3
-    returns-4)
+    returns-3)
