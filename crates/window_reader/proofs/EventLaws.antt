@@ -1,13 +1,13 @@
 -- Events that windows settle: a row and its sign, alone or after an escape, and the fields of a type 3 escape. Assumes nothing.
-use mathlib.Core.Bool.{Bool, false, true, cond}
-use mathlib.Core.List.{List, [], _∷_, _++_, append-assoc}
-use mathlib.Core.Path.{_≡_, refl, sym, ap, ap₂, subst, _∙_}
-use Prim.Native.Nat.{ℕ, _+_, _-_, _*_, _/_, _%_, _^_, _≤_, _<_}
+use mathlib.Core.Bool.{Bool, cond}
+use mathlib.Core.List.{List, _++_, append-assoc}
+use mathlib.Core.Path.{_≡_, sym, ap, ap₂, subst, _∙_}
+use Prim.Native.Nat.{ℕ, _+_, _*_, _/_, _%_, _≤_}
 use native.Mathlib.Nat.{add-zero, mod-lt}
 use native.Mathlib.Omega.{arith}
 use lib.Dec.{eqb, leb}
 use lib.IntN.{ℤ}
-use lib.ListN.{drop, getD, length, length-append, take}
+use lib.ListN.{getD, length, length-append, take}
 use lib.Pow.{pow-pos}
 use lib.Seq.{take-add}
 use Rattle.bits.proofs.AheadLaws.{field-bits, two-fields, window-begins, window-length}
@@ -18,11 +18,10 @@ use Rattle.codes.proofs.FirstBitsLaws.{intraRow, lmax-by, rmax-by, row-small}
 use Rattle.codes.specs.FirstBits.{lmaxRows, rmaxRows}
 use Rattle.codes.specs.Tcoef.{tcoefIntra, vlcCodes, vlcLens}
 use Rattle.codes.specs.Tcoef as T
-use Rattle.codes.specs.declared.tcoef_tables.TcoefTable.the-variants.{Intra}
-use Rattle.texture.specs.Event.{Event, GoodEvent, _▸_, escape, eventBits, lastNumber, levelOf, plain, runOf, signed12, signedBy, type1, type2, type3, valueOf, vlcBits}
+use Rattle.texture.specs.Event.{GoodEvent, _▸_, escape, eventBits, lastNumber, levelOf, plain, runOf, signed12, signedBy, type1, type2, type3, vlcBits}
 use Rattle.texture.specs.declared.event.AcEvent.{AcEvent}
 use Rattle.window_reader.proofs.SymbolLaws.{let-through}
-use Rattle.window_reader.specs.Told.{EventSettled, EventTold, RowTold, eventOf}
+use Rattle.window_reader.specs.Told.{EventSettled, EventTold, RowTold}
 use Rattle.window_reader.specs.declared.symbol.EventAt.{EventAt}
 use Rattle.window_reader.specs.declared.symbol.RowAt.{RowAt}
 
