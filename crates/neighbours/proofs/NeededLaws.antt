@@ -2,12 +2,12 @@
 use mathlib.Core.Bool.{Bool, true, false, cond, _&&_}
 use mathlib.Core.List.{List}
 use mathlib.Core.Path.{_≡_, refl, ap, sym, _∙_}
-use Prim.Native.Nat.{ℕ}
+use Prim.Native.Nat.{ℕ, _+_, _*_, _<_}
 use native.Mathlib.Omega.{arith}
 use borrow.Author.Tests.{ne-eqb}
 use lib.Dec.{eqb}
 use lib.IntN.{ℤ, natAbs, negsuc, pos}
-use lib.ListN.{replicate}
+use lib.ListN.{getD, replicate}
 use mir.Syntax.{w32}
 use mir.Val.{SFits, ofZ}
 use Rattle.numbers.proofs.Words.{zero-abs}
@@ -22,8 +22,11 @@ use Rattle.coefficients.specs.declared.refusal.Direction.the-variants.{Is, Refu
 use Rattle.coefficients.specs.declared.scan.DcPredictionDirection.{DcPredictionDirection}
 use Rattle.coefficients.specs.declared.scan.DcPredictionDirection.the-variants.{FromAbove, FromLeft}
 use Rattle.ranges.specs.Range.{dcFine}
-use Rattle.neighbours.specs.Neighbours.{Around, aSource, aBlock, bSource, bBlock, cSource, cBlock, predictors, sideOf}
+use Rattle.neighbours.specs.Neighbours.{Around, aSource, aBlock, bSource, bBlock, cSource, cBlock, found, predictors, sided, sideOf}
+use Rattle.neighbours.specs.Record.{knownOf, missingOf, quantiserOf, recordAt, sevenFrom}
+use Rattle.neighbours.specs.Sides.{columnOf, rowOf}
 use Rattle.neighbours.specs.declared.record.Side.{Side}
+use Rattle.neighbours.proofs.RecordLaws.{record-at, record-seven}
 
 -- ---- a value that is 0, by its bits
 
@@ -50,35 +53,71 @@ dcsBy q a b c =
       «c_first_row» = replicate 7 (pos 0);
     }
 
--- with a column, and whether it has some value
-abbrev pub columnBy : BlockPredictors → Side → Bool → BlockPredictors
-columnBy d s some =
+-- with a quantiser and a column, and whether it has some value
+abbrev pub columnBy : BlockPredictors → ℕ → Bool → List ℤ → BlockPredictors
+columnBy d qp some values =
     record {
       «fa_dc» = d .«fa_dc»;
       «fb_dc» = d .«fb_dc»;
       «fc_dc» = d .«fc_dc»;
-      «qp_a» = s .qp;
+      «qp_a» = qp;
       «qp_c» = d .«qp_c»;
-      «a_has_column» = s .has && some;
-      «a_first_column» = s .column;
+      «a_has_column» = some;
+      «a_first_column» = values;
       «c_has_row» = d .«c_has_row»;
       «c_first_row» = d .«c_first_row»;
     }
 
 -- with a row
-abbrev pub rowBy : BlockPredictors → Side → Bool → BlockPredictors
-rowBy d s some =
+abbrev pub rowBy : BlockPredictors → ℕ → Bool → List ℤ → BlockPredictors
+rowBy d qp some values =
     record {
       «fa_dc» = d .«fa_dc»;
       «fb_dc» = d .«fb_dc»;
       «fc_dc» = d .«fc_dc»;
       «qp_a» = d .«qp_a»;
-      «qp_c» = s .qp;
+      «qp_c» = qp;
       «a_has_column» = d .«a_has_column»;
       «a_first_column» = d .«a_first_column»;
-      «c_has_row» = s .has && some;
-      «c_first_row» = s .row;
+      «c_has_row» = some;
+      «c_first_row» = values;
     }
+
+-- block b of the record at a place: its quantiser and column
+pub column-read : (s : List ℤ) (at b : ℕ) (d : BlockPredictors) {qp : ℕ} {some : Bool} {values : List ℤ}
+    → b < 6
+    → qp ≡ quantiserOf (getD s (at + 90) (pos 0))
+    → some ≡ someValue values
+    → values ≡ sevenFrom s (at + 15 * b + 8)
+    → columnBy d qp some values ≡ columnOf d (knownOf (recordAt s at) b)
+column-read s at b d h e f g =
+    let e′ = e ∙ ap quantiserOf (sym (record-at s at 90 (omega arith))) in
+    let k : at + 15 * b + 8 ≡ at + (15 * b + 8) = omega arith in
+    let g′ = g ∙ ap (sevenFrom s) k ∙ sym (record-seven s at (15 * b + 8) (omega arith)) in
+    let f′ = f ∙ ap someValue g′ in
+    λ j. columnBy d (e′ j) (f′ j) (g′ j)
+
+-- its quantiser and row
+pub row-read : (s : List ℤ) (at b : ℕ) (d : BlockPredictors) {qp : ℕ} {some : Bool} {values : List ℤ}
+    → b < 6
+    → qp ≡ quantiserOf (getD s (at + 90) (pos 0))
+    → some ≡ someValue values
+    → values ≡ sevenFrom s (at + 15 * b + 1)
+    → rowBy d qp some values ≡ rowOf d (knownOf (recordAt s at) b)
+row-read s at b d h e f g =
+    let e′ = e ∙ ap quantiserOf (sym (record-at s at 90 (omega arith))) in
+    let k : at + 15 * b + 1 ≡ at + (15 * b + 1) = omega arith in
+    let g′ = g ∙ ap (sevenFrom s) k ∙ sym (record-seven s at (15 * b + 1) (omega arith)) in
+    let f′ = f ∙ ap someValue g′ in
+    λ j. rowBy d (e′ j) (f′ j) (g′ j)
+
+-- a record that is there, and one that is missing
+module _ (depth q : ℕ) (r : List ℤ) (b : ℕ) {has : Bool} where
+  pub there : has ≡ true → knownOf r b ≡ sided depth q (found has r) b
+  there e = rw e
+
+  pub not-there : has ≡ false → missingOf depth q ≡ sided depth q (found has r) b
+  not-there e = rw e
 
 module _ (depth q : ℕ) (ar : Around) (own : List ℤ) (i : ℕ) where
   pub dcs-are : {a b c : ℤ}
@@ -89,21 +128,32 @@ module _ (depth q : ℕ) (ar : Around) (own : List ℤ) (i : ℕ) where
   unfolding predictors
   dcs-are e f g = λ j. dcsBy q (e j) (f j) (g j)
 
-  pub left-is : {d : BlockPredictors} {s : Side} {some : Bool}
+  pub left-is : {d : BlockPredictors} {s : Side}
       → d ≡ dcsOnly q (predictors depth q ar own i)
       → s ≡ sideOf depth q ar own (aSource i) (aBlock i)
-      → some ≡ someValue (s .column)
-      → columnBy d s some ≡ withSide q (predictors depth q ar own i) FromLeft
+      → columnOf d s ≡ withSide q (predictors depth q ar own i) FromLeft
   unfolding predictors
-  left-is e f g = let h = g ∙ ap (λ (s : Side). someValue (s .column)) f in λ j. columnBy (e j) (f j) (h j)
+  left-is e f = λ j. columnOf (e j) (f j)
 
-  pub above-is : {d : BlockPredictors} {s : Side} {some : Bool}
+  -- a missing one changes nothing
+  pub left-missing : {d : BlockPredictors}
+      → d ≡ dcsOnly q (predictors depth q ar own i)
+      → missingOf depth q ≡ sideOf depth q ar own (aSource i) (aBlock i)
+      → d ≡ withSide q (predictors depth q ar own i) FromLeft
+  left-missing e f = e ∙ left-is refl f
+
+  pub above-is : {d : BlockPredictors} {s : Side}
       → d ≡ dcsOnly q (predictors depth q ar own i)
       → s ≡ sideOf depth q ar own (cSource i) (cBlock i)
-      → some ≡ someValue (s .row)
-      → rowBy d s some ≡ withSide q (predictors depth q ar own i) FromAbove
+      → rowOf d s ≡ withSide q (predictors depth q ar own i) FromAbove
   unfolding predictors
-  above-is e f g = let h = g ∙ ap (λ (s : Side). someValue (s .row)) f in λ j. rowBy (e j) (f j) (h j)
+  above-is e f = λ j. rowOf (e j) (f j)
+
+  pub above-missing : {d : BlockPredictors}
+      → d ≡ dcsOnly q (predictors depth q ar own i)
+      → missingOf depth q ≡ sideOf depth q ar own (cSource i) (cBlock i)
+      → d ≡ withSide q (predictors depth q ar own i) FromAbove
+  above-missing e f = e ∙ above-is refl f
 
 -- ---- which of them is needed
 

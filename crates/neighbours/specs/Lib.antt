@@ -3,3 +3,4 @@ pub mod Record
 pub mod Neighbours
 pub mod Refusals
 pub mod Stored
+pub mod Sides

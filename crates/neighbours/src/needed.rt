@@ -1,14 +1,16 @@
 // A short way to what a block takes: the three DCs, and with AC prediction the values of the side that the DCs choose.
 ghost use mathlib.Core.Path.{_≡_};
-ghost use Prim.Native.Nat.{_<_};
+ghost use Prim.Native.Nat.{_<_, _≤_};
 ghost use lib.ListN.{length};
 ghost use Rattle.coefficients.specs.Needed.{dcsOnly, neededOf, someValue, withSide};
 ghost use Rattle.coefficients.specs.Prediction.{outsideOf};
 ghost use Rattle.coefficients.specs.declared.scan.DcPredictionDirection.the-variants.{FromAbove, FromLeft};
-ghost use Rattle.neighbours.specs.Record.{recordAt};
+ghost use Rattle.neighbours.specs.Record.{knownOf, recordAt};
 ghost use Rattle.neighbours.specs.Neighbours.{aroundBy, predictors};
+ghost use Rattle.neighbours.specs.Sides.{columnOf, rowOf};
 ghost use Rattle.neighbours.specs.Refusals.{firstBad, recordedOutcome, takenDue, takenTests, unless};
 use crate::place::Place;
+use crate::place::Source;
 use crate::predictors::Taken;
 use crate::refusal::Recorded;
 use coefficients::BlockPredictors;
@@ -66,7 +68,37 @@ fn dcs_taken(store: &[i32], own: &[i32], p: Place, i: usize) -> BlockPredictors
     }
 }
 
-// With the column of A.
+// With the column of block `b` of the record at `at`.
+fn left_at(s: &[i32], at: usize, b: usize, dcs: BlockPredictors) -> BlockPredictors
+    requires { ⌜ (at ≤ 4294967296) × (b < 6) ⌝ }
+    ensures { λ r. ⌜ r ≡ columnOf dcs (knownOf (recordAt (now (s .entry)) at) b) ⌝ }
+{
+    let column = crate::record::seven(s, at + 15 * b + 8);
+    let some = some_value(column);
+    let qp = crate::record::quantiser(crate::record::number(s, at + 90));
+    let mut out = dcs;
+    out.qp_a = qp;
+    out.a_has_column = some;
+    out.a_first_column = column;
+    out
+}
+
+// With the row of it.
+fn above_at(s: &[i32], at: usize, b: usize, dcs: BlockPredictors) -> BlockPredictors
+    requires { ⌜ (at ≤ 4294967296) × (b < 6) ⌝ }
+    ensures { λ r. ⌜ r ≡ rowOf dcs (knownOf (recordAt (now (s .entry)) at) b) ⌝ }
+{
+    let row = crate::record::seven(s, at + 15 * b + 1);
+    let some = some_value(row);
+    let qp = crate::record::quantiser(crate::record::number(s, at + 90));
+    let mut out = dcs;
+    out.qp_c = qp;
+    out.c_has_row = some;
+    out.c_first_row = row;
+    out
+}
+
+// With the column of A; a missing neighbour has none, and the present quantiser.
 fn with_left(
     store: &[i32],
     own: &[i32],
@@ -77,20 +109,32 @@ fn with_left(
     requires { ⌜ (i < 6) × (dcs ≡ dcsOnly (p .«quantiser_scale») (predictors (p .«bits_per_pixel») (p .«quantiser_scale») (aroundBy p (now store)) (recordAt (now own) 0) i)) ⌝ }
     ensures { λ r. ⌜ r ≡ withSide (p .«quantiser_scale») (predictors (p .«bits_per_pixel») (p .«quantiser_scale») (aroundBy p (now (store .entry))) (recordAt (now (own .entry)) 0) i) FromLeft ⌝ }
 {
-    let side = crate::predictors::neighbour(
-        store,
-        own,
-        p,
-        crate::place::a_source(i),
-        crate::place::a_block(i),
-    );
-    let column = side.column;
-    let some = some_value(column);
-    let mut out = dcs;
-    out.qp_a = side.qp;
-    out.a_has_column = side.has & some;
-    out.a_first_column = column;
-    out
+    let b = crate::place::a_block(i);
+    let source = crate::place::a_source(i);
+    match source {
+        Source::Own => left_at(own, 0, b, dcs),
+        Source::Left => {
+            if p.has_left {
+                left_at(store, p.left as usize, b, dcs)
+            } else {
+                dcs
+            }
+        }
+        Source::AboveLeft => {
+            if p.has_above_left {
+                left_at(store, p.above_left as usize, b, dcs)
+            } else {
+                dcs
+            }
+        }
+        Source::Above => {
+            if p.has_above {
+                left_at(store, p.above as usize, b, dcs)
+            } else {
+                dcs
+            }
+        }
+    }
 }
 
 // With the row of C.
@@ -104,20 +148,32 @@ fn with_above(
     requires { ⌜ (i < 6) × (dcs ≡ dcsOnly (p .«quantiser_scale») (predictors (p .«bits_per_pixel») (p .«quantiser_scale») (aroundBy p (now store)) (recordAt (now own) 0) i)) ⌝ }
     ensures { λ r. ⌜ r ≡ withSide (p .«quantiser_scale») (predictors (p .«bits_per_pixel») (p .«quantiser_scale») (aroundBy p (now (store .entry))) (recordAt (now (own .entry)) 0) i) FromAbove ⌝ }
 {
-    let side = crate::predictors::neighbour(
-        store,
-        own,
-        p,
-        crate::place::c_source(i),
-        crate::place::c_block(i),
-    );
-    let row = side.row;
-    let some = some_value(row);
-    let mut out = dcs;
-    out.qp_c = side.qp;
-    out.c_has_row = side.has & some;
-    out.c_first_row = row;
-    out
+    let b = crate::place::c_block(i);
+    let source = crate::place::c_source(i);
+    match source {
+        Source::Own => above_at(own, 0, b, dcs),
+        Source::Left => {
+            if p.has_left {
+                above_at(store, p.left as usize, b, dcs)
+            } else {
+                dcs
+            }
+        }
+        Source::AboveLeft => {
+            if p.has_above_left {
+                above_at(store, p.above_left as usize, b, dcs)
+            } else {
+                dcs
+            }
+        }
+        Source::Above => {
+            if p.has_above {
+                above_at(store, p.above as usize, b, dcs)
+            } else {
+                dcs
+            }
+        }
+    }
 }
 
 // What is needed of that which block `i` of six takes; all of it where the DCs are not in range.

@@ -15,7 +15,7 @@ use crate::refusal::Recorded;
 use coefficients::BlockPredictors;
 
 // Block `b` of a source.
-pub(crate) fn neighbour(store: &[i32], own: &[i32], p: Place, source: Source, b: usize) -> Side
+fn neighbour(store: &[i32], own: &[i32], p: Place, source: Source, b: usize) -> Side
     requires { ⌜ b < 6 ⌝ }
     ensures { λ r. ⌜ r ≡ sideOf (p .«bits_per_pixel») (p .«quantiser_scale») (aroundBy p (now (store .entry))) (recordAt (now (own .entry)) 0) source b ⌝ }
 {

@@ -18,7 +18,7 @@ pub struct Side {
     pub column: [i32; 7],
 }
 
-fn quantiser(z: i32) -> u32
+pub(crate) fn quantiser(z: i32) -> u32
     ensures { λ r. ⌜ r ≡ quantiserOf z ⌝ }
 {
     if z < 0 {
@@ -28,7 +28,7 @@ fn quantiser(z: i32) -> u32
 }
 
 // A number of the store, 0 past its end: the one function that reads one.
-fn number(s: &[i32], at: usize) -> i32
+pub(crate) fn number(s: &[i32], at: usize) -> i32
     ensures { λ r. ⌜ r ≡ getD (now (s .entry)) at (pos 0) ⌝ }
 {
     if at < s.len() {
@@ -38,7 +38,7 @@ fn number(s: &[i32], at: usize) -> i32
 }
 
 // The seven numbers from `at` on, 0 past the store's end; all at once where they are there.
-fn seven(s: &[i32], at: usize) -> [i32; 7]
+pub(crate) fn seven(s: &[i32], at: usize) -> [i32; 7]
     requires { ⌜ at ≤ 8589934592 ⌝ }
     ensures { λ r. ⌜ r ≡ sevenFrom (now (s .entry)) at ⌝ }
 {
