@@ -1,10 +1,9 @@
 -- One test for a block: the greatest distance from a whole number is well within a half only if each distance is. Assumes nothing.
 use mathlib.Core.Bool.{Bool, true, false, cond}
 use mathlib.Core.List.{List}
-use mathlib.Core.Logic.{⊎-elim}
+use mathlib.Core.Logic.{_⊎_, ⊎-elim}
 use mathlib.Core.Path.{_≡_, refl, sym, ap, _∙_, subst}
-use Prim.Native.Nat.{ℕ, _+_, _*_, _<_}
-use native.Mathlib.Nat.{eq-or-lt-of-le}
+use Prim.Native.Nat.{ℕ, _*_, _<_}
 use native.Mathlib.Omega.{arith}
 use lib.Ieee.{Float, nan, fin, binary64, lt, mul, neg, ofBits, sub, toSigned}
 use lib.Ieee.Bits.{is-true}
@@ -25,7 +24,7 @@ use Rattle.idct.specs.ShortWays.{Castable, Roundable, Sure, greaterF, ne
 use Rattle.idct.specs.declared.rounding.HalfIntegerRounding.{HalfIntegerRounding}
 use Rattle.idct.proofs.Floors.{cast-fine, near-size}
 use Rattle.idct.proofs.Loops.{zero-bits}
-use Rattle.idct.proofs.Settled.{gap, settled, well-is}
+use Rattle.idct.proofs.Settled.{gap, well-is}
 
 abbrev Finite : Float → Type 0
 Finite x = (v : ℤ) × Is x v
@@ -92,24 +91,24 @@ module _ (a b : Float) (f : Finite a) (g : Finite b) where
           let q = lt-is a wellWithin (f .0) (pos (576390383559245824 * grain)) (f .1) well-is h in
           (h, is-true (lt b wellWithin) (lt-shown b wellWithin (g .0) (pos (576390383559245824 * grain)) (g .1) well-is (omega arith)))
 
--- ---- a block: the rows below k are done
+-- ---- a block: the rows with D are done
 
-pub record Cleared (value : ℕ → ℕ → Float) (k : ℕ) (worst : List Float) : Type 0 where
+pub record Cleared (value : ℕ → ℕ → Float) (D : ℕ → Type 0) (worst : List Float) : Type 0 where
   pub long : length worst ≡ 8
   pub finite : (x : ℕ) → x < 8 → Finite (getD worst x nan)
-  pub sure : (x : ℕ) → x < 8 → lt (getD worst x nan) wellWithin ≡ true → (y : ℕ) → y < k → Sure (value y x)
+  pub sure : (x : ℕ) → x < 8 → lt (getD worst x nan) wellWithin ≡ true → (y : ℕ) → D y → Sure (value y x)
 
-module _ (value : ℕ → ℕ → Float) where
-  pub cleared-none : (worst : List Float) → worst ≡ build 8 (λ (x : ℕ). ofBits binary64 0) → Cleared value 0 worst
-  cleared-none worst e =
+module _ (value : ℕ → ℕ → Float) (D : ℕ → Type 0) where
+  pub cleared-none : (worst : List Float) → ((y : ℕ) → D y → ⊥) → worst ≡ build 8 (λ (x : ℕ). ofBits binary64 0) → Cleared value D worst
+  cleared-none worst n e =
       record {
         long = ap length e ∙ length-build 8 (λ (x : ℕ). ofBits binary64 0);
         finite = λ x q. (pos 0, subst (λ (z : Float). Is z (pos 0)) (sym (ap (λ (l : List Float). getD l x nan) e ∙ getD-build 8 (λ (x : ℕ). ofBits binary64 0) x nan q ∙ zero-bits)) zero-is);
-        sure = λ x q h y p. absurd (omega arith);
+        sure = λ x q h y p. absurd (n y p);
       }
 
   -- one more row
-  module _ (k : ℕ) (worst sums near far : List Float) (c : Cleared value k worst) (b : (x : ℕ) → x < 8 → Roundable (value k x)) (s : (x : ℕ) → x < 8 → mul binary64 half (getD sums x nan) ≡ value k x)
+  module _ (k : ℕ) (worst sums near far : List Float) (D′ : ℕ → Type 0) (t : (y : ℕ) → D′ y → (y ≡ k) ⊎ D y) (c : Cleared value D worst) (b : (x : ℕ) → x < 8 → Roundable (value k x)) (s : (x : ℕ) → x < 8 → mul binary64 half (getD sums x nan) ≡ value k x)
       (n : near ≡ build 8 (λ (x : ℕ). nearF (mul binary64 half (getD sums x nan))))
       (e : far ≡ build 8 (λ (x : ℕ). greaterF (getD worst x nan) (magF (sub binary64 (mul binary64 half (getD sums x nan)) (getD near x nan)))))
     where
@@ -130,12 +129,12 @@ module _ (value : ℕ → ℕ → Float) where
           ∙ getD-build 8 (λ (x : ℕ). greaterF (getD worst x nan) (magF (sub binary64 (mul binary64 half (getD sums x nan)) (getD near x nan)))) x nan q
           ∙ ap (λ (z : Float). greaterF (getD worst x nan) z) (distance-is x q)
 
-      sure-more : (x : ℕ) → x < 8 → lt (getD far x nan) wellWithin ≡ true → (y : ℕ) → y < k + 1 → Sure (value y x)
+      sure-more : (x : ℕ) → x < 8 → lt (getD far x nan) wellWithin ≡ true → (y : ℕ) → D′ y → Sure (value y x)
       sure-more x q h y p =
           let w = greater-within (getD worst x nan) (distance x) (c .finite x q) (distance-finite x q) (ap (λ (z : Float). lt z wellWithin) (sym (far-is x q)) ∙ h) in
-          ⊎-elim (λ (z : y ≡ k). subst (λ (i : ℕ). Sure (value i x)) (sym z) (settled (value k x) (b x q) (w .1))) (λ (z : y < k). c .sure x q (w .0) y z) (eq-or-lt-of-le (omega arith))
+          ⊎-elim (λ (z : y ≡ k). subst (λ (i : ℕ). Sure (value i x)) (sym z) (w .1)) (λ (z : D y). c .sure x q (w .0) y z) (t y p)
 
-      pub cleared-more : Cleared value (k + 1) far
+      pub cleared-more : Cleared value D′ far
       cleared-more =
           record {
             long = ap length e ∙ length-build 8 (λ (x : ℕ). greaterF (getD worst x nan) (magF (sub binary64 (mul binary64 half (getD sums x nan)) (getD near x nan))));
@@ -143,13 +142,9 @@ module _ (value : ℕ → ℕ → Float) where
             sure = sure-more;
           }
 
-  -- two more, as the loop counts them
-  pub cleared-two : (p : ℕ) (worst : List Float) → Cleared value (2 * p + 1 + 1) worst → Cleared value (2 * (p + 1)) worst
-  cleared-two p worst c = subst (λ (k : ℕ). Cleared value k worst) (omega arith) c
-
   -- the test
-  pub cleared-all : (k : ℕ) (worst : List Float) (r : Bool) → Cleared value k worst → r ≡ every (λ (w : Float). lt w wellWithin) worst → r ≡ true → (y x : ℕ) → y < k → x < 8 → Sure (value y x)
-  cleared-all k worst r c e t y x p q = c .sure x q (go (lt (getD worst x nan) wellWithin) refl) y p
+  pub cleared-all : (worst : List Float) (r : Bool) → Cleared value D worst → r ≡ every (λ (w : Float). lt w wellWithin) worst → r ≡ true → (y x : ℕ) → D y → x < 8 → Sure (value y x)
+  cleared-all worst r c e t y x p q = c .sure x q (go (lt (getD worst x nan) wellWithin) refl) y p
     where
       go : (b : Bool) → lt (getD worst x nan) wellWithin ≡ b → b ≡ true
       go true g = refl

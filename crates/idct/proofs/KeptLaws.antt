@@ -24,7 +24,7 @@ use Rattle.f64_error.specs.Series.{half, seriesF}
 use Rattle.idct.specs.Cosines.{cF, cosF}
 use Rattle.idct.specs.Exact.{Modest}
 use Rattle.idct.specs.Rounding.{wholeOf}
-use Rattle.idct.specs.ShortWays.{Kept, Roundable, Sure, Told, cellF, halfOfKept, isZero, nearZ, rowAt, rowTerms, samplesIn, sumOfKept, sumOfRows}
+use Rattle.idct.specs.ShortWays.{Kept, Roundable, Told, cellF, halfOfKept, isZero, rowAt, rowTerms, samplesIn, sumOfKept, sumOfRows}
 use Rattle.idct.specs.Transform.{computed, whole}
 use Rattle.idct.specs.declared.rounding.HalfIntegerRounding.{HalfIntegerRounding}
 use Rattle.idct.specs.declared.short.KeptRows.{KeptRows}
@@ -146,7 +146,7 @@ module _ (l : List (List ℤ)) (terms : List (List Float)) (which : List ℕ) (n
   pub halves-bounded : Modest l → (y x : ℕ) → y < 8 → x < 8 → Roundable (halfOfKept terms which n y x)
   halves-bounded m y x p q = subst Roundable (sym (halves-are y x p q)) (bounded l m y x p q)
 
-  -- the samples: by the rule, or by near numbers that are the rule's
+  -- the samples by the rule
   pub ruled-are : (m : HalfIntegerRounding) (hi top : ℤ) (out : List (List ℤ)) → hi ≡ top → out ≡ block (λ (y x : ℕ). clampZ (wholeOf m (halfOfKept terms which n y x)) (pos 0) hi) → out ≡ samplesIn m (pos 0) top l
   unfolding whole
   ruled-are m hi top out h e =
@@ -154,14 +154,6 @@ module _ (l : List (List ℤ)) (terms : List (List Float)) (which : List ℕ) (n
       ∙ block-eq (λ (y x : ℕ). clampZ (wholeOf m (halfOfKept terms which n y x)) (pos 0) hi) (λ (y x : ℕ). clampZ (wholeOf m (computed l y x)) (pos 0) hi)
       (λ (y x : ℕ) (p : y < 8) (q : x < 8). ap (λ (z : Float). clampZ (wholeOf m z) (pos 0) hi) (halves-are y x p q))
       ∙ (λ i. samplesIn m (pos 0) (h i) l)
-
-  pub near-are : (m : HalfIntegerRounding) (hi top : ℤ) (out : List (List ℤ)) → hi ≡ top → out ≡ block (λ (y x : ℕ). clampZ (nearZ (halfOfKept terms which n y x)) (pos 0) hi)
-      → ((y x : ℕ) → y < 8 → x < 8 → Sure (halfOfKept terms which n y x)) → out ≡ samplesIn m (pos 0) top l
-  near-are m hi top out h e s =
-      ruled-are m hi top out h
-      (e
-      ∙ block-eq (λ (y x : ℕ). clampZ (nearZ (halfOfKept terms which n y x)) (pos 0) hi) (λ (y x : ℕ). clampZ (wholeOf m (halfOfKept terms which n y x)) (pos 0) hi)
-      (λ (y x : ℕ) (p : y < 8) (q : x < 8). ap (λ (z : ℤ). clampZ z (pos 0) hi) (sym (s y x p q m))))
 
 -- ---- what the answer of the first pass tells
 

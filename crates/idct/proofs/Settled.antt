@@ -1,4 +1,4 @@
--- A whole number that is well within a half of x is the whole number of x, under either rule. Assumes nothing.
+-- A whole number that is well within a half of x is the whole number of x, and of any f64 beside it, under either rule. Assumes nothing.
 use mathlib.Core.Bool.{Bool, true, false, cond}
 use mathlib.Core.Path.{_≡_, refl, sym, subst}
 use Prim.Native.Nat.{_+_, _*_, _^_, _≤_, _<_}
@@ -69,17 +69,22 @@ module _ (x : Float) (h : Roundable x) where
           let m = lt-is d wellWithin (taken .0) (pos (576390383559245824 * grain)) (taken .1) well-is g in
           omega arith
 
+  -- the whole number of another f64 that is within 2 ^ -28 of x
+  module _ (c : Float) (k : Roundable c) (over : up v + dn (k .v) ≤ dn v + up (k .v) + 2 ^ 32 * grain) (under : dn v + up (k .v) ≤ up v + dn (k .v) + 2 ^ 32 * grain) where
+    pub settled-beside : lt (magF d) wellWithin ≡ true → (m : HalfIntegerRounding) → wholeOf m c ≡ nearZ x
+    settled-beside q m =
+        let o = rounded-near c k (floorZ c) refl m in
+        let e = is-unique c (o .v) (k .v) (o .is) (k .is) in
+        let s = small q in
+        let s1 = s .0 in
+        let s2 = s .1 in
+        let g = taken .2 in
+        let j = add-is v (negℤ (t *ℤ pos one)) in
+        let n = wholeOf m c in
+        one-whole n t (k .v) (subst (λ (z : ℤ). up n * one + dn z ≤ dn n * one + up z + (2 ^ 59 + 12066085959) * grain) e (o .over))
+        (subst (λ (z : ℤ). dn n * one + up z ≤ up n * one + dn z + (2 ^ 59 + 12066085959) * grain) e (o .under))
+        (omega (arith, g .over, g .under, neg-up (t *ℤ pos one), neg-dn (t *ℤ pos one), times-up t one, times-dn t one))
+        (omega (arith, g .over, g .under, neg-up (t *ℤ pos one), neg-dn (t *ℤ pos one), times-up t one, times-dn t one))
+
   pub settled : lt (magF d) wellWithin ≡ true → (m : HalfIntegerRounding) → wholeOf m x ≡ nearZ x
-  settled q m =
-      let o = rounded-near x h (floorZ x) refl m in
-      let e = is-unique x (o .v) v (o .is) (h .is) in
-      let s = small q in
-      let s1 = s .0 in
-      let s2 = s .1 in
-      let c = taken .2 in
-      let k = add-is v (negℤ (t *ℤ pos one)) in
-      let n = wholeOf m x in
-      one-whole n t v (subst (λ (z : ℤ). up n * one + dn z ≤ dn n * one + up z + (2 ^ 59 + 12066085959) * grain) e (o .over))
-      (subst (λ (z : ℤ). dn n * one + up z ≤ up n * one + dn z + (2 ^ 59 + 12066085959) * grain) e (o .under))
-      (omega (arith, c .over, c .under, neg-up (t *ℤ pos one), neg-dn (t *ℤ pos one), times-up t one, times-dn t one))
-      (omega (arith, c .over, c .under, neg-up (t *ℤ pos one), neg-dn (t *ℤ pos one), times-up t one, times-dn t one))
+  settled = settled-beside x h (omega arith) (omega arith)

@@ -13,8 +13,8 @@ use Rattle.numbers.specs.Limit.{clampZ}
 use Rattle.ranges.specs.Range.{within}
 use Rattle.f64_error.specs.Series.{half, pass, seriesF}
 use Rattle.f64_error.specs.Units.{one, Bounded}
+use Rattle.f64_error.specs.Wholes.{magF}
 use Rattle.idct.specs.Cosines.{cF, cosF}
-use Rattle.idct.specs.Rounding.{wholeOf}
 use Rattle.idct.specs.Transform.{whole}
 use Rattle.idct.specs.declared.rounding.HalfIntegerRounding.{HalfIntegerRounding}
 use Rattle.idct.specs.declared.short.KeptRows.{KeptRows}
@@ -41,9 +41,9 @@ Castable x = T (inSigned binary64 31 x) × (natAbs (toSigned 31 x) ≤ 1048576)
 abbrev pub wellWithin : Float
 wellWithin = ofBits binary64 4602677719661019136
 
--- no rule gives another whole number than the near one
+-- the near number is well within a half, so that no rule gives another one
 abbrev pub Sure : Float → Type 0
-Sure x = (m : HalfIntegerRounding) → wholeOf m x ≡ nearZ x
+Sure x = lt (magF (sub binary64 x (nearF x))) wellWithin ≡ true
 
 -- the greater, as `if a < b { b } else { a }` has it
 abbrev pub greaterF : Float → Float → Float

@@ -1,9 +1,10 @@
-// A short way to the samples 0..=hi: the second pass gives two rows at a time, each value to the nearest
-// whole number, and one test for the block tells whether the rule is to be asked.
+// A short way to the samples 0..=hi: both passes add the terms of even and of odd places apart, since a
+// place and its mirror 7 - x have the same cosines but for the sign of the odd ones. Each value goes to
+// the nearest whole number, and one test for the block tells whether the rule is to be asked.
 ghost use mathlib.Core.Bool.{cond, true};
 ghost use mathlib.Core.Path.{_≡_};
 ghost use Prim.Native.Nat.{ℕ, _+_, _≤_, _<_};
-ghost use lib.Ieee.{Float, nan, binary64, lt, mul, sub, toSigned};
+ghost use lib.Ieee.{Float, nan, add, binary64, lt, mul, sub, toSigned};
 ghost use lib.IntN.{pos};
 ghost use lib.ListN.{getD, length};
 ghost use Rattle.numbers.specs.Every.{every};
@@ -13,9 +14,11 @@ ghost use Rattle.ranges.specs.Range.{within};
 ghost use Rattle.f64_error.specs.Series.{half};
 ghost use Rattle.f64_error.specs.Wholes.{magF};
 ghost use Rattle.idct.specs.Cosines.{cosF};
+ghost use Rattle.idct.specs.EvenOdd.{ToldHalf, bothAt, halfOfBoth, halfSum, pairedAt};
 ghost use Rattle.idct.specs.Exact.{Modest};
 ghost use Rattle.idct.specs.Rounding.{wholeOf};
 ghost use Rattle.idct.specs.ShortWays.{Castable, Roundable, Sure, Told, greaterF, halfOfKept, isZero, nearF, nearZ, samplesIn, sumOfKept, wellWithin};
+use crate::cosines::c;
 use crate::limits::row_within;
 use crate::rounding::HalfIntegerRounding;
 use crate::rounding::SHIFT;
@@ -93,6 +96,78 @@ fn settled(worst: [f64; 8]) -> bool
     fine
 }
 
+// Each sum, and each difference.
+fn plus(a: [f64; 8], b: [f64; 8]) -> [f64; 8]
+    ensures { λ r. ⌜ r ≡ build 8 (λ (x : ℕ). add binary64 (getD a x nan) (getD b x nan)) ⌝ }
+{
+    let mut out = [0.0f64; 8];
+    for x in 0..8 {
+        out[x] = a[x] + b[x];
+    }
+    out
+}
+
+fn minus(a: [f64; 8], b: [f64; 8]) -> [f64; 8]
+    ensures { λ r. ⌜ r ≡ build 8 (λ (x : ℕ). sub binary64 (getD a x nan) (getD b x nan)) ⌝ }
+{
+    let mut out = [0.0f64; 8];
+    for x in 0..8 {
+        out[x] = a[x] - b[x];
+    }
+    out
+}
+
+// A term added at each x below 4: f times the cosine there.
+fn four_terms(sums: [f64; 4], f: f64, cosines: [f64; 8]) -> [f64; 4]
+    ensures { λ r. ⌜ r ≡ build 4 (λ (x : ℕ). add binary64 (getD sums x nan) (mul binary64 f (getD cosines x nan))) ⌝ }
+{
+    let mut out = [0.0f64; 4];
+    for x in 0..4 {
+        out[x] = sums[x] + f * cosines[x];
+    }
+    out
+}
+
+// The sums of the terms of a row at u = 2k + p.
+fn half_sums(row: [i32; 8], p: usize, table: &[[f64; 8]; 8]) -> [f64; 4]
+    requires { ⌜ (now table ≡ block cosF) × (p < 2) ⌝ }
+    ensures { λ r. ⌜ r ≡ build 4 (halfSum row p 4) ⌝ }
+{
+    let mut sums = [0.0f64; 4];
+    for k in 0..4 {
+        let u = 2 * k + p;
+        let f = c(u) * (row[u] as f64);
+        let cosines = table[u];
+        let more = four_terms(sums, f, cosines);
+        sums = more;
+    }
+    sums
+}
+
+// Half of the sums of both at x below 4, and of their differences at 7 - x, times s.
+fn both_terms(e: [f64; 4], o: [f64; 4], s: f64) -> [f64; 8]
+    ensures { λ r. ⌜ r ≡ build 8 (λ (x : ℕ). mul binary64 s (mul binary64 half (bothAt (λ (i : ℕ). getD e i nan) (λ (i : ℕ). getD o i nan) x))) ⌝ }
+{
+    let mut out = [0.0f64; 8];
+    for x in 0..4 {
+        out[x] = s * (0.5 * (e[x] + o[x]));
+    }
+    for x in 4..8 {
+        out[x] = s * (0.5 * (e[7 - x] - o[7 - x]));
+    }
+    out
+}
+
+// Row v transformed by its even and its odd terms, each value times C(v).
+fn paired_terms(row: [i32; 8], v: usize, table: &[[f64; 8]; 8]) -> [f64; 8]
+    requires { ⌜ now table ≡ block cosF ⌝ }
+    ensures { λ r. ⌜ r ≡ build 8 (pairedAt row v) ⌝ }
+{
+    let e = half_sums(row, 0, table);
+    let o = half_sums(row, 1, table);
+    both_terms(e, o, c(v))
+}
+
 // ---- blocks
 
 // How many rows are kept: those with a value that is not zero.
@@ -122,6 +197,64 @@ fn kept_rows(
                 return KeptRows::OutOfLimits;
             }
             let more = row_terms(row, v, table);
+            terms[n] = more;
+            which[n] = v;
+            n += 1;
+        }
+    }
+    KeptRows::Are(n)
+}
+
+// The same for the even rows, by their even and odd terms.
+fn even_rows(
+    f: &[[i32; 8]; 8],
+    table: &[[f64; 8]; 8],
+    least: i32,
+    most: i32,
+    terms: &mut [[f64; 8]; 4],
+    which: &mut [usize; 4],
+) -> KeptRows
+    requires { ⌜ (now table ≡ block cosF) × (length (now f) ≡ 8) × (length (now terms) ≡ 4) × (length (now which) ≡ 4) × (within least most (pos 0) ≡ true) ⌝ }
+    ensures { λ r. ⌜ ToldHalf 0 (now (f .entry)) least most (now (terms .exit)) (now (which .exit)) r ⌝ }
+{
+    let mut n: usize = 0;
+    for k in 0..4 {
+        let v = 2 * k;
+        let row = f[v];
+        if !zero_row(row) {
+            if !row_within(row, least, most) {
+                return KeptRows::OutOfLimits;
+            }
+            let more = paired_terms(row, v, table);
+            terms[n] = more;
+            which[n] = v;
+            n += 1;
+        }
+    }
+    KeptRows::Are(n)
+}
+
+// The same for the odd rows.
+fn odd_rows(
+    f: &[[i32; 8]; 8],
+    table: &[[f64; 8]; 8],
+    least: i32,
+    most: i32,
+    terms: &mut [[f64; 8]; 4],
+    which: &mut [usize; 4],
+) -> KeptRows
+    requires { ⌜ (now table ≡ block cosF) × (length (now f) ≡ 8) × (length (now terms) ≡ 4) × (length (now which) ≡ 4) × (within least most (pos 0) ≡ true) ⌝ }
+    ensures { λ r. ⌜ ToldHalf 1 (now (f .entry)) least most (now (terms .exit)) (now (which .exit)) r ⌝ }
+{
+    let mut n: usize = 0;
+    for k in 0..4 {
+        let v = 2 * k + 1;
+        let row = f[v];
+        if !zero_row(row) {
+            if !row_within(row, least, most) {
+                return KeptRows::OutOfLimits;
+            }
+            let more = paired_terms(row, v, table);
             terms[n] = more;
             which[n] = v;
             n += 1;
@@ -160,33 +293,57 @@ fn two_rows(
     TwoRows { sums, more }
 }
 
+// The sums of the second pass at y, over the rows that are kept of a half.
+fn sums_of(
+    terms: &[[f64; 8]; 4],
+    which: &[usize; 4],
+    n: usize,
+    table: &[[f64; 8]; 8],
+    y: usize,
+) -> [f64; 8]
+    requires { ⌜ (now table ≡ block cosF) × (n ≤ 4) × (y < 8) × ((j : ℕ) → j < n → getD (now which) j 0 < 8) ⌝ }
+    ensures { λ r. ⌜ r ≡ build 8 (sumOfKept (now (terms .entry)) (now (which .entry)) n y) ⌝ }
+{
+    let mut sums = [0.0f64; 8];
+    for j in 0..n {
+        let t = terms[j];
+        let v = which[j];
+        let added = add_row(sums, t, table[v][y]);
+        sums = added;
+    }
+    sums
+}
+
 // The samples by the nearest whole numbers, and whether these are the rule's. `out` is made anew, two
-// rows a turn.
+// rows a turn: row y from the sum of both halves, row 7 - y from the difference.
 fn near_samples(
-    terms: &[[f64; 8]; 8],
-    which: &[usize; 8],
+    evens: &[[f64; 8]; 4],
+    even: &[usize; 4],
+    m: usize,
+    odds: &[[f64; 8]; 4],
+    odd: &[usize; 4],
     n: usize,
     table: &[[f64; 8]; 8],
     hi: i32,
     out: &mut [[i32; 8]; 8],
 ) -> bool
-    requires { ⌜ (now table ≡ block cosF) × (n ≤ 8) × ((j : ℕ) → j < n → getD (now which) j 0 < 8) × ((y x : ℕ) → y < 8 → x < 8 → Roundable (halfOfKept (now terms) (now which) n y x)) ⌝ }
-    ensures { λ r. ⌜ now (out .exit) ≡ block (λ (y x : ℕ). clampZ (nearZ (halfOfKept (now (terms .entry)) (now (which .entry)) n y x)) (pos 0) hi) ⌝ }
-    ensures sure { λ r. ⌜ (r ≡ true → (y x : ℕ) → y < 8 → x < 8 → Sure (halfOfKept (now (terms .entry)) (now (which .entry)) n y x)) ⌝ }
+    requires { ⌜ (now table ≡ block cosF) × (m ≤ 4) × (n ≤ 4) × ((j : ℕ) → j < m → getD (now even) j 0 < 8) × ((j : ℕ) → j < n → getD (now odd) j 0 < 8) × ((y x : ℕ) → y < 8 → x < 8 → Roundable (halfOfBoth (now evens) (now even) m (now odds) (now odd) n y x)) ⌝ }
+    ensures { λ r. ⌜ now (out .exit) ≡ block (λ (y x : ℕ). clampZ (nearZ (halfOfBoth (now (evens .entry)) (now (even .entry)) m (now (odds .entry)) (now (odd .entry)) n y x)) (pos 0) hi) ⌝ }
+    ensures sure { λ r. ⌜ (r ≡ true → (y x : ℕ) → y < 8 → x < 8 → Sure (halfOfBoth (now (evens .entry)) (now (even .entry)) m (now (odds .entry)) (now (odd .entry)) n y x)) ⌝ }
 {
     *out = [[0i32; 8]; 8];
     let mut worst = [0.0f64; 8];
-    for p in 0..4 {
-        let y = 2 * p;
-        let pair = two_rows(terms, which, n, table, y);
-        let sums = pair.sums;
+    for y in 0..4 {
+        let e = sums_of(evens, even, m, table, y);
+        let o = sums_of(odds, odd, n, table, y);
+        let sums = plus(e, o);
         let near = near_row(sums);
         let far = farther(worst, sums, near);
         out[y] = clipped_row(near, hi);
-        let more = pair.more;
+        let more = minus(e, o);
         let next = near_row(more);
         worst = farther(far, more, next);
-        out[y + 1] = clipped_row(next, hi);
+        out[7 - y] = clipped_row(next, hi);
     }
     settled(worst)
 }
@@ -215,8 +372,8 @@ fn ruled(
     }
 }
 
-// Both passes of `f`, whose samples go into `out`; or false where a value is outside least..=most.
-pub(crate) fn transform(
+// Both passes of `f` by the rule, one row after another.
+fn slow(
     f: &[[i32; 8]; 8],
     table: &[[f64; 8]; 8],
     hi: i32,
@@ -233,10 +390,41 @@ pub(crate) fn transform(
     match kept_rows(f, table, least, most, &mut terms, &mut which) {
         KeptRows::OutOfLimits => false,
         KeptRows::Are(n) => {
-            if !near_samples(&terms, &which, n, table, hi, out) {
-                ruled(&terms, &which, n, table, hi, rounding, out);
-            }
+            ruled(&terms, &which, n, table, hi, rounding, out);
             true
+        }
+    }
+}
+
+// Both passes of `f`, whose samples go into `out`; or false where a value is outside least..=most.
+pub(crate) fn transform(
+    f: &[[i32; 8]; 8],
+    table: &[[f64; 8]; 8],
+    hi: i32,
+    rounding: HalfIntegerRounding,
+    least: i32,
+    most: i32,
+    out: &mut [[i32; 8]; 8],
+) -> bool
+    requires { ⌜ (now table ≡ block cosF) × (length (now f) ≡ 8) × (within least most (pos 0) ≡ true) × (every (every (within least most)) (now f) ≡ true → Modest (now f)) ⌝ }
+    ensures { λ r. ⌜ (r ≡ every (every (within least most)) (now (f .entry))) × (now (out .exit) ≡ cond r (samplesIn rounding (pos 0) hi (now (f .entry))) (now (out .entry))) ⌝ }
+{
+    let mut evens = [[0.0f64; 8]; 4];
+    let mut even = [0usize; 4];
+    match even_rows(f, table, least, most, &mut evens, &mut even) {
+        KeptRows::OutOfLimits => false,
+        KeptRows::Are(m) => {
+            let mut odds = [[0.0f64; 8]; 4];
+            let mut odd = [0usize; 4];
+            match odd_rows(f, table, least, most, &mut odds, &mut odd) {
+                KeptRows::OutOfLimits => false,
+                KeptRows::Are(n) => {
+                    if near_samples(&evens, &even, m, &odds, &odd, n, table, hi, out) {
+                        return true;
+                    }
+                    slow(f, table, hi, rounding, least, most, out)
+                }
+            }
         }
     }
 }

@@ -1,47 +1,49 @@
--- `idct::short::near_samples` meets its contract, two rows a turn. Assumes nothing.
-use mathlib.Core.List.{List, []}
-use mathlib.Core.Path.{_≡_, refl, _∙_}
-use Prim.Native.Nat.{ℕ, _+_, _-_, _*_, _≤_, _<_}
+-- `idct::short::near_samples` meets its contract, a row and its mirror a turn. Assumes nothing.
+use mathlib.Core.List.{List}
+use mathlib.Core.Path.{refl, _∙_}
+use Prim.Native.Nat.{ℕ, _+_, _-_, _≤_, _<_}
 use native.Mathlib.Omega.{arith}
 use lib.Ieee.{Float}
 use lib.IntN.{ℤ, pos}
 use mir.Facts.{toZ-ofZ}
 use mir.Syntax.{w32}
 use mir.Val.{ofZ, toZ}
-use Rattle.numbers.proofs.Fill.{part, cells-none}
 use Rattle.numbers.specs.Grid.{build}
 use Rattle.numbers.specs.Limit.{clampZ}
-use Rattle.idct.specs.ShortWays.{halfOfKept, nearZ, sumOfKept}
-use Rattle.idct.proofs.Doubts.{Cleared, cleared-all, cleared-more, cleared-none, cleared-two, half-at, near-castable, near-clipped}
-use Rattle.idct.proofs.Pairs.{pair-more, pairs-all}
+use Rattle.idct.specs.EvenOdd.{halfOfBoth}
+use Rattle.idct.specs.ShortWays.{nearZ}
+use Rattle.idct.proofs.Doubts.{Cleared, cleared-all, cleared-more, cleared-none, half-at, near-castable, near-clipped}
+use Rattle.idct.proofs.EvenOddLaws.{Done, Rows, done-all, done-high, done-low, done-none, minus-is, plus-is, rows-all, rows-more, rows-none, sumOfBoth}
 use Rattle.idct.proofs.short.near_samples.Statement.{statement}
 use Rattle.idct.proofs.short.near_samples.Tie as tie
 
-abbrev z : ℕ → List ℤ
-z y = build 8 (λ (x : ℕ). pos 0)
-
-abbrev f : ℤ → List (List Float) → List ℕ → ℕ → ℕ → List ℤ
-f hi terms which n y = build 8 (λ (x : ℕ). clampZ (nearZ (halfOfKept terms which n y x)) (pos 0) hi)
+abbrev f : ℤ → List (List Float) → List ℕ → ℕ → List (List Float) → List ℕ → ℕ → ℕ → List ℤ
+f hi evens even m odds odd n y = build 8 (λ (x : ℕ). clampZ (nearZ (halfOfBoth evens even m odds odd n y x)) (pos 0) hi)
 
 abbrev Inv-loop : tie.InvT-loop
-Inv-loop terms which n table hi out₀ worst₀ p₀ out worst p = (p ≤ 4) × (out ≡ part 8 (f (toZ w32 hi) terms which n) z (2 * p)) × Cleared (halfOfKept terms which n) (2 * p) worst
+Inv-loop evens even m odds odd n table hi out₀ worst₀ y₀ out worst y = (y ≤ 4) × Rows (f (toZ w32 hi) evens even m odds odd n) (Done y y) out × Cleared (halfOfBoth evens even m odds odd n) (Done y y) worst
 
 abbrev μ-loop : tie.MeasureT-loop
-μ-loop terms which n table hi out₀ worst₀ p₀ out worst p = 4 - p
+μ-loop evens even m odds odd n table hi out₀ worst₀ y₀ out worst y = 4 - y
 
 loop-holds : tie.Need-loop-holds Inv-loop μ-loop
 unfolding build
 loop-holds c =
     let a = c .before .args in
-    (omega arith, cells-none 8 (f (toZ w32 (ofZ w32 (a .hi))) (a .terms .now) (a .which .now) (a .n)) z _ refl, cleared-none (halfOfKept (a .terms .now) (a .which .now) (a .n)) _ refl)
+    (omega arith, rows-none (f (toZ w32 (ofZ w32 (a .hi))) (a .evens .now) (a .even .now) (a .m) (a .odds .now) (a .odd .now) (a .n)) (Done 0 0) _ refl done-none, cleared-none (halfOfBoth (a .evens .now) (a .even .now) (a .m) (a .odds .now) (a .odd .now) (a .n)) (Done 0 0) _ done-none refl)
 
-mul-y : tie.Need-mul-y Inv-loop μ-loop
-mul-y c = omega arith
-
-two-rows-requires : tie.Need-two-rows-requires Inv-loop μ-loop
-two-rows-requires c κs =
+sums-of-requires : tie.Need-sums-of-requires Inv-loop μ-loop
+sums-of-requires c κs =
     let s = c .before .before .before in
-    (s .pre .0, s .pre .1, omega arith, s .pre .2)
+    (s .pre .0, s .pre .1, omega (arith, c .loop-test .taken), s .pre .3)
+
+sums-of-requires-2 : tie.Need-sums-of-requires-2 Inv-loop μ-loop
+sums-of-requires-2 c κs =
+    let s = c .before .before .before .before in
+    (s .pre .0, s .pre .2, omega (arith, c .before .loop-test .taken), s .pre .4)
+
+plus-requires : tie.Need-plus-requires Inv-loop μ-loop
+plus-requires c κs = tt
 
 near-row-requires : tie.Need-near-row-requires Inv-loop μ-loop
 near-row-requires c κs = tt
@@ -52,19 +54,25 @@ farther-requires c κs = tt
 clipped-row-requires : tie.Need-clipped-row-requires Inv-loop μ-loop
 clipped-row-requires c κs =
     let k = c .before in
-    let t = k .before .before in
-    let i = t .before in
+    let p = k .before in
+    let o = p .before in
+    let e = o .before in
+    let i = e .before in
     let s = i .before .before .before in
     let a = s .args in
-    let y = 2 * i .before .loop .p in
-    let h : y < 8 = omega (arith, i .loop-test .taken) in
-    near-castable (sumOfKept (a .terms .now) (a .which .now) (a .n) y) (t .two-rows .result .sums) (k .near-row .result) (t .two-rows .ensures .0) (k .near-row .ensures) (λ x q. s .pre .3 y x h q)
+    let y = i .before .loop .y in
+    let h = i .loop-test .taken in
+    let g : y < 8 = omega arith in
+    near-castable (sumOfBoth (a .evens .now) (a .even .now) (a .m) (a .odds .now) (a .odd .now) (a .n) y) (p .plus .result) (k .near-row .result) (plus-is (a .evens .now) (a .even .now) (a .m) (a .odds .now) (a .odd .now) (a .n) y h _ _ _ (e .sums-of .ensures) (o .sums-of2 .ensures) (p .plus .ensures)) (k .near-row .ensures) (λ x q. s .pre .5 y x g q)
 
 mul-out : tie.Need-mul-out Inv-loop μ-loop
 mul-out c = omega arith
 
 element-set-from-out : tie.Need-element-set-from-out Inv-loop μ-loop
 element-set-from-out c = omega arith
+
+minus-requires : tie.Need-minus-requires Inv-loop μ-loop
+minus-requires c κs = tt
 
 near-row-requires-2 : tie.Need-near-row-requires-2 Inv-loop μ-loop
 near-row-requires-2 c κs = tt
@@ -75,25 +83,28 @@ farther-requires-2 c κs = tt
 clipped-row-requires-2 : tie.Need-clipped-row-requires-2 Inv-loop μ-loop
 clipped-row-requires-2 c κs =
     let k = c .before in
-    let t = k .before .before .before .before .before .before in
-    let i = t .before in
+    let t = k .before in
+    let o = t .before .before .before .before .before in
+    let e = o .before in
+    let i = e .before in
     let s = i .before .before .before in
     let a = s .args in
-    let y = 2 * i .before .loop .p + 1 in
-    let h : y < 8 = omega (arith, i .loop-test .taken) in
-    near-castable (sumOfKept (a .terms .now) (a .which .now) (a .n) y) (t .two-rows .result .more) (k .near-row2 .result) (t .two-rows .ensures .1) (k .near-row2 .ensures) (λ x q. s .pre .3 y x h q)
+    let y = i .before .loop .y in
+    let h = i .loop-test .taken in
+    let g : 7 - y < 8 = omega arith in
+    near-castable (sumOfBoth (a .evens .now) (a .even .now) (a .m) (a .odds .now) (a .odd .now) (a .n) (7 - y)) (t .minus .result) (k .near-row2 .result) (minus-is (a .evens .now) (a .even .now) (a .m) (a .odds .now) (a .odd .now) (a .n) y h _ _ _ (e .sums-of .ensures) (o .sums-of2 .ensures) (t .minus .ensures)) (k .near-row2 .ensures) (λ x q. s .pre .5 (7 - y) x g q)
 
-add-t19 : tie.Need-add-t19 Inv-loop μ-loop
-add-t19 c = omega arith
+sub-t22 : tie.Need-sub-t22 Inv-loop μ-loop
+sub-t22 c = omega arith
 
-mul-t22 : tie.Need-mul-t22 Inv-loop μ-loop
-mul-t22 c = omega arith
+mul-t25 : tie.Need-mul-t25 Inv-loop μ-loop
+mul-t25 c = omega arith
 
 element-set-from-out-2 : tie.Need-element-set-from-out-2 Inv-loop μ-loop
 element-set-from-out-2 c = omega arith
 
-add-p : tie.Need-add-p Inv-loop μ-loop
-add-p c = omega arith
+add-y : tie.Need-add-y Inv-loop μ-loop
+add-y c = omega arith
 
 loop-less : tie.Need-loop-less Inv-loop μ-loop
 loop-less c = omega arith
@@ -102,34 +113,36 @@ loop-again : tie.Need-loop-again Inv-loop μ-loop
 loop-again c =
     let g = c .before in
     let m = g .before in
-    let e = m .before .before in
-    let d = e .before in
+    let t = m .before in
+    let b = t .before in
+    let d = b .before in
     let k = d .before in
-    let t = k .before .before in
-    let i = t .before in
+    let p = k .before in
+    let o = p .before in
+    let e = o .before in
+    let i = e .before in
     let l = i .before .loop in
     let s = i .before .before .before in
     let a = s .args in
     let hi = toZ w32 (ofZ w32 (a .hi)) in
-    let y = 2 * l .p in
-    let h : y < 8 = omega (arith, i .loop-test .taken) in
-    let j : y + 1 < 8 = omega (arith, i .loop-test .taken) in
-    let value = halfOfKept (a .terms .now) (a .which .now) (a .n) in
-    let sum = sumOfKept (a .terms .now) (a .which .now) (a .n) in
-    let sums = t .two-rows .result .sums in
-    let more = t .two-rows .result .more in
+    let y = l .y in
+    let h = i .loop-test .taken in
+    let low : y < 8 = omega arith in
+    let high : 7 - y < 8 = omega arith in
+    let value = halfOfBoth (a .evens .now) (a .even .now) (a .m) (a .odds .now) (a .odd .now) (a .n) in
+    let sum = sumOfBoth (a .evens .now) (a .even .now) (a .m) (a .odds .now) (a .odd .now) (a .n) in
+    let sums = p .plus .result in
+    let more = t .minus .result in
     let near = k .near-row in
     let next = m .near-row2 in
-    let one = t .two-rows .ensures .0 in
-    let two = t .two-rows .ensures .1 in
-    let first = cleared-more value y (l .worst) sums (near .result) (d .farther .result) (l .inv .2) (λ x q. s .pre .3 y x h q) (half-at (sum y) sums one) (near .ensures) (d .farther .ensures) in
-    let second = cleared-more value (y + 1) (d .farther .result) more (next .result) (g .farther2 .result) first (λ x q. s .pre .3 (y + 1) x j q) (half-at (sum (y + 1)) more two) (next .ensures) (g .farther2 .ensures) in (
-      omega arith,
-      pair-more (f hi (a .terms .now) (a .which .now) (a .n)) z [] (l .out) (l .p) (e .clipped-row .result) (c .clipped-row2 .result) (i .loop-test .taken) (l .inv .1)
-          (near-clipped (sum y) sums (near .result) one (near .ensures) hi (e .clipped-row .result) (e .clipped-row .ensures))
-          (near-clipped (sum (y + 1)) more (next .result) two (next .ensures) hi (c .clipped-row2 .result) (c .clipped-row2 .ensures)),
-      cleared-two value (l .p) (g .farther2 .result) second,
-    )
+    let one = plus-is (a .evens .now) (a .even .now) (a .m) (a .odds .now) (a .odd .now) (a .n) y h _ _ sums (e .sums-of .ensures) (o .sums-of2 .ensures) (p .plus .ensures) in
+    let two = minus-is (a .evens .now) (a .even .now) (a .m) (a .odds .now) (a .odd .now) (a .n) y h _ _ more (e .sums-of .ensures) (o .sums-of2 .ensures) (t .minus .ensures) in
+    let first = cleared-more value (Done y y) y (l .worst) sums (near .result) (d .farther .result) (Done (y + 1) y) (done-low y) (l .inv .2) (λ x q. s .pre .5 y x low q) (half-at (sum y) sums one) (near .ensures) (d .farther .ensures) in
+    let second = cleared-more value (Done (y + 1) y) (7 - y) (d .farther .result) more (next .result) (g .farther2 .result) (Done (y + 1) (y + 1)) (λ j. done-high y j h) first (λ x q. s .pre .5 (7 - y) x high q) (half-at (sum (7 - y)) more two) (next .ensures) (g .farther2 .ensures) in
+    let goal = f hi (a .evens .now) (a .even .now) (a .m) (a .odds .now) (a .odd .now) (a .n) in
+    let upper = rows-more goal (Done y y) (l .out) (Done (y + 1) y) y (b .clipped-row .result) low (near-clipped (sum y) sums (near .result) one (near .ensures) hi (b .clipped-row .result) (b .clipped-row .ensures)) (done-low y) (l .inv .1) in
+    let lower = rows-more goal (Done (y + 1) y) _ (Done (y + 1) (y + 1)) (7 - y) (c .clipped-row2 .result) high (near-clipped (sum (7 - y)) more (next .result) two (next .ensures) hi (c .clipped-row2 .result) (c .clipped-row2 .ensures)) (λ j. done-high y j h) upper in
+    (omega arith, lower, second)
 
 settled-requires : tie.Need-settled-requires Inv-loop μ-loop
 settled-requires c κs = tt
@@ -142,8 +155,8 @@ returns c =
     let a = s .args in
     let hi = toZ-ofZ {w = w32} {z = a .hi} (s .fits .hi) in
     let h = c .before .loop-test .left in (
-      pairs-all (f (toZ w32 (ofZ w32 (a .hi))) (a .terms .now) (a .which .now) (a .n)) z (l .out) (l .p) h (l .inv .0) (l .inv .1) ∙ (λ i. build 8 (f (hi i) (a .terms .now) (a .which .now) (a .n))),
-      λ e y x p q. cleared-all (halfOfKept (a .terms .now) (a .which .now) (a .n)) (2 * l .p) (l .worst) (c .settled .result) (l .inv .2) (c .settled .ensures) e y x (omega arith) q,
+      rows-all (f (toZ w32 (ofZ w32 (a .hi))) (a .evens .now) (a .even .now) (a .m) (a .odds .now) (a .odd .now) (a .n)) (Done (l .y) (l .y)) (l .out) (λ y p. done-all (l .y) y h p) (l .inv .1) ∙ (λ i. build 8 (f (hi i) (a .evens .now) (a .even .now) (a .m) (a .odds .now) (a .odd .now) (a .n))),
+      λ e y x p q. cleared-all (halfOfBoth (a .evens .now) (a .even .now) (a .m) (a .odds .now) (a .odd .now) (a .n)) (Done (l .y) (l .y)) (l .worst) (c .settled .result) (l .inv .2) (c .settled .ensures) e y x (done-all (l .y) y h p) q,
     )
 
 pub near-samples-spec : {M : Type 1} → statement M
@@ -153,20 +166,22 @@ near-samples-spec =
     Inv-loop
     μ-loop
     loop-holds
-    mul-y
-    two-rows-requires
+    sums-of-requires
+    sums-of-requires-2
+    plus-requires
     near-row-requires
     farther-requires
     clipped-row-requires
     mul-out
     element-set-from-out
+    minus-requires
     near-row-requires-2
     farther-requires-2
     clipped-row-requires-2
-    add-t19
-    mul-t22
+    sub-t22
+    mul-t25
     element-set-from-out-2
-    add-p
+    add-y
     loop-less
     loop-again
     settled-requires
