@@ -39,11 +39,11 @@ mag-finite x f = go (lt x (fin false 0 (pos 0)))
 -- ---- a row of sums
 
 module _ (sum : ℕ → Float) (sums : List Float) (s : sums ≡ build 8 sum) where
-  pub half-at : (x : ℕ) → x < 8 → mul binary64 half (getD sums x nan) ≡ mul binary64 half (sum x)
-  half-at x q = ap (mul binary64 half) (ap (λ (l : List Float). getD l x nan) s ∙ getD-build 8 sum x nan q)
+  pub sum-at : (x : ℕ) → x < 8 → getD sums x nan ≡ sum x
+  sum-at x q = ap (λ (l : List Float). getD l x nan) s ∙ getD-build 8 sum x nan q
 
   pub row-bounded : ((x : ℕ) → x < 8 → Roundable (mul binary64 half (sum x))) → (x : ℕ) → x < 8 → Roundable (mul binary64 half (getD sums x nan))
-  row-bounded b x q = subst Roundable (sym (half-at x q)) (b x q)
+  row-bounded b x q = subst (λ (z : Float). Roundable (mul binary64 half z)) (sym (sum-at x q)) (b x q)
 
   -- by the rule
   pub row-ruled : (m : HalfIntegerRounding) (hi : ℤ) (row : List ℤ) → row ≡ build 8 (λ (x : ℕ). clampZ (wholeOf m (mul binary64 half (getD sums x nan))) (pos 0) hi)
@@ -51,21 +51,21 @@ module _ (sum : ℕ → Float) (sums : List Float) (s : sums ≡ build 8 sum) wh
   row-ruled m hi row e =
       e
       ∙ build-eq 8 (λ (x : ℕ). clampZ (wholeOf m (mul binary64 half (getD sums x nan))) (pos 0) hi) (λ (x : ℕ). clampZ (wholeOf m (mul binary64 half (sum x))) (pos 0) hi)
-      (λ (x : ℕ) (q : x < 8). ap (λ (z : Float). clampZ (wholeOf m z) (pos 0) hi) (half-at x q))
+      (λ (x : ℕ) (q : x < 8). ap (λ (z : Float). clampZ (wholeOf m (mul binary64 half z)) (pos 0) hi) (sum-at x q))
 
 -- ---- the same, to near numbers
 
-module _ (sum : ℕ → Float) (sums near : List Float) (s : sums ≡ build 8 sum) (n : near ≡ build 8 (λ (x : ℕ). nearF (mul binary64 half (getD sums x nan)))) where
-  near-at : (x : ℕ) → x < 8 → getD near x nan ≡ nearF (mul binary64 half (sum x))
-  near-at x q = ap (λ (l : List Float). getD l x nan) n ∙ getD-build 8 (λ (x : ℕ). nearF (mul binary64 half (getD sums x nan))) x nan q ∙ ap nearF (half-at sum sums s x q)
+module _ (sum : ℕ → Float) (sums near : List Float) (s : sums ≡ build 8 sum) (n : near ≡ build 8 (λ (x : ℕ). nearF (getD sums x nan))) where
+  near-at : (x : ℕ) → x < 8 → getD near x nan ≡ nearF (sum x)
+  near-at x q = ap (λ (l : List Float). getD l x nan) n ∙ getD-build 8 (λ (x : ℕ). nearF (getD sums x nan)) x nan q ∙ ap nearF (sum-at sum sums s x q)
 
-  pub near-castable : ((x : ℕ) → x < 8 → Roundable (mul binary64 half (sum x))) → (x : ℕ) → x < 8 → Castable (getD near x nan)
-  near-castable b x q = subst Castable (sym (near-at x q)) (cast-fine (mul binary64 half (sum x)) (b x q), near-size (mul binary64 half (sum x)) (b x q))
+  pub near-castable : ((x : ℕ) → x < 8 → Roundable (sum x)) → (x : ℕ) → x < 8 → Castable (getD near x nan)
+  near-castable b x q = subst Castable (sym (near-at x q)) (cast-fine (sum x) (b x q), near-size (sum x) (b x q))
 
-  pub near-clipped : (hi : ℤ) (row : List ℤ) → row ≡ build 8 (λ (x : ℕ). clampZ (toSigned 31 (getD near x nan)) (pos 0) hi) → row ≡ build 8 (λ (x : ℕ). clampZ (nearZ (mul binary64 half (sum x))) (pos 0) hi)
+  pub near-clipped : (hi : ℤ) (row : List ℤ) → row ≡ build 8 (λ (x : ℕ). clampZ (toSigned 31 (getD near x nan)) (pos 0) hi) → row ≡ build 8 (λ (x : ℕ). clampZ (nearZ (sum x)) (pos 0) hi)
   near-clipped hi row e =
       e
-      ∙ build-eq 8 (λ (x : ℕ). clampZ (toSigned 31 (getD near x nan)) (pos 0) hi) (λ (x : ℕ). clampZ (nearZ (mul binary64 half (sum x))) (pos 0) hi)
+      ∙ build-eq 8 (λ (x : ℕ). clampZ (toSigned 31 (getD near x nan)) (pos 0) hi) (λ (x : ℕ). clampZ (nearZ (sum x)) (pos 0) hi)
       (λ (x : ℕ) (q : x < 8). ap (λ (z : Float). clampZ (toSigned 31 z) (pos 0) hi) (near-at x q))
 
 -- ---- the greater of two
@@ -108,16 +108,16 @@ module _ (value : ℕ → ℕ → Float) (D : ℕ → Type 0) where
       }
 
   -- one more row
-  module _ (k : ℕ) (worst sums near far : List Float) (D′ : ℕ → Type 0) (t : (y : ℕ) → D′ y → (y ≡ k) ⊎ D y) (c : Cleared value D worst) (b : (x : ℕ) → x < 8 → Roundable (value k x)) (s : (x : ℕ) → x < 8 → mul binary64 half (getD sums x nan) ≡ value k x)
-      (n : near ≡ build 8 (λ (x : ℕ). nearF (mul binary64 half (getD sums x nan))))
-      (e : far ≡ build 8 (λ (x : ℕ). greaterF (getD worst x nan) (magF (sub binary64 (mul binary64 half (getD sums x nan)) (getD near x nan)))))
+  module _ (k : ℕ) (worst sums near far : List Float) (D′ : ℕ → Type 0) (t : (y : ℕ) → D′ y → (y ≡ k) ⊎ D y) (c : Cleared value D worst) (b : (x : ℕ) → x < 8 → Roundable (value k x)) (s : (x : ℕ) → x < 8 → getD sums x nan ≡ value k x)
+      (n : near ≡ build 8 (λ (x : ℕ). nearF (getD sums x nan)))
+      (e : far ≡ build 8 (λ (x : ℕ). greaterF (getD worst x nan) (magF (sub binary64 (getD sums x nan) (getD near x nan)))))
     where
       abbrev distance : ℕ → Float
       distance x = magF (sub binary64 (value k x) (nearF (value k x)))
 
-      distance-is : (x : ℕ) → x < 8 → magF (sub binary64 (mul binary64 half (getD sums x nan)) (getD near x nan)) ≡ distance x
+      distance-is : (x : ℕ) → x < 8 → magF (sub binary64 (getD sums x nan) (getD near x nan)) ≡ distance x
       distance-is x q =
-          ap (λ (z : Float). magF (sub binary64 (mul binary64 half (getD sums x nan)) z)) (ap (λ (l : List Float). getD l x nan) n ∙ getD-build 8 (λ (x : ℕ). nearF (mul binary64 half (getD sums x nan))) x nan q)
+          ap (λ (z : Float). magF (sub binary64 (getD sums x nan) z)) (ap (λ (l : List Float). getD l x nan) n ∙ getD-build 8 (λ (x : ℕ). nearF (getD sums x nan)) x nan q)
           ∙ ap (λ (z : Float). magF (sub binary64 z (nearF z))) (s x q)
 
       distance-finite : (x : ℕ) → x < 8 → Finite (distance x)
@@ -126,7 +126,7 @@ module _ (value : ℕ → ℕ → Float) (D : ℕ → Type 0) where
       far-is : (x : ℕ) → x < 8 → getD far x nan ≡ greaterF (getD worst x nan) (distance x)
       far-is x q =
           ap (λ (l : List Float). getD l x nan) e
-          ∙ getD-build 8 (λ (x : ℕ). greaterF (getD worst x nan) (magF (sub binary64 (mul binary64 half (getD sums x nan)) (getD near x nan)))) x nan q
+          ∙ getD-build 8 (λ (x : ℕ). greaterF (getD worst x nan) (magF (sub binary64 (getD sums x nan) (getD near x nan)))) x nan q
           ∙ ap (λ (z : Float). greaterF (getD worst x nan) z) (distance-is x q)
 
       sure-more : (x : ℕ) → x < 8 → lt (getD far x nan) wellWithin ≡ true → (y : ℕ) → D′ y → Sure (value y x)
@@ -137,7 +137,7 @@ module _ (value : ℕ → ℕ → Float) (D : ℕ → Type 0) where
       pub cleared-more : Cleared value D′ far
       cleared-more =
           record {
-            long = ap length e ∙ length-build 8 (λ (x : ℕ). greaterF (getD worst x nan) (magF (sub binary64 (mul binary64 half (getD sums x nan)) (getD near x nan))));
+            long = ap length e ∙ length-build 8 (λ (x : ℕ). greaterF (getD worst x nan) (magF (sub binary64 (getD sums x nan) (getD near x nan))));
             finite = λ x q. subst Finite (sym (far-is x q)) (greater-finite (getD worst x nan) (distance x) (c .finite x q) (distance-finite x q));
             sure = sure-more;
           }

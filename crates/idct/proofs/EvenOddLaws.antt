@@ -18,9 +18,9 @@ use Rattle.numbers.proofs.Integers.{add-is, zarith}
 use Rattle.numbers.specs.Every.{every}
 use Rattle.numbers.specs.Grid.{build}
 use Rattle.ranges.specs.Range.{within}
-use Rattle.f64_error.specs.Series.{half, seriesF, seriesZ}
+use Rattle.f64_error.specs.Series.{seriesF, seriesZ}
 use Rattle.idct.specs.Cosines.{cF, cosF}
-use Rattle.idct.specs.EvenOdd.{Half, bothAt, halfSum, pairedAt}
+use Rattle.idct.specs.EvenOdd.{Half, bothAt, halfSum, pairedAt, quarter, valueOfBoth}
 use Rattle.idct.specs.ShortWays.{isZero, sumOfKept}
 use Rattle.idct.proofs.EvenOddSums.{sum-ext}
 use Rattle.idct.proofs.Loops.{zero-bits}
@@ -72,24 +72,26 @@ both-eq e o e′ o′ i h a b =
     ∙ ap (bothAt e′ o′) (sym k))
     (lt-or-le i 4)
 
+quarter-bits : ofBits binary64 4598175219545276416 ≡ quarter
+unfolding ofBits
+quarter-bits = refl
+
 -- the terms of a row, as the program makes them
 pub paired-terms : (row : List ℤ) (v : ℕ) (e o terms : List Float) (s : Float) → e ≡ build 4 (halfSum row 0 4) → o ≡ build 4 (halfSum row 1 4) → s ≡ cF v
-    → terms ≡ build 8 (λ (x : ℕ). mul binary64 s (mul binary64 half (bothAt (λ (i : ℕ). getD e i nan) (λ (i : ℕ). getD o i nan) x))) → terms ≡ build 8 (pairedAt row v)
+    → terms ≡ build 8 (λ (x : ℕ). mul binary64 (mul binary64 (ofBits binary64 4598175219545276416) s) (bothAt (λ (i : ℕ). getD e i nan) (λ (i : ℕ). getD o i nan) x)) → terms ≡ build 8 (pairedAt row v)
 paired-terms row v e o terms s a b c d =
     d
-    ∙ build-eq 8 (λ (x : ℕ). mul binary64 s (mul binary64 half (bothAt (λ (i : ℕ). getD e i nan) (λ (i : ℕ). getD o i nan) x))) (pairedAt row v)
+    ∙ build-eq 8 (λ (x : ℕ). mul binary64 (mul binary64 (ofBits binary64 4598175219545276416) s) (bothAt (λ (i : ℕ). getD e i nan) (λ (i : ℕ). getD o i nan) x)) (pairedAt row v)
     (λ (x : ℕ) (q : x < 8).
-    ap (λ (y : Float). mul binary64 s (mul binary64 half y))
+    ap (λ (y : Float). mul binary64 (mul binary64 (ofBits binary64 4598175219545276416) s) y)
     (both-eq (λ (i : ℕ). getD e i nan) (λ (i : ℕ). getD o i nan) (halfSum row 0 4) (halfSum row 1 4) x q (λ (k : ℕ) (h : k < 4). ap (λ (l : List Float). getD l k nan) a ∙ getD-build 4 (halfSum row 0 4) k nan h)
     (λ (k : ℕ) (h : k < 4). ap (λ (l : List Float). getD l k nan) b ∙ getD-build 4 (halfSum row 1 4) k nan h))
-    ∙ ap (λ (y : Float). mul binary64 y (mul binary64 half (bothAt (halfSum row 0 4) (halfSum row 1 4) x))) c)
+    ∙ ap (λ (y : Float). mul binary64 (mul binary64 y s) (bothAt (halfSum row 0 4) (halfSum row 1 4) x)) quarter-bits
+    ∙ ap (λ (y : Float). mul binary64 (mul binary64 quarter y) (bothAt (halfSum row 0 4) (halfSum row 1 4) x)) c)
 
 -- ---- the second pass: a row and its mirror
 
 module _ (evens : List (List Float)) (even : List ℕ) (m : ℕ) (odds : List (List Float)) (odd : List ℕ) (n : ℕ) where
-  abbrev pub sumOfBoth : ℕ → ℕ → Float
-  sumOfBoth y x = bothAt (λ (i : ℕ). sumOfKept evens even m i x) (λ (i : ℕ). sumOfKept odds odd n i x) y
-
   module _ (y : ℕ) (h : y < 4) (e o sums : List Float) (a : e ≡ build 8 (sumOfKept evens even m y)) (b : o ≡ build 8 (sumOfKept odds odd n y)) where
     left : (x : ℕ) → x < 8 → getD e x nan ≡ sumOfKept evens even m y x
     left x q = ap (λ (l : List Float). getD l x nan) a ∙ getD-build 8 (sumOfKept evens even m y) x nan q
@@ -97,19 +99,19 @@ module _ (evens : List (List Float)) (even : List ℕ) (m : ℕ) (odds : List (L
     right : (x : ℕ) → x < 8 → getD o x nan ≡ sumOfKept odds odd n y x
     right x q = ap (λ (l : List Float). getD l x nan) b ∙ getD-build 8 (sumOfKept odds odd n y) x nan q
 
-    pub plus-is : sums ≡ build 8 (λ (x : ℕ). add binary64 (getD e x nan) (getD o x nan)) → sums ≡ build 8 (sumOfBoth y)
+    pub plus-is : sums ≡ build 8 (λ (x : ℕ). add binary64 (getD e x nan) (getD o x nan)) → sums ≡ build 8 (valueOfBoth evens even m odds odd n y)
     plus-is c =
         c
-        ∙ build-eq 8 (λ (x : ℕ). add binary64 (getD e x nan) (getD o x nan)) (sumOfBoth y)
+        ∙ build-eq 8 (λ (x : ℕ). add binary64 (getD e x nan) (getD o x nan)) (valueOfBoth evens even m odds odd n y)
         (λ (x : ℕ) (q : x < 8).
         ap (λ (z : Float). add binary64 z (getD o x nan)) (left x q)
         ∙ ap (λ (z : Float). add binary64 (sumOfKept evens even m y x) z) (right x q)
         ∙ both-low (λ (i : ℕ). sumOfKept evens even m i x) (λ (i : ℕ). sumOfKept odds odd n i x) y h)
 
-    pub minus-is : sums ≡ build 8 (λ (x : ℕ). sub binary64 (getD e x nan) (getD o x nan)) → sums ≡ build 8 (sumOfBoth (7 - y))
+    pub minus-is : sums ≡ build 8 (λ (x : ℕ). sub binary64 (getD e x nan) (getD o x nan)) → sums ≡ build 8 (valueOfBoth evens even m odds odd n (7 - y))
     minus-is c =
         c
-        ∙ build-eq 8 (λ (x : ℕ). sub binary64 (getD e x nan) (getD o x nan)) (sumOfBoth (7 - y))
+        ∙ build-eq 8 (λ (x : ℕ). sub binary64 (getD e x nan) (getD o x nan)) (valueOfBoth evens even m odds odd n (7 - y))
         (λ (x : ℕ) (q : x < 8).
         ap (λ (z : Float). sub binary64 z (getD o x nan)) (left x q)
         ∙ ap (λ (z : Float). sub binary64 (sumOfKept evens even m y x) z) (right x q)

@@ -4,13 +4,13 @@ use mathlib.Core.List.{List, []}
 use mathlib.Core.Path.{_≡_}
 use Prim.Native.Nat.{ℕ, _+_, _-_, _*_, _≤_, _<_}
 use lib.Dec.{T, ltb}
-use lib.Ieee.{Float, add, binary64, mul, ofInt, sub}
-use lib.IntN.{ℤ, pos}
+use lib.Ieee.{Float, add, binary64, fin, mul, ofInt, sub}
+use lib.IntN.{ℤ, negsuc, pos}
 use lib.ListN.{getD, length}
 use Rattle.numbers.specs.Every.{every}
 use Rattle.numbers.specs.Grid.{build}
 use Rattle.ranges.specs.Range.{within}
-use Rattle.f64_error.specs.Series.{half, seriesF, seriesZ}
+use Rattle.f64_error.specs.Series.{seriesF, seriesZ}
 use Rattle.idct.specs.Cosines.{cF, cosF}
 use Rattle.idct.specs.ShortWays.{isZero, sumOfKept}
 use Rattle.idct.specs.declared.short.KeptRows.{KeptRows}
@@ -24,13 +24,17 @@ halfSum row p n x = seriesF (λ (k : ℕ). mul binary64 (mul binary64 (cF (2 * k
 abbrev pub bothAt : (ℕ → Float) → (ℕ → Float) → ℕ → Float
 bothAt e o i = cond (ltb i 4) (add binary64 (e i) (o i)) (sub binary64 (e (7 - i)) (o (7 - i)))
 
--- row v transformed, with its factor C(v)
+-- 0.25
+abbrev pub quarter : Float
+quarter = fin false 1 (negsuc 1)
+
+-- row v transformed, with the factor C(v) / 4 of both passes
 abbrev pub pairedAt : List ℤ → ℕ → ℕ → Float
-pairedAt row v x = mul binary64 (cF v) (mul binary64 half (bothAt (halfSum row 0 4) (halfSum row 1 4) x))
+pairedAt row v x = mul binary64 (mul binary64 quarter (cF v)) (bothAt (halfSum row 0 4) (halfSum row 1 4) x)
 
 -- the value at row y and column x, out of the terms of the even and of the odd rows that are kept
-abbrev pub halfOfBoth : List (List Float) → List ℕ → ℕ → List (List Float) → List ℕ → ℕ → ℕ → ℕ → Float
-halfOfBoth evens even m odds odd n y x = mul binary64 half (bothAt (λ (i : ℕ). sumOfKept evens even m i x) (λ (i : ℕ). sumOfKept odds odd n i x) y)
+abbrev pub valueOfBoth : List (List Float) → List ℕ → ℕ → List (List Float) → List ℕ → ℕ → ℕ → ℕ → Float
+valueOfBoth evens even m odds odd n y x = bothAt (λ (i : ℕ). sumOfKept evens even m i x) (λ (i : ℕ). sumOfKept odds odd n i x) y
 
 -- of the first k rows 2 i + p of l, n were kept: what is zero for a row of zeros adds up over them as over all
 pub record Half (p : ℕ) (l : List (List ℤ)) (k : ℕ) (terms : List (List Float)) (which : List ℕ) (n : ℕ) : Type 0 where

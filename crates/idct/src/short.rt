@@ -11,10 +11,9 @@ ghost use Rattle.numbers.specs.Every.{every};
 ghost use Rattle.numbers.specs.Grid.{block, build};
 ghost use Rattle.numbers.specs.Limit.{clampZ};
 ghost use Rattle.ranges.specs.Range.{within};
-ghost use Rattle.f64_error.specs.Series.{half};
 ghost use Rattle.f64_error.specs.Wholes.{magF};
 ghost use Rattle.idct.specs.Cosines.{cosF};
-ghost use Rattle.idct.specs.EvenOdd.{ToldHalf, bothAt, halfOfBoth, halfSum, pairedAt};
+ghost use Rattle.idct.specs.EvenOdd.{ToldHalf, bothAt, halfSum, pairedAt, valueOfBoth};
 ghost use Rattle.idct.specs.Exact.{Modest};
 ghost use Rattle.idct.specs.Rounding.{wholeOf};
 ghost use Rattle.idct.specs.ShortWays.{Castable, Roundable, Sure, Told, greaterF, halfOfKept, isZero, nearF, nearZ, samplesIn, sumOfKept, wellWithin};
@@ -41,13 +40,13 @@ fn zero_row(row: [i32; 8]) -> bool
     some == 0
 }
 
-// Half of each sum, to the nearest whole number.
+// Each sum, to the nearest whole number.
 fn near_row(sums: [f64; 8]) -> [f64; 8]
-    ensures { λ r. ⌜ r ≡ build 8 (λ (x : ℕ). nearF (mul binary64 half (getD sums x nan))) ⌝ }
+    ensures { λ r. ⌜ r ≡ build 8 (λ (x : ℕ). nearF (getD sums x nan)) ⌝ }
 {
     let mut out = [0.0f64; 8];
     for x in 0..8 {
-        out[x] = 0.5 * sums[x] + SHIFT - SHIFT;
+        out[x] = sums[x] + SHIFT - SHIFT;
     }
     out
 }
@@ -59,13 +58,13 @@ fn greater(a: f64, b: f64) -> f64
     if a < b { b } else { a }
 }
 
-// How far each half was from its whole number, where that is farther than the worst so far.
+// How far each sum was from its whole number, where that is farther than the worst so far.
 fn farther(worst: [f64; 8], sums: [f64; 8], near: [f64; 8]) -> [f64; 8]
-    ensures { λ r. ⌜ r ≡ build 8 (λ (x : ℕ). greaterF (getD worst x nan) (magF (sub binary64 (mul binary64 half (getD sums x nan)) (getD near x nan)))) ⌝ }
+    ensures { λ r. ⌜ r ≡ build 8 (λ (x : ℕ). greaterF (getD worst x nan) (magF (sub binary64 (getD sums x nan) (getD near x nan)))) ⌝ }
 {
     let mut out = [0.0f64; 8];
     for x in 0..8 {
-        let far = magnitude(0.5 * sums[x] - near[x]);
+        let far = magnitude(sums[x] - near[x]);
         out[x] = greater(worst[x], far);
     }
     out
@@ -144,28 +143,29 @@ fn half_sums(row: [i32; 8], p: usize, table: &[[f64; 8]; 8]) -> [f64; 4]
     sums
 }
 
-// Half of the sums of both at x below 4, and of their differences at 7 - x, times s.
+// The sums of both at x below 4, and their differences at 7 - x, times s.
 fn both_terms(e: [f64; 4], o: [f64; 4], s: f64) -> [f64; 8]
-    ensures { λ r. ⌜ r ≡ build 8 (λ (x : ℕ). mul binary64 s (mul binary64 half (bothAt (λ (i : ℕ). getD e i nan) (λ (i : ℕ). getD o i nan) x))) ⌝ }
+    ensures { λ r. ⌜ r ≡ build 8 (λ (x : ℕ). mul binary64 s (bothAt (λ (i : ℕ). getD e i nan) (λ (i : ℕ). getD o i nan) x)) ⌝ }
 {
     let mut out = [0.0f64; 8];
     for x in 0..4 {
-        out[x] = s * (0.5 * (e[x] + o[x]));
+        out[x] = s * (e[x] + o[x]);
     }
     for x in 4..8 {
-        out[x] = s * (0.5 * (e[7 - x] - o[7 - x]));
+        out[x] = s * (e[7 - x] - o[7 - x]);
     }
     out
 }
 
-// Row v transformed by its even and its odd terms, each value times C(v).
+// Row v transformed by its even and its odd terms, each value times C(v) / 4: the factor of both passes,
+// so that the second one has none.
 fn paired_terms(row: [i32; 8], v: usize, table: &[[f64; 8]; 8]) -> [f64; 8]
     requires { ⌜ now table ≡ block cosF ⌝ }
     ensures { λ r. ⌜ r ≡ build 8 (pairedAt row v) ⌝ }
 {
     let e = half_sums(row, 0, table);
     let o = half_sums(row, 1, table);
-    both_terms(e, o, c(v))
+    both_terms(e, o, 0.25 * c(v))
 }
 
 // ---- blocks
@@ -327,9 +327,9 @@ fn near_samples(
     hi: i32,
     out: &mut [[i32; 8]; 8],
 ) -> bool
-    requires { ⌜ (now table ≡ block cosF) × (m ≤ 4) × (n ≤ 4) × ((j : ℕ) → j < m → getD (now even) j 0 < 8) × ((j : ℕ) → j < n → getD (now odd) j 0 < 8) × ((y x : ℕ) → y < 8 → x < 8 → Roundable (halfOfBoth (now evens) (now even) m (now odds) (now odd) n y x)) ⌝ }
-    ensures { λ r. ⌜ now (out .exit) ≡ block (λ (y x : ℕ). clampZ (nearZ (halfOfBoth (now (evens .entry)) (now (even .entry)) m (now (odds .entry)) (now (odd .entry)) n y x)) (pos 0) hi) ⌝ }
-    ensures sure { λ r. ⌜ (r ≡ true → (y x : ℕ) → y < 8 → x < 8 → Sure (halfOfBoth (now (evens .entry)) (now (even .entry)) m (now (odds .entry)) (now (odd .entry)) n y x)) ⌝ }
+    requires { ⌜ (now table ≡ block cosF) × (m ≤ 4) × (n ≤ 4) × ((j : ℕ) → j < m → getD (now even) j 0 < 8) × ((j : ℕ) → j < n → getD (now odd) j 0 < 8) × ((y x : ℕ) → y < 8 → x < 8 → Roundable (valueOfBoth (now evens) (now even) m (now odds) (now odd) n y x)) ⌝ }
+    ensures { λ r. ⌜ now (out .exit) ≡ block (λ (y x : ℕ). clampZ (nearZ (valueOfBoth (now (evens .entry)) (now (even .entry)) m (now (odds .entry)) (now (odd .entry)) n y x)) (pos 0) hi) ⌝ }
+    ensures sure { λ r. ⌜ (r ≡ true → (y x : ℕ) → y < 8 → x < 8 → Sure (valueOfBoth (now (evens .entry)) (now (even .entry)) m (now (odds .entry)) (now (odd .entry)) n y x)) ⌝ }
 {
     *out = [[0i32; 8]; 8];
     let mut worst = [0.0f64; 8];

@@ -9,9 +9,7 @@ use lib.ListN.{getD}
 use borrow.Author.Tests.{lt-ltb, le-ltb}
 use Rattle.numbers.proofs.Fill.{part, cells-none, cells-more, cells-all}
 use Rattle.numbers.specs.Grid.{build}
-use Rattle.f64_error.specs.Series.{half}
 use Rattle.idct.specs.EvenOdd.{bothAt}
-use Rattle.idct.proofs.Loops.{half-bits}
 use Rattle.idct.proofs.short.both_terms.Statement.{statement}
 use Rattle.idct.proofs.short.both_terms.Tie as tie
 
@@ -19,7 +17,7 @@ abbrev z : ℕ → Float
 z k = ofBits binary64 0
 
 abbrev g : Float → List Float → List Float → ℕ → Float
-g s e o x = mul binary64 s (mul binary64 half (bothAt (λ (i : ℕ). getD e i nan) (λ (i : ℕ). getD o i nan) x))
+g s e o x = mul binary64 s (bothAt (λ (i : ℕ). getD e i nan) (λ (i : ℕ). getD o i nan) x)
 
 abbrev Inv-loop : tie.InvT-loop
 Inv-loop s e o out₀ x₀ out x = (x ≤ 4) × (out ≡ part 8 (g s e o) z x)
@@ -66,7 +64,7 @@ loop-again c =
     let o = c .before in
     let a = o .before .args in
     let x = o .loop .x in
-    (omega arith, cells-more 8 _ _ nan _ _ _ (omega (arith, c .loop-test .taken)) (o .loop .inv .1) (ap (λ (h : Float). mul binary64 (a .s) (mul binary64 h (add binary64 (getD (a .t1) x nan) (getD (a .t2) x nan)))) half-bits ∙ sym (ap (λ (b : Bool). mul binary64 (a .s) (mul binary64 half (cond b (add binary64 (getD (a .t1) x nan) (getD (a .t2) x nan)) (sub binary64 (getD (a .t1) (7 - x) nan) (getD (a .t2) (7 - x) nan))))) (lt-ltb x 4 (c .loop-test .taken)))))
+    (omega arith, cells-more 8 _ _ nan _ _ _ (omega (arith, c .loop-test .taken)) (o .loop .inv .1) (sym (ap (λ (b : Bool). mul binary64 (a .s) (cond b (add binary64 (getD (a .t1) x nan) (getD (a .t2) x nan)) (sub binary64 (getD (a .t1) (7 - x) nan) (getD (a .t2) (7 - x) nan)))) (lt-ltb x 4 (c .loop-test .taken)))))
 
 loop2-holds : tie.Need-loop2-holds Inv-loop μ-loop Inv-loop2 μ-loop2
 loop2-holds c =
@@ -110,7 +108,7 @@ loop2-again c =
     let o = c .before in
     let a = o .before .before .before .args in
     let x = o .loop2 .x in
-    (omega arith, omega arith, cells-more 8 _ _ nan _ _ _ (c .loop2-test .taken) (o .loop2 .inv .2) (ap (λ (h : Float). mul binary64 (a .s) (mul binary64 h (sub binary64 (getD (a .t1) (7 - x) nan) (getD (a .t2) (7 - x) nan)))) half-bits ∙ sym (ap (λ (b : Bool). mul binary64 (a .s) (mul binary64 half (cond b (add binary64 (getD (a .t1) x nan) (getD (a .t2) x nan)) (sub binary64 (getD (a .t1) (7 - x) nan) (getD (a .t2) (7 - x) nan))))) (le-ltb x 4 (o .loop2 .inv .0)))))
+    (omega arith, omega arith, cells-more 8 _ _ nan _ _ _ (c .loop2-test .taken) (o .loop2 .inv .2) (sym (ap (λ (b : Bool). mul binary64 (a .s) (cond b (add binary64 (getD (a .t1) x nan) (getD (a .t2) x nan)) (sub binary64 (getD (a .t1) (7 - x) nan) (getD (a .t2) (7 - x) nan)))) (le-ltb x 4 (o .loop2 .inv .0)))))
 
 returns : tie.Need-returns Inv-loop μ-loop Inv-loop2 μ-loop2
 returns c = cells-all 8 _ _ _ _ (c .loop2-test .left) (c .before .loop2 .inv .1) (c .before .loop2 .inv .2)

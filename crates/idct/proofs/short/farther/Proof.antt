@@ -3,14 +3,12 @@ use mathlib.Core.List.{List}
 use mathlib.Core.Path.{_≡_, refl, ap, _∙_}
 use Prim.Native.Nat.{ℕ, _-_, _≤_}
 use native.Mathlib.Omega.{arith}
-use lib.Ieee.{Float, nan, binary64, ofBits, mul, sub}
+use lib.Ieee.{Float, nan, binary64, ofBits, sub}
 use lib.ListN.{getD}
 use Rattle.numbers.proofs.Fill.{part, cells-none, cells-more, cells-all}
 use Rattle.numbers.specs.Grid.{build}
-use Rattle.f64_error.specs.Series.{half}
 use Rattle.f64_error.specs.Wholes.{magF}
 use Rattle.idct.specs.ShortWays.{greaterF}
-use Rattle.idct.proofs.Loops.{half-bits}
 use Rattle.idct.proofs.short.farther.Statement.{statement}
 use Rattle.idct.proofs.short.farther.Tie as tie
 
@@ -18,7 +16,7 @@ abbrev z : ℕ → Float
 z k = ofBits binary64 0
 
 abbrev f : List Float → List Float → List Float → ℕ → Float
-f worst sums near x = greaterF (getD worst x nan) (magF (sub binary64 (mul binary64 half (getD sums x nan)) (getD near x nan)))
+f worst sums near x = greaterF (getD worst x nan) (magF (sub binary64 (getD sums x nan) (getD near x nan)))
 
 abbrev Inv-loop : tie.InvT-loop
 Inv-loop worst sums near out₀ x₀ out x = (x ≤ 8) × (out ≡ part 8 (f worst sums near) z x)
@@ -74,7 +72,7 @@ loop-again c =
     let x = i .loop .x in (
       omega arith,
       cells-more 8 _ _ nan _ _ _ (m .before .loop-test .taken) (i .loop .inv .1)
-          (c .greater .ensures ∙ ap (greaterF (getD (a .t1) x nan)) (m .magnitude .ensures ∙ ap (λ (h : Float). magF (sub binary64 (mul binary64 h (getD (a .t2) x nan)) (getD (a .t3) x nan))) half-bits)),
+          (c .greater .ensures ∙ ap (greaterF (getD (a .t1) x nan)) (m .magnitude .ensures)),
     )
 
 returns : tie.Need-returns Inv-loop μ-loop

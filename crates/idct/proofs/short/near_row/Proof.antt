@@ -1,15 +1,13 @@
 -- `idct::short::near_row` meets its contract, one store a turn. Assumes nothing.
 use mathlib.Core.List.{List}
-use mathlib.Core.Path.{_≡_, refl, ap}
+use mathlib.Core.Path.{_≡_, refl}
 use Prim.Native.Nat.{ℕ, _-_, _≤_}
 use native.Mathlib.Omega.{arith}
-use lib.Ieee.{Float, nan, binary64, ofBits, mul}
+use lib.Ieee.{Float, nan, binary64, ofBits}
 use lib.ListN.{getD}
 use Rattle.numbers.proofs.Fill.{part, cells-none, cells-more, cells-all}
 use Rattle.numbers.specs.Grid.{build}
-use Rattle.f64_error.specs.Series.{half}
 use Rattle.idct.specs.ShortWays.{nearF}
-use Rattle.idct.proofs.Loops.{half-bits}
 use Rattle.idct.proofs.short.near_row.Statement.{statement}
 use Rattle.idct.proofs.short.near_row.Tie as tie
 
@@ -17,7 +15,7 @@ abbrev z : ℕ → Float
 z k = ofBits binary64 0
 
 abbrev f : List Float → ℕ → Float
-f sums x = nearF (mul binary64 half (getD sums x nan))
+f sums x = nearF (getD sums x nan)
 
 abbrev Inv-loop : tie.InvT-loop
 Inv-loop sums out₀ x₀ out x = (x ≤ 8) × (out ≡ part 8 (f sums) z x)
@@ -48,7 +46,7 @@ loop-less : tie.Need-loop-less Inv-loop μ-loop
 loop-less c = omega arith
 
 loop-again : tie.Need-loop-again Inv-loop μ-loop
-loop-again c = (omega arith, cells-more 8 _ _ nan _ _ _ (c .loop-test .taken) (c .before .loop .inv .1) (ap (λ (a : Float). nearF (mul binary64 a (getD (c .before .before .args .t1) (c .before .loop .x) nan))) half-bits))
+loop-again c = (omega arith, cells-more 8 _ _ nan _ _ _ (c .loop-test .taken) (c .before .loop .inv .1) refl)
 
 returns : tie.Need-returns Inv-loop μ-loop
 returns c = cells-all 8 _ _ _ _ (c .loop-test .left) (c .before .loop .inv .0) (c .before .loop .inv .1)
