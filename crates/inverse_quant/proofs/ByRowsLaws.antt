@@ -8,17 +8,13 @@ use native.Mathlib.Omega.{arith}
 use lib.IntN.{ℤ, pos, natAbs, _+ℤ_, _-ℤ_}
 use lib.ListN.{getD, length, set, List·getD-eq-default}
 use lib.Seq.{set-getD, take-all}
-use Rattle.numbers.specs.Every.{every}
 use Rattle.numbers.specs.Grid.{block, build, cell}
 use Rattle.numbers.specs.Sum.{sumZ}
-use Rattle.numbers.proofs.Every.{every-get}
 use Rattle.numbers.proofs.Fill.{cell-block, getD-build, length-build, lt-or-le}
 use Rattle.numbers.proofs.Integers.{add-is, diff-is, zarith}
 use Rattle.numbers.proofs.Lists.{sum-bound}
-use Rattle.ranges.proofs.RangeLaws.{level-abs}
-use Rattle.ranges.specs.Range.{levelFine}
 use Rattle.coefficients.proofs.BlockLaws.{Square, each-cell, square-block}
-use Rattle.inverse_quant.specs.ByRows.{LevelsRow, ValuesRow, firstValue, lastValue, rowBy1, rowBy2, rowsBy1, rowsBy2}
+use Rattle.inverse_quant.specs.ByRows.{ValuesRow, firstValue, lastValue, rowBy1, rowBy2, rowsBy1, rowsBy2}
 use Rattle.inverse_quant.specs.Dequantised.{even, fPrime1, fPrime2, intraDc, limitedF, method1, mismatched, sumOf}
 use Rattle.inverse_quant.specs.declared.context.InverseQuantContext.{InverseQuantContext}
 use Rattle.inverse_quant.proofs.BlockSums.{sum-changed}
@@ -33,15 +29,7 @@ put b v u x = set b v (set (getD b v []) u x)
 same-cell : (b : List (List ℤ)) (v u : ℕ) → put b v u (cell b v u) ≡ b
 same-cell b v u = ap (λ (r : List ℤ). set b v r) (set-getD (getD b v []) u (pos 0)) ∙ set-getD b v []
 
--- a test that failed did not pass
-pub never-both : {A : Type 0} (t : Bool) → t ≡ false → t ≡ true → A
-never-both t e h = let z : _≡_ {A = ℕ} 0 1 = cc in absurd (omega arith)
-
 -- ---- a row
-
--- levels in range
-pub levels-row : (row : List ℤ) → every levelFine row ≡ true → LevelsRow row
-levels-row row e u = level-abs (getD row u (pos 0)) (every-get levelFine (pos 0) refl row e u)
 
 -- what is limited is small, and its sum
 limited-row : (d : ℕ) (rule : ℕ → ℤ) → d ≤ 12 → ValuesRow (build 8 (λ (u : ℕ). limitedF d (rule u)))

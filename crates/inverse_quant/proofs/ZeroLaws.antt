@@ -1,4 +1,4 @@
--- A row of zeros: a running OR finds it, it is a row of levels, and either method gives zeros of it. Assumes nothing.
+-- A row of zeros: a running OR finds it, and either method gives zeros of it. Assumes nothing.
 use mathlib.Core.Bool.{Bool, true, false, _&&_}
 use mathlib.Core.List.{List}
 use mathlib.Core.Path.{_≡_, refl, ap, sym, _∙_}
@@ -7,21 +7,21 @@ use native.Mathlib.Omega.{arith}
 use lib.Bits.{bitAnd, bitOr, and-le-r, or-add-and, or-zero-l}
 use lib.Dec.{eqb}
 use lib.IntN.{ℤ, pos, natAbs}
-use lib.ListN.{length, getD}
+use lib.ListN.{getD}
 use mir.Syntax.{w32}
 use mir.Val.{SFits, ofZ}
 use borrow.Author.Tests.{eq-eqb, eqb-true, eqb-false, ne-eqb}
 use Rattle.numbers.specs.Every.{every}
 use Rattle.numbers.specs.Grid.{build}
 use Rattle.numbers.specs.Sum.{sumZ}
-use Rattle.numbers.proofs.Every.{every-get, every-in}
+use Rattle.numbers.proofs.Every.{every-get}
 use Rattle.numbers.proofs.Fill.{build-eq}
 use Rattle.numbers.proofs.Integers.{<ℤ-≤ℤ}
 use Rattle.numbers.proofs.Limits.{clamp-inside}
 use Rattle.numbers.proofs.Magnitudes.{zero-of-abs}
 use Rattle.numbers.proofs.Words.{nonzero-abs, zero-abs}
 use Rattle.ranges.proofs.RangeLaws.{highest-not-negative, lowest-negative}
-use Rattle.ranges.specs.Range.{highest, levelFine, lowest}
+use Rattle.ranges.specs.Range.{highest, lowest}
 use Rattle.inverse_quant.specs.ByRows.{isZero, rowBy1, rowBy2, zeros}
 use Rattle.inverse_quant.specs.Dequantised.{limitedF, method1, method2}
 use Rattle.inverse_quant.specs.declared.context.InverseQuantContext.{InverseQuantContext}
@@ -59,9 +59,6 @@ module _ (row : List ℤ) (h : every isZero row ≡ true) where
   each-zero u =
       let z = getD row u (pos 0) in
       zero-of-abs z (eqb-true (natAbs z) 0 (every-get isZero (pos 0) refl row h u))
-
-  pub zero-fine : every levelFine row ≡ true
-  zero-fine = every-in levelFine (pos 0) row (λ (u : ℕ) (l : u < length row). ap levelFine (each-zero u))
 
   pub zero-row1 : (ctx : InverseQuantContext) (w : List ℕ) → zeros ≡ rowBy1 ctx w row
   unfolding rowBy1

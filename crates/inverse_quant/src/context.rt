@@ -40,7 +40,7 @@ pub fn matrix_fine(w: [[u8; 8]; 8]) -> bool
 }
 
 // Whether each value of a row is a level.
-pub(crate) fn row_fine(row: [i32; 8]) -> bool
+fn row_fine(row: [i32; 8]) -> bool
     ensures { λ r. ⌜ r ≡ every levelFine row ⌝ }
 {
     let mut fine = true;

@@ -7,7 +7,6 @@ ghost use lib.ListN.{length};
 ghost use Rattle.numbers.specs.Every.{every};
 ghost use Rattle.numbers.specs.Grid.{build};
 ghost use Rattle.numbers.specs.Sum.{sumZ};
-ghost use Rattle.ranges.specs.Range.{levelFine};
 ghost use Rattle.coefficients.specs.Level.{blockFine};
 ghost use Rattle.coefficients.specs.Outcomes.{stageOutcome};
 ghost use Rattle.coefficients.specs.Refusal.{after, firstBad};
@@ -19,18 +18,12 @@ use crate::coefficient::dc_value;
 use crate::coefficient::value1;
 use crate::coefficient::value2;
 use crate::context::InverseQuantContext;
+use crate::context::block_fine;
 use crate::context::context_fine;
 use crate::context::matrix_fine;
-use crate::context::row_fine;
 use crate::mismatch::is_odd;
 use coefficients::CoefficientError;
 use coefficients::Stage;
-
-// Whether the levels were in range, and then the sum of the values.
-struct Filled {
-    fine: bool,
-    sum: i32,
-}
 
 // Whether a row has zeros only.
 fn row_zero(row: [i32; 8]) -> bool
@@ -80,85 +73,58 @@ fn sum_of(row: [i32; 8]) -> i32
 }
 
 // A row by method 1 into `row`, of zeros, and its sum. Levels that are all zero leave it, since 0 gives 0.
-fn put1(levels: [i32; 8], weights: [u8; 8], ctx: InverseQuantContext, row: &mut [i32; 8]) -> Filled
-    requires { ⌜ ContextGood ctx × (now row ≡ zeros) ⌝ }
-    ensures { λ r. ⌜ (r .fine ≡ every levelFine levels) × (every levelFine levels ≡ true → (now (row .exit) ≡ rowBy1 ctx weights levels) × (r .sum ≡ sumZ (rowBy1 ctx weights levels))) ⌝ }
+fn put1(levels: [i32; 8], weights: [u8; 8], ctx: InverseQuantContext, row: &mut [i32; 8]) -> i32
+    requires { ⌜ LevelsRow levels × ContextGood ctx × (now row ≡ zeros) ⌝ }
+    ensures { λ r. ⌜ (now (row .exit) ≡ rowBy1 ctx weights levels) × (r ≡ sumZ (rowBy1 ctx weights levels)) ⌝ }
 {
     if row_zero(levels) {
-        return Filled { fine: true, sum: 0 };
-    }
-    if !row_fine(levels) {
-        return Filled {
-            fine: false,
-            sum: 0,
-        };
+        return 0;
     }
     let values = row1(levels, weights, ctx);
     let sum = sum_of(values);
     *row = values;
-    Filled {
-        fine: true,
-        sum: sum,
-    }
+    sum
 }
 
-// A row by method 2 into `row`, of zeros; false where a level is out of range.
-fn put2(levels: [i32; 8], ctx: InverseQuantContext, row: &mut [i32; 8]) -> bool
-    requires { ⌜ ContextGood ctx × (now row ≡ zeros) ⌝ }
-    ensures { λ r. ⌜ (r ≡ every levelFine levels) × (every levelFine levels ≡ true → now (row .exit) ≡ rowBy2 ctx levels) ⌝ }
+// A row by method 2 into `row`, of zeros.
+fn put2(levels: [i32; 8], ctx: InverseQuantContext, row: &mut [i32; 8])
+    requires { ⌜ LevelsRow levels × ContextGood ctx × (now row ≡ zeros) ⌝ }
+    ensures { λ r. ⌜ now (row .exit) ≡ rowBy2 ctx levels ⌝ }
 {
     if row_zero(levels) {
-        return true;
-    }
-    if !row_fine(levels) {
-        return false;
+        return;
     }
     *row = row2(levels, ctx);
-    true
 }
 
-// Every row by method 1 into `f`, of zeros, and the sum; a level out of range ends it.
+// Every row by method 1 into `f`, of zeros, and the sum.
 fn fill1(
     qf: &[[i32; 8]; 8],
     w: &[[u8; 8]; 8],
     ctx: InverseQuantContext,
     f: &mut [[i32; 8]; 8],
-) -> Filled
-    requires { ⌜ ContextGood ctx × (length (now qf) ≡ 8) × (now f ≡ build 8 (λ (v : ℕ). zeros)) ⌝ }
-    ensures { λ r. ⌜ (r .fine ≡ blockFine (now (qf .entry))) × (blockFine (now (qf .entry)) ≡ true → (now (f .exit) ≡ rowsBy1 ctx (now (w .entry)) (now (qf .entry))) × (r .sum ≡ sumOf (rowsBy1 ctx (now (w .entry)) (now (qf .entry))))) ⌝ }
+) -> i32
+    requires { ⌜ ContextGood ctx × (length (now qf) ≡ 8) × (blockFine (now qf) ≡ true) × (now f ≡ build 8 (λ (v : ℕ). zeros)) ⌝ }
+    ensures { λ r. ⌜ (now (f .exit) ≡ rowsBy1 ctx (now (w .entry)) (now (qf .entry))) × (r ≡ sumOf (rowsBy1 ctx (now (w .entry)) (now (qf .entry)))) ⌝ }
 {
     let mut sum: i32 = 0;
     for v in 0..8 {
         let levels = qf[v];
         let weights = w[v];
-        let put = put1(levels, weights, ctx, &mut f[v]);
-        if !put.fine {
-            return Filled {
-                fine: false,
-                sum: 0,
-            };
-        }
-        sum += put.sum;
+        sum += put1(levels, weights, ctx, &mut f[v]);
     }
-    Filled {
-        fine: true,
-        sum: sum,
-    }
+    sum
 }
 
-// Every row by method 2 into `f`, of zeros; a level out of range ends it.
-fn fill2(qf: &[[i32; 8]; 8], ctx: InverseQuantContext, f: &mut [[i32; 8]; 8]) -> bool
-    requires { ⌜ ContextGood ctx × (length (now qf) ≡ 8) × (now f ≡ build 8 (λ (v : ℕ). zeros)) ⌝ }
-    ensures { λ r. ⌜ (r ≡ blockFine (now (qf .entry))) × (blockFine (now (qf .entry)) ≡ true → now (f .exit) ≡ rowsBy2 ctx (now (qf .entry))) ⌝ }
+// Every row by method 2 into `f`, of zeros.
+fn fill2(qf: &[[i32; 8]; 8], ctx: InverseQuantContext, f: &mut [[i32; 8]; 8])
+    requires { ⌜ ContextGood ctx × (length (now qf) ≡ 8) × (blockFine (now qf) ≡ true) × (now f ≡ build 8 (λ (v : ℕ). zeros)) ⌝ }
+    ensures { λ r. ⌜ now (f .exit) ≡ rowsBy2 ctx (now (qf .entry)) ⌝ }
 {
     for v in 0..8 {
         let levels = qf[v];
-        let put = put2(levels, ctx, &mut f[v]);
-        if !put {
-            return false;
-        }
+        put2(levels, ctx, &mut f[v]);
     }
-    true
 }
 
 // The first value: the DC's rule in an intra block, else `value`, which is the method's.
@@ -201,16 +167,15 @@ fn rows1(
     requires { ⌜ ContextGood ctx × (length (now qf) ≡ 8) ⌝ }
     ensures { λ r. ⌜ (r ≡ firstBad true (blockFine (now (qf .entry)))) × (now (out .exit) ≡ after (firstBad true (blockFine (now (qf .entry)))) (dequantised1 control ctx (now (w .entry)) (now (qf .entry))) (now (out .entry))) ⌝ }
 {
-    let mut f = [[0i32; 8]; 8];
-    let filled = fill1(qf, w, ctx, &mut f);
-    if !filled.fine {
+    if !block_fine(*qf) {
         return Stage::Refused(CoefficientError::HandedIn);
     }
-    let dc = first_value(qf[0][0], f[0][0], ctx);
-    let sum = filled.sum - f[0][0] + dc;
-    f[0][0] = dc;
-    f[7][7] = last_value(control, sum, f[7][7]);
-    *out = f;
+    *out = [[0i32; 8]; 8];
+    let filled = fill1(qf, w, ctx, out);
+    let dc = first_value(qf[0][0], out[0][0], ctx);
+    let sum = filled - out[0][0] + dc;
+    out[0][0] = dc;
+    out[7][7] = last_value(control, sum, out[7][7]);
     Stage::Done
 }
 
@@ -219,12 +184,12 @@ fn rows2(qf: &[[i32; 8]; 8], ctx: InverseQuantContext, out: &mut [[i32; 8]; 8]) 
     requires { ⌜ ContextGood ctx × (length (now qf) ≡ 8) ⌝ }
     ensures { λ r. ⌜ (r ≡ firstBad true (blockFine (now (qf .entry)))) × (now (out .exit) ≡ after (firstBad true (blockFine (now (qf .entry)))) (dequantised2 ctx (now (qf .entry))) (now (out .entry))) ⌝ }
 {
-    let mut f = [[0i32; 8]; 8];
-    if !fill2(qf, ctx, &mut f) {
+    if !block_fine(*qf) {
         return Stage::Refused(CoefficientError::HandedIn);
     }
-    f[0][0] = first_value(qf[0][0], f[0][0], ctx);
-    *out = f;
+    *out = [[0i32; 8]; 8];
+    fill2(qf, ctx, out);
+    out[0][0] = first_value(qf[0][0], out[0][0], ctx);
     Stage::Done
 }
 

@@ -1,33 +1,25 @@
--- `inverse_quant::short::fill2` meets its contract, one row a turn: the rows above are put and in range. Assumes nothing.
-use mathlib.Core.Bool.{true}
+-- `inverse_quant::short::fill2` meets its contract, one row a turn: the rows above are put. Assumes nothing.
 use mathlib.Core.List.{List, []}
-use mathlib.Core.Path.{_≡_, refl, ap, sym, _∙_}
+use mathlib.Core.Path.{_≡_, ap, _∙_}
 use Prim.Native.Nat.{ℕ, _-_, _≤_}
 use native.Mathlib.Omega.{arith}
 use denote.Ref.{now}
 use lib.IntN.{ℤ}
-use lib.ListN.{drop, getD}
-use Rattle.numbers.specs.Every.{every}
-use Rattle.numbers.proofs.Every.{every-fails}
+use lib.ListN.{getD}
 use Rattle.numbers.proofs.Fill.{part, part-above, cells-none, cells-more, cells-all}
-use Rattle.numbers.proofs.Tests.{flag-passes, flag-refuses}
-use Rattle.ranges.specs.Range.{levelFine}
-use Rattle.coefficients.specs.Level.{blockFine}
-use Rattle.coefficients.proofs.EveryLaws.{test-done, test-more}
+use Rattle.coefficients.proofs.RefusalLaws.{block-good}
 use Rattle.inverse_quant.specs.ByRows.{rowBy2, zeros}
-use Rattle.inverse_quant.proofs.ByRowsLaws.{never-both}
 use Rattle.inverse_quant.proofs.short.fill2.Statement.{statement}
 use Rattle.inverse_quant.proofs.short.fill2.Tie as tie
 
 abbrev Inv-loop : tie.InvT-loop
-Inv-loop qf ctx f₀ v₀ f v =
-    (v ≤ 8) × (f ≡ part 8 (λ (k : ℕ). rowBy2 ctx (getD qf k [])) (λ (k : ℕ). zeros) v) × (blockFine qf ≡ every (every levelFine) (drop v qf))
+Inv-loop qf ctx f₀ v₀ f v = (v ≤ 8) × (f ≡ part 8 (λ (k : ℕ). rowBy2 ctx (getD qf k [])) (λ (k : ℕ). zeros) v)
 
 abbrev μ-loop : tie.MeasureT-loop
 μ-loop qf ctx f₀ v₀ f v = 8 - v
 
 loop-holds : tie.Need-loop-holds Inv-loop μ-loop
-loop-holds c = (omega arith, cells-none 8 _ (λ (k : ℕ). zeros) _ (c .pre .2), refl)
+loop-holds c = (omega arith, cells-none 8 _ (λ (k : ℕ). zeros) _ (c .pre .3))
 
 mul-levels : tie.Need-mul-levels Inv-loop μ-loop
 mul-levels c = omega arith
@@ -46,17 +38,9 @@ put2-requires : tie.Need-put2-requires Inv-loop μ-loop
 put2-requires c κs =
     let i = c .before .before in
     let a = i .before in
-    let v = a .loop .v in
-    (a .before .pre .0, ap (λ (b : List (List ℤ)). getD b v []) (a .loop .inv .1) ∙ part-above 8 _ (λ (k : ℕ). zeros) v v [] (i .loop-test .taken) (omega arith))
-
-returns : tie.Need-returns Inv-loop μ-loop
-returns c =
-    let p = c .before in
-    let i = p .before .before .before in
-    let a = i .before in
     let s = a .before in
-    let e = every-fails (every levelFine) [] (now (s .args .qf)) (a .loop .v) (omega (arith, s .pre .1, i .loop-test .taken)) (flag-refuses (p .put2 .ensures .0) (c .if1 .taken)) in
-    (sym e, λ h. never-both _ e h)
+    let v = a .loop .v in
+    (block-good (now (s .args .qf)) (s .pre .2) v, s .pre .0, ap (λ (b : List (List ℤ)). getD b v []) (a .loop .inv .1) ∙ part-above 8 _ (λ (k : ℕ). zeros) v v [] (i .loop-test .taken) (omega arith))
 
 add-v : tie.Need-add-v Inv-loop μ-loop
 add-v c = omega arith
@@ -66,23 +50,14 @@ loop-less c = omega arith
 
 loop-again : tie.Need-loop-again Inv-loop μ-loop
 loop-again c =
-    let p = c .before in
-    let i = p .before .before .before in
+    let i = c .before .before .before in
     let a = i .before in
-    let s = a .before in
-    let qf = now (s .args .qf) in
-    let fine = flag-passes (p .put2 .ensures .0) (c .if1 .left) in (
-      omega arith,
-      cells-more 8 _ (λ (k : ℕ). zeros) [] (a .loop .f) (a .loop .v) _ (i .loop-test .taken) (a .loop .inv .1) (p .put2 .ensures .1 fine),
-      test-more (every levelFine) [] qf (blockFine qf) (a .loop .v) true true (omega (arith, s .pre .1, i .loop-test .taken)) (a .loop .inv .2) (sym fine),
-    )
+    (omega arith, cells-more 8 _ (λ (k : ℕ). zeros) [] (a .loop .f) (a .loop .v) _ (i .loop-test .taken) (a .loop .inv .1) (c .put2 .ensures))
 
-returns-2 : tie.Need-returns-2 Inv-loop μ-loop
-returns-2 c =
+returns : tie.Need-returns Inv-loop μ-loop
+returns c =
     let l = c .before .loop in
-    let s = c .before .before in
-    let qf = now (s .args .qf) in
-    (test-done (every levelFine) [] qf (blockFine qf) (l .v) true (omega (arith, s .pre .1, c .loop-test .left)) (l .inv .2), λ h. cells-all 8 _ (λ (k : ℕ). zeros) (l .f) (l .v) (c .loop-test .left) (l .inv .0) (l .inv .1))
+    cells-all 8 _ (λ (k : ℕ). zeros) (l .f) (l .v) (c .loop-test .left) (l .inv .0) (l .inv .1)
 
 pub fill2-spec : {M : Type 1} → statement M
 fill2-spec =
@@ -96,8 +71,7 @@ fill2-spec =
     mul-put2
     index-1-put2
     put2-requires
-    returns
     add-v
     loop-less
     loop-again
-    returns-2)
+    returns)

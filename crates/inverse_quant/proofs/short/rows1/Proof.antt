@@ -26,10 +26,14 @@ use Rattle.inverse_quant.proofs.LimitLaws.{dequantised1-square, fPrime1
 use Rattle.inverse_quant.proofs.short.rows1.Statement.{statement}
 use Rattle.inverse_quant.proofs.short.rows1.Tie as tie
 
--- the levels are in range, and so every row is put and summed
-module _ (c : tie.Else1) where
+-- what passed the test
+in-range : (c : tie.Else1) → blockFine (now (c .before .before .before .args .qf)) ≡ true
+in-range c = flag-passes (c .before .block-fine .ensures) (c .if1 .left)
+
+-- every row is put and summed
+module _ (c : tie.After-fill1) where
   abbrev s : tie.Start
-  s = c .before .before .before .before
+  s = c .before .before .before .before .before .before
 
   abbrev qf : List (List ℤ)
   qf = now (s .args .qf)
@@ -38,16 +42,16 @@ module _ (c : tie.Else1) where
   rows = rowsBy1 (s .args .ctx) (now (s .args .w)) qf
 
   abbrev f : List (List ℤ)
-  f = c .before .before .fill1 .last .1 .1 .1 .0
+  f = c .fill1 .last .1 .1 .1 .0
 
   fine : blockFine qf ≡ true
-  fine = flag-passes (c .before .before .fill1 .ensures .0) (c .if1 .left)
+  fine = in-range (c .before .before .before)
 
   filled : f ≡ rows
-  filled = c .before .before .fill1 .ensures .1 fine .0
+  filled = c .fill1 .ensures .0
 
-  summed : c .before .before .fill1 .result .sum ≡ sumOf rows
-  summed = c .before .before .fill1 .ensures .1 fine .1
+  summed : c .fill1 .result ≡ sumOf rows
+  summed = c .fill1 .ensures .1
 
   small : natAbs (cell f 0 0) ≤ 32768
   small = rw filled (rows-small1 (s .args .ctx) (now (s .args .w)) qf (s .pre .0 .depth) 0 0)
@@ -57,7 +61,7 @@ module _ (c : tie.Else1) where
 
 -- the first value, which makes F', and the sum that is then
 module _ (c : tie.After-first-value) where
-  abbrev e : tie.Else1
+  abbrev e : tie.After-fill1
   e = c .before .before .before
 
   abbrev prime : List (List ℤ)
@@ -82,7 +86,7 @@ module _ (c : tie.After-first-value) where
   abbrev less : Sx w32
   less =
       let x = s e .args in
-      loc (e .before .before .fill1 .result .sum) 2097152
+      loc (e .fill1 .result) 2097152
       (rw (summed e) (sum-small 32768 (rows e) (square1 (x .ctx) (now (x .w)) (qf e)) (rows-small1 (x .ctx) (now (x .w)) (qf e) (s e .pre .0 .depth))))
       ⊟ loc (cell (f e) 0 0) 32768 (small e)
 
@@ -107,16 +111,22 @@ module _ (c : tie.After-first-value) where
   unfolding dequantised1
   square = dequantised1-square false (s e .args .ctx) (now (s e .args .w)) (qf e)
 
-fill1-requires : tie.Need-fill1-requires
-unfolding build
-fill1-requires c κs = (c .before .pre .0, c .before .pre .1, refl)
+block-fine-requires : tie.Need-block-fine-requires
+block-fine-requires c κs = search needs
 
 returns : tie.Need-returns
 returns c =
-    let s = c .before .before .before .before in
+    let s = c .before .before .before in
     let qf = now (s .args .qf) in
     refused-keeps (firstBad true (blockFine qf)) HandedIn (dequantised1 (s .args .control) (s .args .ctx) (now (s .args .w)) qf) (now (s .args .out))
-    (ap (firstBad true) (flag-refuses (c .before .before .fill1 .ensures .0) (c .if1 .taken)))
+    (ap (firstBad true) (flag-refuses (c .before .block-fine .ensures) (c .if1 .taken)))
+
+fill1-requires : tie.Need-fill1-requires
+unfolding build
+fill1-requires c κs =
+    let p = c .before .before in
+    let s = p .before .before .before in
+    (s .pre .0, s .pre .1, in-range p, refl)
 
 index-1-first-value : tie.Need-index-1-first-value
 index-1-first-value c = search needs
@@ -140,10 +150,10 @@ index-2-sum : tie.Need-index-2-sum
 index-2-sum c = search needs
 
 sub-sum : tie.Need-sub-sum
-sub-sum c = fits (less (c .before .before .before)) tt
+sub-sum c = fits (less (c .before)) tt
 
 add-sum : tie.Need-add-sum
-add-sum c = fits (total (c .before .before .before)) tt
+add-sum c = fits (total (c .before)) tt
 
 index-1-dc : tie.Need-index-1-dc
 index-1-dc c = search needs
@@ -158,18 +168,18 @@ index-2-last-value : tie.Need-index-2-last-value
 index-2-last-value c = search needs
 
 last-value-requires : tie.Need-last-value-requires
-last-value-requires c κs = let v = c .before .before .before .before in rw (last-is v) (last-small v)
+last-value-requires c κs = let v = c .before .before in rw (last-is v) (last-small v)
 
-index-1-f : tie.Need-index-1-f
-index-1-f c = search needs
+index-1-out : tie.Need-index-1-out
+index-1-out c = search needs
 
-index-2-f : tie.Need-index-2-f
-index-2-f c = search needs
+index-2-out : tie.Need-index-2-out
+index-2-out c = search needs
 
 returns-2 : tie.Need-returns-2
 unfolding dequantised1
 returns-2 c =
-    let v = c .before .before .before .before .before in
+    let v = c .before .before .before in
     let b = s (e v) in
     let x = b .args in
     let last = held (c .last-value .result) (c .last-value .ok) ∙ c .last-value .ensures ∙ (λ i. lastValue (x .control) (sum-is v i) (last-is v i)) in
@@ -180,8 +190,9 @@ pub rows1-spec : {M : Type 1} → statement M
 rows1-spec =
     tie.close
     (tie.spec
-    fill1-requires
+    block-fine-requires
     returns
+    fill1-requires
     index-1-first-value
     index-2-first-value
     index-1-first-value-2
@@ -196,6 +207,6 @@ rows1-spec =
     index-1-last-value
     index-2-last-value
     last-value-requires
-    index-1-f
-    index-2-f
+    index-1-out
+    index-2-out
     returns-2)

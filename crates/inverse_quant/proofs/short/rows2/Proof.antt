@@ -21,27 +21,40 @@ use Rattle.inverse_quant.proofs.ByRowsLaws.{first-put2, put}
 use Rattle.inverse_quant.proofs.short.rows2.Statement.{statement}
 use Rattle.inverse_quant.proofs.short.rows2.Tie as tie
 
--- the levels are in range, and so every row is put
-module _ (c : tie.Else1) where
+-- what passed the test
+in-range : (c : tie.Else1) → blockFine (now (c .before .before .before .args .qf)) ≡ true
+in-range c = flag-passes (c .before .block-fine .ensures) (c .if1 .left)
+
+-- every row is put
+module _ (c : tie.After-fill2) where
+  abbrev s : tie.Start
+  s = c .before .before .before .before .before .before
+
   abbrev qf : List (List ℤ)
-  qf = now (c .before .before .before .args .qf)
+  qf = now (s .args .qf)
 
   abbrev rows : List (List ℤ)
-  rows = rowsBy2 (c .before .before .before .args .ctx) qf
+  rows = rowsBy2 (s .args .ctx) qf
 
   fine : blockFine qf ≡ true
-  fine = flag-passes (c .before .fill2 .ensures .0) (c .if1 .left)
+  fine = in-range (c .before .before .before)
 
-fill2-requires : tie.Need-fill2-requires
-unfolding build
-fill2-requires c κs = (c .before .pre .0, c .before .pre .1, refl)
+block-fine-requires : tie.Need-block-fine-requires
+block-fine-requires c κs = search needs
 
 returns : tie.Need-returns
 returns c =
     let s = c .before .before .before in
     let qf = now (s .args .qf) in
     refused-keeps (firstBad true (blockFine qf)) HandedIn (dequantised2 (s .args .ctx) qf) (now (s .args .out))
-    (ap (firstBad true) (flag-refuses (c .before .fill2 .ensures .0) (c .if1 .taken)))
+    (ap (firstBad true) (flag-refuses (c .before .block-fine .ensures) (c .if1 .taken)))
+
+fill2-requires : tie.Need-fill2-requires
+unfolding build
+fill2-requires c κs =
+    let p = c .before .before in
+    let s = p .before .before .before in
+    (s .pre .0, s .pre .1, in-range p, refl)
 
 index-1-first-value : tie.Need-index-1-first-value
 index-1-first-value c = search needs
@@ -59,40 +72,40 @@ first-value-requires : tie.Need-first-value-requires
 first-value-requires c κs =
     let e = c .before .before in
     let h = block-good (qf e) (fine e) 0 0 in
-    (rw (back {w = w32} (loc (cell (qf e) 0 0) 2048 h) tt) h, e .before .before .before .pre .0)
+    (rw (back {w = w32} (loc (cell (qf e) 0 0) 2048 h) tt) h, s e .pre .0)
 
-index-1-f : tie.Need-index-1-f
-index-1-f c = search needs
+index-1-out : tie.Need-index-1-out
+index-1-out c = search needs
 
-index-2-f : tie.Need-index-2-f
-index-2-f c = search needs
+index-2-out : tie.Need-index-2-out
+index-2-out c = search needs
 
 returns-2 : tie.Need-returns-2
 unfolding dequantised2
 returns-2 c =
     let e = c .before .before .before in
-    let s = e .before .before .before in
-    let x = s .args .ctx in
-    let f = e .before .fill2 .last .1 .1 .0 in
-    let filled : f ≡ rows e = e .before .fill2 .ensures .1 (fine e) in
+    let x = s e .args .ctx in
+    let f = e .fill2 .last .1 .1 .0 in
+    let filled : f ≡ rows e = e .fill2 .ensures in
     let first = cell (qf e) 0 0 in
     let level = back {w = w32} (loc first 2048 (block-good (qf e) (fine e) 0 0)) tt in
     let value = held (cell f 0 0) (c .before .first-value-arg2 .given) ∙ ap (λ (b : List (List ℤ)). cell b 0 0) filled in
     let dc : c .first-value .result ≡ firstValue x first (cell (rows e) 0 0) = c .first-value .ensures ∙ (λ i. firstValue x (level i) (value i)) in
-    done-writes (firstBad true (blockFine (qf e))) (dequantised2 x (qf e)) (now (s .args .out)) _ (ap (firstBad true) (fine e))
+    done-writes (firstBad true (blockFine (qf e))) (dequantised2 x (qf e)) (now (s e .args .out)) _ (ap (firstBad true) (fine e))
     ((λ i. put (filled i) 0 0 ((held (c .first-value .result) (c .first-value .ok) ∙ dc) i)) ∙ first-put2 x (qf e))
 
 pub rows2-spec : {M : Type 1} → statement M
 rows2-spec =
     tie.close
     (tie.spec
-    fill2-requires
+    block-fine-requires
     returns
+    fill2-requires
     index-1-first-value
     index-2-first-value
     index-1-first-value-2
     index-2-first-value-2
     first-value-requires
-    index-1-f
-    index-2-f
+    index-1-out
+    index-2-out
     returns-2)
