@@ -15,6 +15,7 @@ use Rattle.ranges.specs.Range.{dcFine, depthFine, differenceFine, levelFine, qu
 use Rattle.codes.specs.declared.dc_size.DcComponent.{DcComponent}
 use Rattle.coefficients.proofs.UpToLaws.{up-to-dc}
 use Rattle.coefficients.specs.Level.{levels, placesFine, predictorsFine}
+use Rattle.coefficients.specs.Needed.{numbered}
 use Rattle.coefficients.specs.Prediction.{dcPrediction, dcScaler, directionBy}
 use Rattle.coefficients.specs.Stages.{dcAnswer, directionAnswer, scalerAnswer, valueUnless}
 use Rattle.coefficients.specs.UpTo.{upTo}
@@ -162,7 +163,10 @@ module _ (c : DcComponent) (q : ℕ) (p : BlockPredictors) (z : ℤ) (r : Value)
 
 -- ---- a block of a difference alone
 
-module _ (c : DcComponent) (x : MacroblockTextureContext) (p : BlockPredictors) where
+module _ (c : DcComponent) (x : MacroblockTextureContext) (ns : List ℤ) where
+  abbrev p : BlockPredictors
+  p = numbered ns
+
   abbrev levelOf : ℤ → ℤ
   levelOf z = dcLevel c (x .«quantiser_scale») p z
 
@@ -193,7 +197,7 @@ module _ (c : DcComponent) (x : MacroblockTextureContext) (p : BlockPredictors) 
     )
 
   -- where nothing is added, it is the block of its first place
-  module _ (w : List (List ℕ)) (xs : List ℤ) (good : predictorsFine p ≡ true) (none : adds (x .«ac_pred_flag») (directionBy p) p ≡ false) where
+  module _ (w : List (List ℕ)) (xs : List ℤ) (good : predictorsFine p ≡ true) (none : adds (x .«ac_pred_flag») ns ≡ false) where
     abbrev z : ℤ
     z = getD xs 0 (pos 0)
 
@@ -203,7 +207,7 @@ module _ (c : DcComponent) (x : MacroblockTextureContext) (p : BlockPredictors) 
     levels-are : levelsHere c x p w (upTo 1 xs) ≡ dcBlock (levelOf z)
     levels-are =
         let u = up-to-dc xs in
-        dc-levels c (x .«quantiser_scale») (x .«ac_pred_flag») (x .«alternate_vertical_scan») p (upTo 1 xs) (u .1) none ∙ ap (λ (y : ℤ). dcBlock (levelOf y)) (u .0)
+        dc-levels c (x .«quantiser_scale») (x .«ac_pred_flag») (x .«alternate_vertical_scan») ns (upTo 1 xs) (u .1) none ∙ ap (λ (y : ℤ). dcBlock (levelOf y)) (u .0)
 
     values-are : valuesHere c x p w (upTo 1 xs) ≡ dcValues x (dcValue c x (levelOf z))
     values-are = ap (valuesOf c x w) levels-are ∙ dc-values c x w (levelOf z)

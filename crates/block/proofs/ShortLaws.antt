@@ -5,21 +5,25 @@ use mathlib.Core.Path.{_≡_, ap, ap₂, refl, sym, _∙_}
 use Prim.Native.Nat.{ℕ, zero, suc, _+_, _<_, _≤_}
 use native.Mathlib.Omega.{arith}
 use lib.Dec.{eqb}
-use lib.IntN.{ℤ, pos, _+ℤ_, +ℤ-idr}
+use lib.IntN.{ℤ, natAbs, pos, _+ℤ_, +ℤ-idr}
 use lib.ListN.{getD}
-use borrow.Author.Tests.{eqb-true}
+use borrow.Author.Tests.{eqb-true, not-false}
+use Rattle.numbers.proofs.Every.{every-get}
 use Rattle.numbers.proofs.Fill.{block-eq, cell-block}
 use Rattle.numbers.proofs.Integers.{<ℤ-≤ℤ}
 use Rattle.numbers.proofs.Limits.{clamp-inside}
+use Rattle.numbers.proofs.Magnitudes.{zero-of-abs}
 use Rattle.numbers.specs.Grid.{block, build, cell, cellN}
 use Rattle.numbers.specs.Sum.{sumZ}
 use Rattle.ranges.proofs.RangeLaws.{highest-not-negative, lowest-negative}
 use Rattle.ranges.specs.Range.{differenceFine, highest, lowest}
 use Rattle.codes.specs.declared.dc_size.DcComponent.{DcComponent}
 use Rattle.coefficients.proofs.BlockLaws.{square-block}
+use Rattle.coefficients.proofs.NeededLaws.{zero-predicts}
 use Rattle.coefficients.proofs.ScanLaws.{grid-first, grid-later}
 use Rattle.coefficients.proofs.UpToLaws.{up-to-dc, up-to-rest}
 use Rattle.coefficients.specs.Level.{intraScan, levels, placesFine, saturated}
+use Rattle.coefficients.specs.Needed.{numbered, sevenIn, someValue}
 use Rattle.coefficients.specs.Prediction.{acPrediction, columnPrediction, dcPrediction, dcScaler, directionBy, predicted, rowPrediction}
 use Rattle.coefficients.specs.Scan.{gridOf}
 use Rattle.coefficients.specs.UpTo.{upTo}
@@ -34,25 +38,25 @@ use Rattle.block.specs.Short.{adds, dcLevel, dcValue, dcValues}
 use Rattle.block.specs.Values.{quantOf, valuesOf}
 use Rattle.block.specs.declared.context.MacroblockTextureContext.{MacroblockTextureContext}
 
--- ---- whether a neighbour adds
+-- ---- where no neighbour adds
 
-pub adds-none : (a : Bool) (d : DcPredictionDirection) (p : BlockPredictors) → a ≡ false → false ≡ adds a d p
-adds-none a FromLeft p e = sym (ap (λ (t : Bool). t && p .«a_has_column») e)
-adds-none a FromAbove p e = sym (ap (λ (t : Bool). t && p .«c_has_row») e)
+-- each value that is needed is 0, and predicts 0
+value-none : (ns : List ℤ) (qp q k : ℕ) → someValue (sevenIn ns) ≡ false → acPrediction (getD (sevenIn ns) k (pos 0)) qp q ≡ pos 0
+value-none ns qp q k e =
+    let y = getD (sevenIn ns) k (pos 0) in
+    let none = every-get (λ (z : ℤ). eqb (natAbs z) 0) (pos 0) refl (sevenIn ns) (not-false _ e) k in
+    ap (λ (z : ℤ). acPrediction z qp q) (zero-of-abs y (eqb-true (natAbs y) 0 none)) ∙ zero-predicts qp q
 
-pub adds-by : (a : Bool) (d e : DcPredictionDirection) (p : BlockPredictors) → a ≡ true → d ≡ e → adds true e p ≡ adds a d p
-adds-by a d e p h f = sym (ap₂ (λ (t : Bool) (y : DcPredictionDirection). adds t y p) h f)
+-- so no prediction of an AC level is but 0
+column-none : (a : Bool) (d : DcPredictionDirection) (ns : List ℤ) (q v : ℕ) → adds a ns ≡ false → cond a (columnPrediction (numbered ns) q d v) (pos 0) ≡ pos 0
+column-none false d ns q v e = refl
+column-none true FromLeft ns q v e = value-none ns (numbered ns .«qp_a») q v e
+column-none true FromAbove ns q v e = refl
 
--- where none does, no prediction of an AC level is but 0
-column-none : (a : Bool) (d : DcPredictionDirection) (p : BlockPredictors) (q v : ℕ) → adds a d p ≡ false → cond a (columnPrediction p q d v) (pos 0) ≡ pos 0
-column-none false d p q v e = refl
-column-none true FromLeft p q v e = ap (λ (t : Bool). cond t (acPrediction (getD (p .«a_first_column») v (pos 0)) (p .«qp_a») q) (pos 0)) e
-column-none true FromAbove p q v e = refl
-
-row-none : (a : Bool) (d : DcPredictionDirection) (p : BlockPredictors) (q u : ℕ) → adds a d p ≡ false → cond a (rowPrediction p q d u) (pos 0) ≡ pos 0
-row-none false d p q u e = refl
-row-none true FromLeft p q u e = refl
-row-none true FromAbove p q u e = ap (λ (t : Bool). cond t (acPrediction (getD (p .«c_first_row») u (pos 0)) (p .«qp_c») q) (pos 0)) e
+row-none : (a : Bool) (d : DcPredictionDirection) (ns : List ℤ) (q u : ℕ) → adds a ns ≡ false → cond a (rowPrediction (numbered ns) q d u) (pos 0) ≡ pos 0
+row-none false d ns q u e = refl
+row-none true FromLeft ns q u e = refl
+row-none true FromAbove ns q u e = value-none ns (numbered ns .«qp_c») q u e
 
 -- ---- levels
 
@@ -75,8 +79,11 @@ elsewhere z v u h = go (eqb v 0) (eqb u 0) refl refl
     go true false e f = refl
     go false t e f = refl
 
-module _ (c : DcComponent) (q : ℕ) (acPred alternate : Bool) (p : BlockPredictors) (qfs : List ℤ)
-    (rest : (k : ℕ) → 1 ≤ k → getD qfs k (pos 0) ≡ pos 0) (none : adds acPred (directionBy p) p ≡ false) where
+module _ (c : DcComponent) (q : ℕ) (acPred alternate : Bool) (ns qfs : List ℤ)
+    (rest : (k : ℕ) → 1 ≤ k → getD qfs k (pos 0) ≡ pos 0) (none : adds acPred ns ≡ false) where
+  abbrev p : BlockPredictors
+  p = numbered ns
+
   abbrev scan : ScanType
   scan = intraScan alternate acPred (directionBy p)
 
@@ -94,10 +101,10 @@ module _ (c : DcComponent) (q : ℕ) (acPred alternate : Bool) (p : BlockPredict
   level-at zero zero l m = ap (λ (k : ℕ). saturated (getD qfs k (pos 0) +ℤ dcPrediction (directionBy p) (p .«fa_dc») (p .«fc_dc») (dcScaler c q))) (grid-first scan)
   level-at (suc v) zero l m =
       let h : Off (suc v) 0 = λ z. not-zero v (z .0) in
-      both-none (place-rest (suc v) 0 l m h) (column-none acPred (directionBy p) p q v none) ∙ sym (elsewhere _ (suc v) 0 h)
+      both-none (place-rest (suc v) 0 l m h) (column-none acPred (directionBy p) ns q v none) ∙ sym (elsewhere _ (suc v) 0 h)
   level-at zero (suc u) l m =
       let h : Off 0 (suc u) = λ z. not-zero u (z .1) in
-      both-none (place-rest 0 (suc u) l m h) (row-none acPred (directionBy p) p q u none) ∙ sym (elsewhere _ 0 (suc u) h)
+      both-none (place-rest 0 (suc u) l m h) (row-none acPred (directionBy p) ns q u none) ∙ sym (elsewhere _ 0 (suc u) h)
   level-at (suc v) (suc u) l m =
       let h : Off (suc v) (suc u) = λ z. not-zero v (z .0) in
       both-none (place-rest (suc v) (suc u) l m h) refl ∙ sym (elsewhere _ (suc v) (suc u) h)

@@ -10,8 +10,9 @@ use Rattle.inverse_quant.specs.Either.{answerBy, dequantisedBy}
 use Rattle.inverse_quant.specs.declared.context.InverseQuantContext.{InverseQuantContext}
 use Rattle.coefficients.specs.Level.{blockFine}
 use Rattle.coefficients.specs.Refusal.{after, firstBad}
+use Rattle.coefficients.specs.declared.refusal.CoefficientError.{CoefficientError}
 use Rattle.coefficients.specs.declared.refusal.Stage.{Stage}
-use Rattle.coefficients.specs.declared.refusal.Stage.the-variants.{Done}
+use Rattle.coefficients.specs.declared.refusal.Stage.the-variants.{Done, Refused}
 use Rattle.numbers.proofs.Tests.{both-true, true-both}
 use Rattle.numbers.specs.Every.{every}
 use Rattle.ranges.specs.Range.{depthFine, quantiserFine}
@@ -21,6 +22,10 @@ use Rattle.block.specs.declared.context.MacroblockTextureContext.{Macrob
 -- a stage that is done leaves its block
 pub done-leaves : {A : Type 0} (s : Stage) (new old : A) → s ≡ Done → after s new old ≡ new
 done-leaves s new old e = ap (λ (x : Stage). after x new old) e
+
+-- and one that is refused the block as it was
+pub refused-leaves : {A : Type 0} (s : Stage) (n : CoefficientError) (new old : A) → s ≡ Refused n → after s new old ≡ old
+refused-leaves s n new old e = ap (λ (x : Stage). after x new old) e
 
 module _ (x : MacroblockTextureContext) (w : List (List ℕ)) (h : contextFine x w ≡ true) where
   pub quantiser-fine : quantiserFine (x .«quantiser_scale») ≡ true

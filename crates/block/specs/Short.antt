@@ -5,18 +5,16 @@ use Prim.Native.Nat.{ℕ}
 use lib.IntN.{ℤ, _+ℤ_}
 use Rattle.codes.specs.declared.dc_size.DcComponent.{DcComponent}
 use Rattle.coefficients.specs.Level.{saturated}
+use Rattle.coefficients.specs.Needed.{sevenIn, someValue}
 use Rattle.coefficients.specs.Prediction.{dcPrediction, dcScaler, directionBy}
 use Rattle.coefficients.specs.declared.predictor.BlockPredictors.{BlockPredictors}
-use Rattle.coefficients.specs.declared.scan.DcPredictionDirection.{DcPredictionDirection}
-use Rattle.coefficients.specs.declared.scan.DcPredictionDirection.the-variants.{FromLeft, FromAbove}
 use Rattle.idct.specs.Clipped.{dcAndLast, dcBlock}
 use Rattle.inverse_quant.specs.Dequantised.{even, intraDc, limitedF}
 use Rattle.block.specs.declared.context.MacroblockTextureContext.{MacroblockTextureContext}
 
--- AC values of a neighbour are added: AC prediction is set, and the side that the DCs choose has some
-abbrev pub adds : Bool → DcPredictionDirection → BlockPredictors → Bool
-adds acPred FromLeft p = acPred && p .«a_has_column»
-adds acPred FromAbove p = acPred && p .«c_has_row»
+-- AC values of a neighbour are added: AC prediction is set, and of the values that are needed some is not 0
+abbrev pub adds : Bool → List ℤ → Bool
+adds acPred ns = acPred && someValue (sevenIn ns)
 
 -- the level of a difference (7.4.3.2, 7.4.3.4) and its dequantised value (7.4.4.1.1, 7.4.4.4)
 abbrev pub dcLevel : DcComponent → ℕ → BlockPredictors → ℤ → ℤ

@@ -7,6 +7,7 @@ ghost use Prim.Native.Nat.{_+_};
 ghost use Rattle.numbers.specs.Grid.{cell};
 ghost use Rattle.ranges.specs.Range.{depthFine, differenceFine, levelFine, quantiserFine};
 ghost use Rattle.coefficients.specs.Level.{blockFine, predictorsFine};
+ghost use Rattle.coefficients.specs.Needed.{numbered};
 ghost use Rattle.coefficients.specs.Prediction.{directionBy};
 ghost use Rattle.coefficients.specs.UpTo.{upTo};
 ghost use Rattle.idct.specs.Clipped.{dcBlock};
@@ -23,7 +24,6 @@ use crate::error::BlockAssemblyError;
 use crate::reconstruct::BlockRebuilt;
 use codes::BlockComponent;
 use codes::DcComponent;
-use coefficients::BlockPredictors;
 use coefficients::DcPredictionDirection;
 use coefficients::Direction;
 use coefficients::Scaler;
@@ -34,16 +34,13 @@ use ranges::Depth;
 use ranges::DepthLimits;
 
 // Whether AC values of a neighbour are added.
-fn adds_values(ac_pred_flag: bool, direction: DcPredictionDirection, p: BlockPredictors) -> bool
-    ensures { λ r. ⌜ r ≡ adds «ac_pred_flag» direction p ⌝ }
+fn adds_values(ac_pred_flag: bool, n: &[i32; 11]) -> bool
+    ensures { λ r. ⌜ r ≡ adds «ac_pred_flag» (now (n .entry)) ⌝ }
 {
     if !ac_pred_flag {
         return false;
     }
-    match direction {
-        DcPredictionDirection::FromLeft => p.a_has_column,
-        DcPredictionDirection::FromAbove => p.c_has_row,
-    }
+    coefficients::adds_values(n)
 }
 
 // A value within the limits of a depth.
@@ -126,19 +123,19 @@ fn dc_alone(
     direction: DcPredictionDirection,
     component: DcComponent,
     ctx: MacroblockTextureContext,
-    p: BlockPredictors,
+    n: &[i32; 11],
     spatial: &mut [[i32; 8]; 8],
     qf: &mut [[i32; 8]; 8],
 ) -> BlockRebuilt
-    requires { ⌜ (quantiserFine (ctx .«quantiser_scale») ≡ true) × (depthFine (ctx .«bits_per_pixel») ≡ true) × (predictorsFine p ≡ true) × (direction ≡ directionBy p) ⌝ }
-    ensures { λ r. ⌜ r ≡ rebuiltBy (firstBad ((differenceFine difference, Predictor) ∷ [])) (dcValue component ctx (dcLevel component (ctx .«quantiser_scale») p difference)) ⌝ }
-    ensures samples { λ r. ⌜ now (spatial .exit) ≡ keptBy (firstBad ((differenceFine difference, Predictor) ∷ [])) (samplesOf ctx (dcValues ctx (dcValue component ctx (dcLevel component (ctx .«quantiser_scale») p difference)))) (now (spatial .entry)) ⌝ }
-    ensures levels { λ r. ⌜ now (qf .exit) ≡ keptBy (firstBad ((differenceFine difference, Predictor) ∷ [])) (dcBlock (dcLevel component (ctx .«quantiser_scale») p difference)) (now (qf .entry)) ⌝ }
+    requires { ⌜ (quantiserFine (ctx .«quantiser_scale») ≡ true) × (depthFine (ctx .«bits_per_pixel») ≡ true) × (predictorsFine (numbered (now n)) ≡ true) × (direction ≡ directionBy (numbered (now n))) ⌝ }
+    ensures { λ r. ⌜ r ≡ rebuiltBy (firstBad ((differenceFine difference, Predictor) ∷ [])) (dcValue component ctx (dcLevel component (ctx .«quantiser_scale») (numbered (now (n .entry))) difference)) ⌝ }
+    ensures samples { λ r. ⌜ now (spatial .exit) ≡ keptBy (firstBad ((differenceFine difference, Predictor) ∷ [])) (samplesOf ctx (dcValues ctx (dcValue component ctx (dcLevel component (ctx .«quantiser_scale») (numbered (now (n .entry))) difference)))) (now (spatial .entry)) ⌝ }
+    ensures levels { λ r. ⌜ now (qf .exit) ≡ keptBy (firstBad ((differenceFine difference, Predictor) ∷ [])) (dcBlock (dcLevel component (ctx .«quantiser_scale») (numbered (now (n .entry))) difference)) (now (qf .entry)) ⌝ }
 {
     match coefficients::dc_scaler(component, ctx.quantiser_scale) {
         Scaler::Refused(_) => BlockRebuilt::Refused(BlockAssemblyError::Context),
-        Scaler::Is(n) => {
-            match coefficients::predict_intra_dc(difference, direction, p.fa_dc, p.fc_dc, n) {
+        Scaler::Is(scaler) => {
+            match coefficients::predict_intra_dc(difference, direction, n[0], n[2], scaler) {
                 Value::Refused(_) => BlockRebuilt::Refused(BlockAssemblyError::Predictor),
                 Value::Is(z) => {
                     let level = coefficients::saturate_qf(z);
@@ -192,36 +189,25 @@ fn coded(
     qfs: &[i32],
     end: usize,
     ctx: MacroblockTextureContext,
-    predictors: BlockPredictors,
+    n: &[i32; 11],
     w: [[u8; 8]; 8],
     spatial: &mut [[i32; 8]; 8],
     qf: &mut [[i32; 8]; 8],
 ) -> BlockRebuilt
     requires { ⌜ contextFine ctx w ≡ true ⌝ }
-    ensures { λ r. ⌜ r ≡ rebuiltBy (firstBad (handedTests component ctx predictors w (upTo end (now (qfs .entry))))) (dcHere component ctx predictors w (upTo end (now (qfs .entry)))) ⌝ }
-    ensures samples { λ r. ⌜ now (spatial .exit) ≡ keptBy (firstBad (handedTests component ctx predictors w (upTo end (now (qfs .entry))))) (samplesOf ctx (valuesHere component ctx predictors w (upTo end (now (qfs .entry))))) (now (spatial .entry)) ⌝ }
-    ensures levels { λ r. ⌜ now (qf .exit) ≡ keptBy (firstBad (handedTests component ctx predictors w (upTo end (now (qfs .entry))))) (levelsHere component ctx predictors w (upTo end (now (qfs .entry)))) (now (qf .entry)) ⌝ }
+    ensures { λ r. ⌜ r ≡ rebuiltBy (firstBad (handedTests component ctx (numbered (now (n .entry))) w (upTo end (now (qfs .entry))))) (dcHere component ctx (numbered (now (n .entry))) w (upTo end (now (qfs .entry)))) ⌝ }
+    ensures samples { λ r. ⌜ now (spatial .exit) ≡ keptBy (firstBad (handedTests component ctx (numbered (now (n .entry))) w (upTo end (now (qfs .entry))))) (samplesOf ctx (valuesHere component ctx (numbered (now (n .entry))) w (upTo end (now (qfs .entry))))) (now (spatial .entry)) ⌝ }
+    ensures levels { λ r. ⌜ now (qf .exit) ≡ keptBy (firstBad (handedTests component ctx (numbered (now (n .entry))) w (upTo end (now (qfs .entry))))) (levelsHere component ctx (numbered (now (n .entry))) w (upTo end (now (qfs .entry)))) (now (qf .entry)) ⌝ }
 {
-    let mut levels = [[0i32; 8]; 8];
     let q = ctx.quantiser_scale;
     let ac_pred = ctx.ac_pred_flag;
     let alternate = ctx.alternate_vertical_scan;
-    let stage = coefficients::intra_levels_up_to(
-        qfs,
-        end,
-        component,
-        q,
-        ac_pred,
-        alternate,
-        predictors,
-        &mut levels,
-    );
+    let stage = coefficients::intra_levels_up_to(qfs, end, component, q, ac_pred, alternate, n, qf);
     match stage {
         Stage::Refused(_) => BlockRebuilt::Refused(BlockAssemblyError::Predictor),
         Stage::Done => {
-            let rebuilt = from_levels(levels, component, ctx, w, spatial);
-            *qf = levels;
-            rebuilt
+            let levels = *qf;
+            from_levels(levels, component, ctx, w, spatial)
         }
     }
 }
@@ -232,27 +218,27 @@ fn rebuild_up_to(
     qfs: &[i32],
     end: usize,
     ctx: MacroblockTextureContext,
-    predictors: BlockPredictors,
+    n: &[i32; 11],
     w: [[u8; 8]; 8],
     spatial: &mut [[i32; 8]; 8],
     qf: &mut [[i32; 8]; 8],
 ) -> BlockRebuilt
     requires { ⌜ contextFine ctx w ≡ true ⌝ }
-    ensures { λ r. ⌜ r ≡ rebuiltBy (firstBad (handedTests component ctx predictors w (upTo end (now (qfs .entry))))) (dcHere component ctx predictors w (upTo end (now (qfs .entry)))) ⌝ }
-    ensures samples { λ r. ⌜ now (spatial .exit) ≡ keptBy (firstBad (handedTests component ctx predictors w (upTo end (now (qfs .entry))))) (samplesOf ctx (valuesHere component ctx predictors w (upTo end (now (qfs .entry))))) (now (spatial .entry)) ⌝ }
-    ensures levels { λ r. ⌜ now (qf .exit) ≡ keptBy (firstBad (handedTests component ctx predictors w (upTo end (now (qfs .entry))))) (levelsHere component ctx predictors w (upTo end (now (qfs .entry)))) (now (qf .entry)) ⌝ }
+    ensures { λ r. ⌜ r ≡ rebuiltBy (firstBad (handedTests component ctx (numbered (now (n .entry))) w (upTo end (now (qfs .entry))))) (dcHere component ctx (numbered (now (n .entry))) w (upTo end (now (qfs .entry)))) ⌝ }
+    ensures samples { λ r. ⌜ now (spatial .exit) ≡ keptBy (firstBad (handedTests component ctx (numbered (now (n .entry))) w (upTo end (now (qfs .entry))))) (samplesOf ctx (valuesHere component ctx (numbered (now (n .entry))) w (upTo end (now (qfs .entry))))) (now (spatial .entry)) ⌝ }
+    ensures levels { λ r. ⌜ now (qf .exit) ≡ keptBy (firstBad (handedTests component ctx (numbered (now (n .entry))) w (upTo end (now (qfs .entry))))) (levelsHere component ctx (numbered (now (n .entry))) w (upTo end (now (qfs .entry)))) (now (qf .entry)) ⌝ }
 {
-    if !coefficients::predictors_fine(predictors) {
+    if !coefficients::needed_fine(n) {
         return BlockRebuilt::Refused(BlockAssemblyError::Predictor);
     }
-    match coefficients::select_dc_direction(predictors.fa_dc, predictors.fb_dc, predictors.fc_dc) {
+    match coefficients::select_dc_direction(n[0], n[1], n[2]) {
         Direction::Refused(_) => BlockRebuilt::Refused(BlockAssemblyError::Predictor),
         Direction::Is(direction) => {
-            let adds = adds_values(ctx.ac_pred_flag, direction, predictors);
+            let adds = adds_values(ctx.ac_pred_flag, n);
             if (end == 1) & (1 <= qfs.len()) & !adds {
-                return dc_alone(qfs[0], direction, component, ctx, predictors, spatial, qf);
+                return dc_alone(qfs[0], direction, component, ctx, n, spatial, qf);
             }
-            coded(component, qfs, end, ctx, predictors, w, spatial, qf)
+            coded(component, qfs, end, ctx, n, w, spatial, qf)
         }
     }
 }
@@ -263,15 +249,15 @@ pub fn reconstruct_up_to(
     qfs: &[i32],
     end: usize,
     ctx: MacroblockTextureContext,
-    predictors: BlockPredictors,
+    n: &[i32; 11],
     w: [[u8; 8]; 8],
     spatial: &mut [[i32; 8]; 8],
     qf: &mut [[i32; 8]; 8],
 ) -> BlockRebuilt
-    ensures { λ r. ⌜ r ≡ rebuiltAnswer i ctx predictors w (upTo end (now (qfs .entry))) ⌝ }
-    ensures samples { λ r. ⌜ now (spatial .exit) ≡ rebuiltSamples i ctx predictors w (upTo end (now (qfs .entry))) (now (spatial .entry)) ⌝ }
-    ensures levels { λ r. ⌜ now (qf .exit) ≡ rebuiltLevels i ctx predictors w (upTo end (now (qfs .entry))) (now (qf .entry)) ⌝ }
-    ensures outcome { λ r. ⌜ rebuiltOutcome r ≡ rebuiltDue i ctx predictors w (upTo end (now (qfs .entry))) ⌝ }
+    ensures { λ r. ⌜ r ≡ rebuiltAnswer i ctx (numbered (now (n .entry))) w (upTo end (now (qfs .entry))) ⌝ }
+    ensures samples { λ r. ⌜ now (spatial .exit) ≡ rebuiltSamples i ctx (numbered (now (n .entry))) w (upTo end (now (qfs .entry))) (now (spatial .entry)) ⌝ }
+    ensures levels { λ r. ⌜ now (qf .exit) ≡ rebuiltLevels i ctx (numbered (now (n .entry))) w (upTo end (now (qfs .entry))) (now (qf .entry)) ⌝ }
+    ensures outcome { λ r. ⌜ rebuiltOutcome r ≡ rebuiltDue i ctx (numbered (now (n .entry))) w (upTo end (now (qfs .entry))) ⌝ }
 {
     let component = DcComponent::from_block_index(i);
     match component {
@@ -280,7 +266,7 @@ pub fn reconstruct_up_to(
             if !crate::error::context_fine(ctx, w) {
                 return BlockRebuilt::Refused(BlockAssemblyError::Context);
             }
-            rebuild_up_to(m, qfs, end, ctx, predictors, w, spatial, qf)
+            rebuild_up_to(m, qfs, end, ctx, n, w, spatial, qf)
         }
     }
 }

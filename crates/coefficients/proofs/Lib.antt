@@ -11,6 +11,7 @@ pub mod LevelLaws
 pub mod OutcomeLaws
 pub mod ScalerLaws
 pub mod UpToLaws
+pub mod HandedLaws
 pub mod NeededLaws
 pub mod OrderLaws
 pub mod SideLaws

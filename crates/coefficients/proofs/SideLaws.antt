@@ -170,33 +170,9 @@ module _ (b : List (List ℤ)) (good : Levelled b) (p : BlockPredictors) (q : �
   off-gives d zero (suc u) = refl
   off-gives d (suc v) (suc u) = refl
 
-  left-gives : p .«a_has_column» ≡ false → (acPred : Bool) (v u : ℕ) → given acPred FromLeft v u ≡ pos 0
-  unfolding beside
-  left-gives e acPred zero zero = refl
-  left-gives e true (suc v) zero = rw e
-  left-gives e false (suc v) zero = refl
-  left-gives e true zero (suc u) = refl
-  left-gives e false zero (suc u) = refl
-  left-gives e acPred (suc v) (suc u) = refl
-
-  above-gives : p .«c_has_row» ≡ false → (acPred : Bool) (v u : ℕ) → given acPred FromAbove v u ≡ pos 0
-  unfolding beside
-  above-gives e acPred zero zero = refl
-  above-gives e true (suc v) zero = refl
-  above-gives e false (suc v) zero = refl
-  above-gives e true zero (suc u) = rw e
-  above-gives e false zero (suc u) = refl
-  above-gives e acPred (suc v) (suc u) = refl
-
-  -- without AC prediction, and with a neighbour that is missing
+  -- without AC prediction
   pub off-added : (d : DcPredictionDirection) → b ≡ acPredicted false d p q b
   off-added d = nothing-added b good (given false d) (off-gives d)
-
-  pub left-missing-added : (acPred : Bool) → p .«a_has_column» ≡ false → b ≡ acPredicted acPred FromLeft p q b
-  left-missing-added acPred e = nothing-added b good (given acPred FromLeft) (left-gives e acPred)
-
-  pub above-missing-added : (acPred : Bool) → p .«c_has_row» ≡ false → b ≡ acPredicted acPred FromAbove p q b
-  above-missing-added acPred e = nothing-added b good (given acPred FromAbove) (above-gives e acPred)
 
   -- the seven predictions from A, and from C
   seven-of : (f : ℕ → ℤ) (k : ℕ) → k < 7 → seven 7 (build 7 f) k ≡ f k

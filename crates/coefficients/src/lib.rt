@@ -3,12 +3,17 @@
 //
 // No public function has a `requires`. Where a call has a quantiser, a depth, a level or a predictor that
 // document 01 refuses, it is refused by 12 or 13, and lent memory stays as it was.
+mod handed;
 mod level;
 mod predictor;
 mod refusal;
 mod scan;
 mod short;
 
+pub use handed::adds_values;
+pub use handed::needed;
+pub use handed::needed_fine;
+pub use handed::put_numbers;
 pub use level::intra_levels;
 pub use level::predictors_fine;
 pub use level::saturate_block;

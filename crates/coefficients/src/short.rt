@@ -8,13 +8,15 @@ ghost use Rattle.numbers.specs.Every.{every};
 ghost use Rattle.numbers.specs.Grid.{build};
 ghost use Rattle.ranges.specs.Range.{levelFine};
 ghost use Rattle.coefficients.specs.Level.{levels, levelsAnswer, placesFine};
+ghost use Rattle.coefficients.specs.Needed.{numbered};
 ghost use Rattle.coefficients.specs.Outcomes.{levelsDue, stageOutcome};
 ghost use Rattle.coefficients.specs.Prediction.{acPrediction};
 ghost use Rattle.coefficients.specs.Refusal.{after};
 ghost use Rattle.coefficients.specs.Short.{Levelled, acPredicted, acScanned, columnAdded, inside, placed, rowAdded, zeros};
 ghost use Rattle.coefficients.specs.Stages.{PredictorsGood};
 ghost use Rattle.coefficients.specs.UpTo.{upTo};
-use crate::predictor::BlockPredictors;
+use crate::handed::needed_fine;
+use crate::handed::seven_in;
 use crate::refusal::CoefficientError;
 use crate::refusal::Stage;
 use crate::scan::DcPredictionDirection;
@@ -327,37 +329,28 @@ fn add_row(more: [i32; 7], qf: &mut [[i32; 8]; 8])
     }
 }
 
-// The first column, or row, with its prediction, where `ac_pred_flag` is set and the neighbour is there.
+// The first column, or row, with its prediction, where `ac_pred_flag` is set.
 fn predict(
     ac_pred_flag: bool,
     direction: DcPredictionDirection,
-    p: BlockPredictors,
+    n: &[i32; 11],
     q: u32,
     qf: &mut [[i32; 8]; 8],
 )
-    requires { ⌜ (1 ≤ q) × PredictorsGood p × Levelled (now qf) ⌝ }
-    ensures { λ _. ⌜ now (qf .exit) ≡ acPredicted «ac_pred_flag» direction p q (now (qf .entry)) ⌝ }
+    requires { ⌜ (1 ≤ q) × PredictorsGood (numbered (now n)) × Levelled (now qf) ⌝ }
+    ensures { λ _. ⌜ now (qf .exit) ≡ acPredicted «ac_pred_flag» direction (numbered (now (n .entry))) q (now (qf .entry)) ⌝ }
 {
     if !ac_pred_flag {
         return;
     }
+    let more = seven_predictions(seven_in(n), numbers::abs(n[3]), q);
     match direction {
-        DcPredictionDirection::FromLeft => {
-            if p.a_has_column {
-                let values = p.a_first_column;
-                add_column(seven_predictions(values, p.qp_a, q), qf);
-            }
-        }
-        DcPredictionDirection::FromAbove => {
-            if p.c_has_row {
-                let values = p.c_first_row;
-                add_row(seven_predictions(values, p.qp_c, q), qf);
-            }
-        }
+        DcPredictionDirection::FromLeft => add_column(more, qf),
+        DcPredictionDirection::FromAbove => add_row(more, qf),
     }
 }
 
-// The levels of places and predictors that are in range.
+// The levels of places and numbers that are in range.
 fn put_levels(
     qfs: &[i32],
     end: usize,
@@ -365,20 +358,20 @@ fn put_levels(
     quantiser_scale: u32,
     ac_pred_flag: bool,
     alternate_vertical_scan: bool,
-    p: BlockPredictors,
+    n: &[i32; 11],
     qf: &mut [[i32; 8]; 8],
 )
-    requires { ⌜ (end ≤ 64) × (end ≤ length (now qfs)) × (1 ≤ «quantiser_scale») × («quantiser_scale» ≤ 511) × PredictorsGood p × (placesFine (upTo end (now qfs)) ≡ true) ⌝ }
-    ensures { λ _. ⌜ now (qf .exit) ≡ levels component «quantiser_scale» «ac_pred_flag» «alternate_vertical_scan» p (upTo end (now (qfs .entry))) ⌝ }
+    requires { ⌜ (end ≤ 64) × (end ≤ length (now qfs)) × (1 ≤ «quantiser_scale») × («quantiser_scale» ≤ 511) × PredictorsGood (numbered (now n)) × (placesFine (upTo end (now qfs)) ≡ true) ⌝ }
+    ensures { λ _. ⌜ now (qf .exit) ≡ levels component «quantiser_scale» «ac_pred_flag» «alternate_vertical_scan» (numbered (now (n .entry))) (upTo end (now (qfs .entry))) ⌝ }
 {
-    let direction = crate::predictor::direction_of(p.fa_dc, p.fb_dc, p.fc_dc);
+    let direction = crate::predictor::direction_of(n[0], n[1], n[2]);
     let scan_type = crate::level::intra_scan(alternate_vertical_scan, ac_pred_flag, direction);
     let scaler = crate::predictor::scaler_of(component, quantiser_scale);
-    let dc = crate::predictor::dc_prediction(direction, p.fa_dc, p.fc_dc, scaler);
+    let dc = crate::predictor::dc_prediction(direction, n[0], n[2], scaler);
     let first = first_place(qfs, end);
     *qf = [[0i32; 8]; 8];
     scatter(qfs, end, scan_type, qf);
-    predict(ac_pred_flag, direction, p, quantiser_scale, qf);
+    predict(ac_pred_flag, direction, n, quantiser_scale, qf);
     qf[0][0] = crate::level::saturate_qf(first + dc);
 }
 
@@ -390,16 +383,16 @@ pub fn intra_levels_up_to(
     quantiser_scale: u32,
     ac_pred_flag: bool,
     alternate_vertical_scan: bool,
-    predictors: BlockPredictors,
+    numbers: &[i32; 11],
     qf: &mut [[i32; 8]; 8],
 ) -> Stage
-    ensures { λ r. ⌜ (r ≡ levelsAnswer «quantiser_scale» predictors (upTo end (now (qfs .entry)))) × (now (qf .exit) ≡ after (levelsAnswer «quantiser_scale» predictors (upTo end (now (qfs .entry)))) (levels component «quantiser_scale» «ac_pred_flag» «alternate_vertical_scan» predictors (upTo end (now (qfs .entry)))) (now (qf .entry))) ⌝ }
-    ensures outcome { λ r. ⌜ stageOutcome r ≡ levelsDue «quantiser_scale» predictors (upTo end (now (qfs .entry))) ⌝ }
+    ensures { λ r. ⌜ (r ≡ levelsAnswer «quantiser_scale» (numbered (now (numbers .entry))) (upTo end (now (qfs .entry)))) × (now (qf .exit) ≡ after (levelsAnswer «quantiser_scale» (numbered (now (numbers .entry))) (upTo end (now (qfs .entry)))) (levels component «quantiser_scale» «ac_pred_flag» «alternate_vertical_scan» (numbered (now (numbers .entry))) (upTo end (now (qfs .entry)))) (now (qf .entry))) ⌝ }
+    ensures outcome { λ r. ⌜ stageOutcome r ≡ levelsDue «quantiser_scale» (numbered (now (numbers .entry))) (upTo end (now (qfs .entry))) ⌝ }
 {
     if !ranges::Quantiser::fine(quantiser_scale) {
         return Stage::Refused(CoefficientError::Context);
     }
-    if !crate::level::predictors_fine(predictors) {
+    if !needed_fine(numbers) {
         return Stage::Refused(CoefficientError::HandedIn);
     }
     let last = numbers::least(64, numbers::least(end, qfs.len()));
@@ -413,7 +406,7 @@ pub fn intra_levels_up_to(
         quantiser_scale,
         ac_pred_flag,
         alternate_vertical_scan,
-        predictors,
+        numbers,
         qf,
     );
     Stage::Done

@@ -8,15 +8,18 @@ use native.Mathlib.Numerals.{add-one}
 use native.Mathlib.Omega.{arith}
 use lib.IntN.{ℤ}
 use lib.ListN.{getD, length, List·getD-eq-default}
-use Rattle.numbers.proofs.Fill.{getD-build, lt-or-le}
+use Rattle.numbers.proofs.Fill.{build-eq, getD-build, lt-or-le}
 use Rattle.codes.specs.Component.{componentAt}
+use Rattle.coefficients.proofs.NeededLaws.{needed-levels}
 use Rattle.coefficients.proofs.UpToLaws.{up-to-all}
+use Rattle.coefficients.specs.Level.{predictorsFine}
+use Rattle.coefficients.specs.Needed.{neededOf, numbered}
 use Rattle.coefficients.specs.UpTo.{upTo}
 use Rattle.coefficients.specs.declared.predictor.BlockPredictors.{BlockPredictors}
 use Rattle.idct.specs.Limits.{valuesFine}
 use Rattle.block.proofs.AnswerLaws.{values-fine}
 use Rattle.block.specs.Rebuilt.{valuesHere}
-use Rattle.block.specs.Values.{samplesOf}
+use Rattle.block.specs.Values.{samplesOf, valuesOf}
 use Rattle.block.specs.declared.context.MacroblockTextureContext.{MacroblockTextureContext}
 use Rattle.samples.proofs.TurnLaws.{turn-all, turn-by}
 use Rattle.samples.specs.Samples.{blockAfter, blocksAfter, samplesAfter}
@@ -34,6 +37,14 @@ module _ (x : MacroblockTextureContext) (p : BlockPredictors) (w : List (List �
   pub samples-six-at : (i : ℕ) → i < 6 → samplesOf x (valuesHere (componentAt i) x p w (getD rows i [])) ≡ samplesOf x (blockAt (valuesOfSix x p w rows) i)
   unfolding valuesOfSix
   samples-six-at i l = ap (samplesOf x) (sym (getD-build 6 _ i [] l))
+
+-- with what is needed of the predictors the values are the same
+pub needed-six : (x : MacroblockTextureContext) (p : BlockPredictors) (w : List (List ℕ)) (rows : List (List ℤ)) → predictorsFine p ≡ true
+    → valuesOfSix x (numbered (neededOf (x .«quantiser_scale») (x .«ac_pred_flag») p)) w rows ≡ valuesOfSix x p w rows
+unfolding valuesOfSix
+needed-six x p w rows e =
+    build-eq 6 _ _
+    (λ i l. ap (valuesOf (componentAt i) x w) (needed-levels (componentAt i) (x .«quantiser_scale») (x .«ac_pred_flag») (x .«alternate_vertical_scan») p (getD rows i []) e))
 
 pub samples-at : (x : MacroblockTextureContext) (fs : List (List (List ℤ))) (i : ℕ) → i < 6 → blockAt (samplesOfSix x fs) i ≡ samplesOf x (blockAt fs i)
 unfolding samplesOfSix

@@ -6,6 +6,7 @@ ghost use Prim.Native.Nat.{ℕ, _<_, _≤_};
 ghost use lib.ListN.{getD, length};
 ghost use Rattle.codes.specs.Component.{componentAt};
 ghost use Rattle.coefficients.specs.Level.{placesFine, predictorsFine};
+ghost use Rattle.coefficients.specs.Needed.{numbered};
 ghost use Rattle.coefficients.specs.UpTo.{upTo};
 ghost use Rattle.block.specs.Rebuilt.{valuesHere};
 ghost use Rattle.block.specs.Values.{contextFine, samplesOf};
@@ -20,23 +21,23 @@ use block::MacroblockTextureContext;
 use coefficients::BlockPredictors;
 use samples::BlockWritten;
 
-// Block `i` out of its places below `end` into its part of the samples. The state is fine and the places are a sentence's,
+// Block `i` out of its places below `end`, with what it needs of its predictors, into its part of the samples. The state is fine and the places are a sentence's,
 // so nothing is refused.
 fn block_into(
     i: usize,
     qfs: &[i32],
     end: usize,
     ctx: MacroblockTextureContext,
-    predictors: BlockPredictors,
+    n: &[i32; 11],
     w: [[u8; 8]; 8],
     samples: &mut [i32],
 ) -> Checked
-    requires { ⌜ (i < 6) × (384 ≤ length (now samples)) × (contextFine ctx w ≡ true) × (predictorsFine predictors ≡ true) × (placesFine (now qfs) ≡ true) × (upTo end (now qfs) ≡ now qfs) ⌝ }
-    ensures { λ r. ⌜ (r ≡ Fine) × (now (samples .exit) ≡ blockAfter i (samplesOf ctx (valuesHere (componentAt i) ctx predictors w (now (qfs .entry)))) (now (samples .entry))) ⌝ }
+    requires { ⌜ (i < 6) × (384 ≤ length (now samples)) × (contextFine ctx w ≡ true) × (predictorsFine (numbered (now n)) ≡ true) × (placesFine (now qfs) ≡ true) × (upTo end (now qfs) ≡ now qfs) ⌝ }
+    ensures { λ r. ⌜ (r ≡ Fine) × (now (samples .exit) ≡ blockAfter i (samplesOf ctx (valuesHere (componentAt i) ctx (numbered (now (n .entry))) w (now (qfs .entry)))) (now (samples .entry))) ⌝ }
 {
     let mut spatial = [[0i32; 8]; 8];
     let mut qf = [[0i32; 8]; 8];
-    let one = block::reconstruct_up_to(i, qfs, end, ctx, predictors, w, &mut spatial, &mut qf);
+    let one = block::reconstruct_up_to(i, qfs, end, ctx, n, w, &mut spatial, &mut qf);
     match one {
         BlockRebuilt::Refused(e) => Checked::Bad(e),
         BlockRebuilt::Rebuilt(_) => {
@@ -62,8 +63,10 @@ pub(crate) fn samples_of_six(
     requires { ⌜ (384 ≤ length (now samples)) × (contextFine ctx w ≡ true) × (predictorsFine predictors ≡ true) × (ends ≡ endsOf (now rows)) × ((i : ℕ) → i < 6 → (placesFine (getD (now rows) i []) ≡ true) × (length (getD (now rows) i []) ≡ 64)) ⌝ }
     ensures { λ r. ⌜ (r ≡ Fine) × (now (samples .exit) ≡ samplesAfter (samplesOfSix ctx (valuesOfSix ctx predictors w (now (rows .entry)))) (now (samples .entry))) ⌝ }
 {
+    let mut n = [0i32; 11];
+    coefficients::needed(predictors, ctx.quantiser_scale, ctx.ac_pred_flag, &mut n);
     for i in 0..6 {
-        let one = block_into(i, &rows[i], ends[i], ctx, predictors, w, samples);
+        let one = block_into(i, &rows[i], ends[i], ctx, &n, w, samples);
         match one {
             Checked::Bad(e) => {
                 return Checked::Bad(e);

@@ -1,35 +1,19 @@
--- Inside the crate: what a block takes with the values of one side put in. Definitions only.
-use mathlib.Core.Bool.{_&&_}
-use Rattle.coefficients.specs.Needed.{someValue}
+-- Inside the crate: what is needed of a block's neighbours, one side at a time. Definitions only.
+use mathlib.Core.List.{List}
+use mathlib.Core.Option.{Option, none, some}
+use mathlib.Core.Path.{_≡_}
+use Prim.Native.Nat.{ℕ}
+use lib.IntN.{ℤ, pos}
+use lib.ListN.{getD, replicate}
+use Rattle.coefficients.specs.Needed.{numbersOf}
 use Rattle.coefficients.specs.declared.predictor.BlockPredictors.{BlockPredictors}
-use Rattle.neighbours.specs.declared.record.Side.{Side}
+use Rattle.neighbours.specs.Record.{quantiserOf, sevenFrom}
 
--- the column of A, and its quantiser
-abbrev pub columnOf : BlockPredictors → Side → BlockPredictors
-columnOf d s =
-    record {
-      «fa_dc» = d .«fa_dc»;
-      «fb_dc» = d .«fb_dc»;
-      «fc_dc» = d .«fc_dc»;
-      «qp_a» = s .qp;
-      «qp_c» = d .«qp_c»;
-      «a_has_column» = s .has && someValue (s .column);
-      «a_first_column» = s .column;
-      «c_has_row» = d .«c_has_row»;
-      «c_first_row» = d .«c_first_row»;
-    }
+-- three DCs with the quantiser of a record and its seven values at a place; of a missing one the present quantiser and no values
+abbrev pub numbersAt : ℕ → Option (List ℤ) → ℕ → ℤ → ℤ → ℤ → List ℤ
+numbersAt q none at a b c = numbersOf a b c q (replicate 7 (pos 0))
+numbersAt q (some r) at a b c = numbersOf a b c (quantiserOf (getD r 90 (pos 0))) (sevenFrom r at)
 
--- the row of C, and its quantiser
-abbrev pub rowOf : BlockPredictors → Side → BlockPredictors
-rowOf d s =
-    record {
-      «fa_dc» = d .«fa_dc»;
-      «fb_dc» = d .«fb_dc»;
-      «fc_dc» = d .«fc_dc»;
-      «qp_a» = d .«qp_a»;
-      «qp_c» = s .qp;
-      «a_has_column» = d .«a_has_column»;
-      «a_first_column» = d .«a_first_column»;
-      «c_has_row» = s .has && someValue (s .row);
-      «c_first_row» = s .row;
-    }
+-- three numbers are the DCs that a block takes
+abbrev pub DcsAre : BlockPredictors → ℤ → ℤ → ℤ → Type 0
+DcsAre p a b c = (a ≡ p .«fa_dc») × (b ≡ p .«fb_dc») × (c ≡ p .«fc_dc»)

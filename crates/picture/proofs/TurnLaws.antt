@@ -12,8 +12,7 @@ use Rattle.codes.specs.declared.dc_size.DcComponent.{DcComponent}
 use Rattle.coefficients.proofs.NeededLaws.{needed-fine, needed-levels}
 use Rattle.coefficients.proofs.UpToLaws.{up-to-all}
 use Rattle.coefficients.specs.Level.{predictorsFine}
-use Rattle.coefficients.specs.Needed.{neededOf}
-use Rattle.coefficients.specs.Prediction.{outsideOf}
+use Rattle.coefficients.specs.Needed.{neededOf, numbered}
 use Rattle.coefficients.specs.UpTo.{upTo}
 use Rattle.coefficients.specs.declared.predictor.BlockPredictors.{BlockPredictors}
 use Rattle.block.proofs.RebuildLaws.{kept-fine}
@@ -45,8 +44,8 @@ module _ (x : MacroblockTextureContext) (w : List (List ℕ)) (store own : List 
   abbrev whole : BlockPredictors
   whole = predictors (x .«bits_per_pixel») (x .«quantiser_scale») (aroundBy p store) own i
 
-  module _ (t : BlockPredictors)
-      (e : t ≡ unless (firstRecord (takenTests (length store) (length own) p i)) (neededOf (p .«quantiser_scale») (x .«ac_pred_flag») (predictors (p .«bits_per_pixel») (p .«quantiser_scale») (aroundBy p store) (recordAt own 0) i)) (outsideOf (p .«bits_per_pixel») (p .«quantiser_scale»))) where
+  module _ (t old : List ℤ)
+      (e : t ≡ unless (firstRecord (takenTests (length store) (length own) p i)) (neededOf (p .«quantiser_scale») (x .«ac_pred_flag») (predictors (p .«bits_per_pixel») (p .«quantiser_scale») (aroundBy p store) (recordAt own 0) i)) old) where
     -- what it needs, by the context
     needed-are : t ≡ neededOf (x .«quantiser_scale») (x .«ac_pred_flag») whole
     needed-are =
@@ -54,12 +53,12 @@ module _ (x : MacroblockTextureContext) (w : List (List ℕ)) (store own : List 
         ∙ ap₂ (λ (a b : ℕ). neededOf b (x .«ac_pred_flag») (predictors a b (aroundBy p store) (recordAt own 0) i)) d q
         ∙ ap (λ (o : List ℤ). neededOf (x .«quantiser_scale») (x .«ac_pred_flag») (predictors (x .«bits_per_pixel») (x .«quantiser_scale») (aroundBy p store) o i)) (record-whole own n)
 
-    pub handed-fine : predictorsFine (predictors (x .«bits_per_pixel») (x .«quantiser_scale») (aroundBy p store) own i) ≡ true → predictorsFine t ≡ true
-    handed-fine f = ap predictorsFine needed-are ∙ needed-fine (x .«quantiser_scale») (x .«ac_pred_flag») whole (quantiser-fine x w h) f
+    pub handed-fine : predictorsFine (predictors (x .«bits_per_pixel») (x .«quantiser_scale») (aroundBy p store) own i) ≡ true → predictorsFine (numbered t) ≡ true
+    handed-fine f = ap (λ (ns : List ℤ). predictorsFine (numbered ns)) needed-are ∙ needed-fine (x .«quantiser_scale») (x .«ac_pred_flag») whole (quantiser-fine x w h) f
 
-    pub handed-levels : (c : DcComponent) (qfs : List ℤ) → levelsOf c x t qfs ≡ levelsOf c x (predictors (x .«bits_per_pixel») (x .«quantiser_scale») (aroundBy p store) own i) qfs
-    handed-levels c qfs =
-        ap (λ (y : BlockPredictors). levelsOf c x y qfs) needed-are ∙ needed-levels c (x .«quantiser_scale») (x .«ac_pred_flag») (x .«alternate_vertical_scan») whole qfs
+    pub handed-levels : (c : DcComponent) (qfs : List ℤ) → predictorsFine (predictors (x .«bits_per_pixel») (x .«quantiser_scale») (aroundBy p store) own i) ≡ true → levelsOf c x (numbered t) qfs ≡ levelsOf c x (predictors (x .«bits_per_pixel») (x .«quantiser_scale») (aroundBy p store) own i) qfs
+    handed-levels c qfs f =
+        ap (λ (ns : List ℤ). levelsOf c x (numbered ns) qfs) needed-are ∙ needed-levels c (x .«quantiser_scale») (x .«ac_pred_flag») (x .«alternate_vertical_scan») whole qfs f
 
 -- ---- a block whose places are those up to an end
 

@@ -6,6 +6,7 @@ ghost use Prim.Native.Nat.{ℕ, _<_, _≤_};
 ghost use lib.ListN.{getD, length};
 ghost use Rattle.codes.specs.Component.{componentAt};
 ghost use Rattle.coefficients.specs.Level.{placesFine, predictorsFine};
+ghost use Rattle.coefficients.specs.Needed.{numbered};
 ghost use Rattle.coefficients.specs.UpTo.{upTo};
 ghost use Rattle.block.specs.Rebuilt.{dcHere, levelsHere, valuesHere};
 ghost use Rattle.block.specs.Values.{contextFine, samplesOf};
@@ -21,30 +22,29 @@ use block::BlockAssemblyError;
 use block::BlockRebuilt;
 use block::Checked;
 use block::MacroblockTextureContext;
-use coefficients::BlockPredictors;
 use neighbours::Place;
 use neighbours::Recorded;
 use samples::BlockWritten;
 
-// A block with the predictors that it needs: its samples into its part, and what is kept of it into the record `own`.
+// A block with what it needs of its predictors: its samples into its part, and what is kept of it into the record `own`.
 fn rebuilt_block(
     qfs: &[i32],
     end: usize,
     ctx: MacroblockTextureContext,
-    predictors: BlockPredictors,
+    n: &[i32; 11],
     w: [[u8; 8]; 8],
     i: usize,
     own: &mut [i32],
     samples: &mut [i32],
 ) -> Checked
-    requires { ⌜ (i < 6) × (length (now own) ≡ 91) × (384 ≤ length (now samples)) × (contextFine ctx w ≡ true) × (predictorsFine predictors ≡ true) × (placesFine (now qfs) ≡ true) × (upTo end (now qfs) ≡ now qfs) ⌝ }
+    requires { ⌜ (i < 6) × (length (now own) ≡ 91) × (384 ≤ length (now samples)) × (contextFine ctx w ≡ true) × (predictorsFine (numbered (now n)) ≡ true) × (placesFine (now qfs) ≡ true) × (upTo end (now qfs) ≡ now qfs) ⌝ }
     ensures { λ r. ⌜ r ≡ Fine ⌝ }
-    ensures record { λ r. ⌜ now (own .exit) ≡ withBlock (now (own .entry)) i (dcHere (componentAt i) ctx predictors w (now (qfs .entry))) (levelsHere (componentAt i) ctx predictors w (now (qfs .entry))) ⌝ }
-    ensures samples { λ r. ⌜ now (samples .exit) ≡ blockAfter i (samplesOf ctx (valuesHere (componentAt i) ctx predictors w (now (qfs .entry)))) (now (samples .entry)) ⌝ }
+    ensures record { λ r. ⌜ now (own .exit) ≡ withBlock (now (own .entry)) i (dcHere (componentAt i) ctx (numbered (now (n .entry))) w (now (qfs .entry))) (levelsHere (componentAt i) ctx (numbered (now (n .entry))) w (now (qfs .entry))) ⌝ }
+    ensures samples { λ r. ⌜ now (samples .exit) ≡ blockAfter i (samplesOf ctx (valuesHere (componentAt i) ctx (numbered (now (n .entry))) w (now (qfs .entry)))) (now (samples .entry)) ⌝ }
 {
     let mut spatial = [[0i32; 8]; 8];
     let mut qf = [[0i32; 8]; 8];
-    let one = block::reconstruct_up_to(i, qfs, end, ctx, predictors, w, &mut spatial, &mut qf);
+    let one = block::reconstruct_up_to(i, qfs, end, ctx, n, w, &mut spatial, &mut qf);
     match one {
         BlockRebuilt::Refused(e) => Checked::Bad(e),
         BlockRebuilt::Rebuilt(dc) => {
@@ -82,14 +82,10 @@ fn one_block(
     ensures record { λ r. ⌜ now (own .exit) ≡ withBlock (now (own .entry)) i (dcHere (componentAt i) ctx (predictors (ctx .«bits_per_pixel») (ctx .«quantiser_scale») (aroundBy place (now (store .entry))) (now (own .entry)) i) w (now (qfs .entry))) (levelsHere (componentAt i) ctx (predictors (ctx .«bits_per_pixel») (ctx .«quantiser_scale») (aroundBy place (now (store .entry))) (now (own .entry)) i) w (now (qfs .entry))) ⌝ }
     ensures samples { λ r. ⌜ now (samples .exit) ≡ blockAfter i (samplesOf ctx (valuesHere (componentAt i) ctx (predictors (ctx .«bits_per_pixel») (ctx .«quantiser_scale») (aroundBy place (now (store .entry))) (now (own .entry)) i) w (now (qfs .entry)))) (now (samples .entry)) ⌝ }
 {
-    let taken = neighbours::predictors_needed(store, &*own, place, i, ctx.ac_pred_flag);
-    let found = taken.answer;
-    match found {
+    let mut n = [0i32; 11];
+    match neighbours::predictors_needed(store, &*own, place, i, ctx.ac_pred_flag, &mut n) {
         Recorded::Refused(_) => Checked::Bad(BlockAssemblyError::TooShort),
-        Recorded::Done => {
-            let predictors = taken.predictors;
-            rebuilt_block(qfs, end, ctx, predictors, w, i, own, samples)
-        }
+        Recorded::Done => rebuilt_block(qfs, end, ctx, &n, w, i, own, samples),
     }
 }
 

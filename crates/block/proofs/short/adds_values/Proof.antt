@@ -1,32 +1,17 @@
--- `block::short::adds_values` meets its contract: one case for each side. Assumes nothing.
+-- `block::short::adds_values` meets its contract: the flag, then the values. Assumes nothing.
 use borrow.Author.Needs.{needs}
 use borrow.Author.Tests.{not-false, not-true}
-use Rattle.block.proofs.ShortLaws.{adds-by, adds-none}
 use Rattle.block.proofs.short.adds_values.Statement.{statement}
 use Rattle.block.proofs.short.adds_values.Tie as tie
 
 returns : tie.Need-returns
-returns c =
-    let a = c .before .args in
-    adds-none (a .ac-pred-flag) (a .direction) (a .p) (not-true _ (c .if1 .taken))
+returns c = rw (not-true (c .before .args .ac-pred-flag) (c .if1 .taken))
 
-enum-told : tie.Need-enum-told
-enum-told c = search needs
-
-enum-told-2 : tie.Need-enum-told-2
-enum-told-2 c = search needs
+adds-values-requires : tie.Need-adds-values-requires
+adds-values-requires c κs = search needs
 
 returns-2 : tie.Need-returns-2
-returns-2 c =
-    let s = c .before .before in
-    let a = s .before .args in
-    adds-by (a .ac-pred-flag) (a .direction) _ (a .p) (not-false _ (s .if1 .left)) (c .enum-told .given .1)
-
-returns-3 : tie.Need-returns-3
-returns-3 c =
-    let s = c .before .before in
-    let a = s .before .args in
-    adds-by (a .ac-pred-flag) (a .direction) _ (a .p) (not-false _ (s .if1 .left)) (c .enum-told2 .given .1)
+returns-2 c = rw (not-false (c .before .before .args .ac-pred-flag) (c .before .if1 .left)) (c .adds-values .ensures)
 
 pub adds-values-spec : {M : Type 1} → statement M
-adds-values-spec = tie.close (tie.spec returns enum-told enum-told-2 returns-2 returns-3)
+adds-values-spec = tie.close (tie.spec returns adds-values-requires returns-2)

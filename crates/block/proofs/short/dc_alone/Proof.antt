@@ -1,9 +1,11 @@
 -- `block::short::dc_alone` meets its contract: 13 by the difference alone, else its level. Assumes nothing.
 use mathlib.Core.Bool.{true}
+use mathlib.Core.List.{List}
 use mathlib.Core.Path.{_≡_, ap, _∙_}
 use borrow.Author.Needs.{needs}
 use denote.Ref.{now}
-use lib.IntN.{_+ℤ_}
+use lib.IntN.{ℤ, pos, _+ℤ_}
+use lib.ListN.{getD}
 use mir.Facts.{toZ-ofZ}
 use mir.Syntax.{w32}
 use mir.Val.{ofZ, toZ}
@@ -11,6 +13,7 @@ use Rattle.numbers.proofs.Words.{held}
 use Rattle.ranges.specs.Range.{differenceFine, levelFine}
 use Rattle.coefficients.proofs.LevelLaws.{saturated-fine}
 use Rattle.coefficients.specs.Level.{saturated}
+use Rattle.coefficients.specs.Needed.{numbered}
 use Rattle.coefficients.specs.Prediction.{dcPrediction, dcScaler, directionBy}
 use Rattle.coefficients.specs.Stages.{valueUnless}
 use Rattle.coefficients.specs.declared.refusal.Scaler.the-variants.{Is as ScalerIs}
@@ -18,12 +21,15 @@ use Rattle.block.proofs.ShortAnswers.{dc-rebuilt, dc-refused, differenc
 use Rattle.block.proofs.short.dc_alone.Statement.{statement}
 use Rattle.block.proofs.short.dc_alone.Tie as tie
 
--- what the code reads of the two DCs
-reads-a : (c : tie.After-struct-told2) → let p = c .before .before .before .before .before .before .args .p in toZ w32 (ofZ w32 (p .«fa_dc»)) ≡ p .«fa_dc»
-reads-a c = let g = c .struct-told2 .given in search needs
+-- the numbers, and what the code reads of the two DCs
+abbrev numbers-at : tie.After-predict-intra-dc-arg2 → List ℤ
+numbers-at c = now (c .before .before .before .before .before .before .args .n)
 
-reads-c : (c : tie.After-struct-told2) → let p = c .before .before .before .before .before .before .args .p in toZ w32 (ofZ w32 (p .«fc_dc»)) ≡ p .«fc_dc»
-reads-c c = let g = c .struct-told2 .given in search needs
+reads-a : (c : tie.After-predict-intra-dc-arg2) → toZ w32 (ofZ w32 (getD (numbers-at c) 0 (pos 0))) ≡ getD (numbers-at c) 0 (pos 0)
+reads-a c = held (getD (numbers-at c) 0 (pos 0)) (c .before .predict-intra-dc-arg .given)
+
+reads-c : (c : tie.After-predict-intra-dc-arg2) → toZ w32 (ofZ w32 (getD (numbers-at c) 2 (pos 0))) ≡ getD (numbers-at c) 2 (pos 0)
+reads-c c = held (getD (numbers-at c) 2 (pos 0)) (c .predict-intra-dc-arg2 .given)
 
 -- the scaler is not refused
 scaler : (c : tie.After-dc-scaler) → let a = c .before .args in c .dc-scaler .result ≡ ScalerIs (dcScaler (a .component) (a .ctx .«quantiser_scale»))
@@ -32,7 +38,7 @@ scaler c =
     scaler-told (s .args .component) (s .args .ctx .«quantiser_scale») (c .dc-scaler .result) (s .pre .0) (c .dc-scaler .ensures .0)
 
 -- what is told of the difference
-told : (c : tie.After-predict-intra-dc) → let a = c .before .before .before .before .before .before .before .args in let p = a .p in
+told : (c : tie.After-predict-intra-dc) → let a = c .before .before .before .before .before .before .before .args in let p = numbered (now (a .n)) in
     c .predict-intra-dc .result
     ≡ valueUnless true (differenceFine (a .difference)) (a .difference +ℤ dcPrediction (directionBy p) (p .«fa_dc») (p .«fc_dc») (dcScaler (a .component) (a .ctx .«quantiser_scale»)))
 told c =
@@ -41,8 +47,8 @@ told c =
     let d = k .before .before in
     let s = d .before in
     let a = s .args in
-    difference-told (a .component) (a .ctx .«quantiser_scale») (a .p) (a .difference) (c .predict-intra-dc .result) _ _ _ (a .direction) _ (s .pre .2) (toZ-ofZ (s .fits .difference)) (reads-a t) (reads-c t) (s .pre .3)
-    (scaler-is (d .dc-scaler .result) (k .n .given .0 .0) _ (scaler d) (k .n .given .1)) (c .predict-intra-dc .ensures .0)
+    difference-told (a .component) (a .ctx .«quantiser_scale») (numbered (now (a .n))) (a .difference) (c .predict-intra-dc .result) _ _ _ (a .direction) _ (s .pre .2) (toZ-ofZ (s .fits .difference)) (reads-a t) (reads-c t) (s .pre .3)
+    (scaler-is (d .dc-scaler .result) (k .scaler .given .0 .0) _ (scaler d) (k .scaler .given .1)) (c .predict-intra-dc .ensures .0)
 
 dc-scaler-requires : tie.Need-dc-scaler-requires
 dc-scaler-requires c κs = search needs
@@ -50,8 +56,14 @@ dc-scaler-requires c κs = search needs
 enum-told : tie.Need-enum-told
 enum-told c = search needs
 
-enum-known-n : tie.Need-enum-known-n
-enum-known-n c = search needs
+enum-known-scaler : tie.Need-enum-known-scaler
+enum-known-scaler c = search needs
+
+element-copy-out-predict-intra-dc : tie.Need-element-copy-out-predict-intra-dc
+element-copy-out-predict-intra-dc c = search needs
+
+element-copy-out-predict-intra-dc-2 : tie.Need-element-copy-out-predict-intra-dc-2
+element-copy-out-predict-intra-dc-2 c = search needs
 
 predict-intra-dc-requires : tie.Need-predict-intra-dc-requires
 predict-intra-dc-requires c κs = search needs
@@ -78,8 +90,8 @@ returns-2 : tie.Need-returns-2
 returns-2 c =
     let k = c .before .before in
     let a = k .before .before .before .before .before .before .before .args in
-    dc-refused (a .component) (a .ctx) (a .p) (a .difference) (now (a .spatial)) (now (a .qf))
-    (difference-not (a .component) (a .ctx .«quantiser_scale») (a .p) (a .difference) (k .predict-intra-dc .result) _ (told k) (c .enum-told2 .given .1))
+    dc-refused (a .component) (a .ctx) (now (a .n)) (a .difference) (now (a .spatial)) (now (a .qf))
+    (difference-not (a .component) (a .ctx .«quantiser_scale») (numbered (now (a .n))) (a .difference) (k .predict-intra-dc .result) _ (told k) (c .enum-told2 .given .1))
 
 returns-3 : tie.Need-returns-3
 returns-3 c =
@@ -87,10 +99,10 @@ returns-3 c =
     let g = q .before .before .z .given in
     let k = q .before .before .before .before in
     let a = k .before .before .before .before .before .before .before .args in
-    let d = difference-is (a .component) (a .ctx .«quantiser_scale») (a .p) (a .difference) (k .predict-intra-dc .result) (g .0 .0) (told k) (g .1) in
+    let d = difference-is (a .component) (a .ctx .«quantiser_scale») (numbered (now (a .n))) (a .difference) (k .predict-intra-dc .result) (g .0 .0) (told k) (g .1) in
     let l = held (q .saturate-qf .result) (q .saturate-qf .ok) ∙ q .saturate-qf .ensures ∙ ap saturated (held (g .0 .0) (q .before .known-told2 .given .0 .1) ∙ d .1) in
     let e = c .from-level .ensures in
-    dc-rebuilt (a .component) (a .ctx) (a .p) (a .difference) (now (a .spatial)) (now (a .qf)) _ (c .from-level .result) _ _ (d .0) l (e .0) (e .1 .0) (e .1 .1)
+    dc-rebuilt (a .component) (a .ctx) (now (a .n)) (a .difference) (now (a .spatial)) (now (a .qf)) _ (c .from-level .result) _ _ (d .0) l (e .0) (e .1 .0) (e .1 .1)
 
 pub dc-alone-spec : {M : Type 1} → statement M
 dc-alone-spec =
@@ -98,7 +110,9 @@ dc-alone-spec =
     (tie.spec
     dc-scaler-requires
     enum-told
-    enum-known-n
+    enum-known-scaler
+    element-copy-out-predict-intra-dc
+    element-copy-out-predict-intra-dc-2
     predict-intra-dc-requires
     enum-told-2
     enum-known-z

@@ -2,6 +2,7 @@
 use borrow.Author.Needs.{needs}
 use denote.Ref.{now}
 use Rattle.numbers.proofs.Tests.{flag-passes, flag-refuses}
+use Rattle.coefficients.specs.Needed.{numbered}
 use Rattle.coefficients.specs.UpTo.{upTo}
 use Rattle.block.proofs.RebuildLaws.{no-block, no-context, whole-block}
 use Rattle.block.proofs.short.reconstruct_up_to.Statement.{statement}
@@ -24,7 +25,7 @@ returns c =
     let k = c .before .before .before in
     let f = k .before .before in
     let a = f .before .args in
-    no-context (a .i) (a .ctx) (a .predictors) (a .w) (upTo (a .end) (now (a .qfs))) _ (f .from-block-index .result) (now (a .spatial)) (now (a .qf)) (f .from-block-index .ensures .1) (k .component .given .1)
+    no-context (a .i) (a .ctx) (numbered (now (a .n))) (a .w) (upTo (a .end) (now (a .qfs))) _ (f .from-block-index .result) (now (a .spatial)) (now (a .qf)) (f .from-block-index .ensures .1) (k .component .given .1)
     (flag-refuses (c .before .context-fine .ensures) (c .if1 .taken))
 
 rebuild-up-to-requires : tie.Need-rebuild-up-to-requires
@@ -34,7 +35,7 @@ returns-2 : tie.Need-returns-2
 returns-2 c =
     let f = c .before .before in
     let a = f .before .args in
-    no-block (a .i) (a .ctx) (a .predictors) (a .w) (upTo (a .end) (now (a .qfs))) (f .from-block-index .result) (now (a .spatial)) (now (a .qf)) (f .from-block-index .ensures .1) (c .enum-told .given .1)
+    no-block (a .i) (a .ctx) (numbered (now (a .n))) (a .w) (upTo (a .end) (now (a .qfs))) (f .from-block-index .result) (now (a .spatial)) (now (a .qf)) (f .from-block-index .ensures .1) (c .enum-told .given .1)
 
 returns-3 : tie.Need-returns-3
 returns-3 c =
@@ -42,7 +43,7 @@ returns-3 c =
     let k = e .before .before .before in
     let f = k .before .before in
     let a = f .before .args in
-    whole-block (a .i) (a .ctx) (a .predictors) (a .w) (upTo (a .end) (now (a .qfs))) _ (f .from-block-index .result) (now (a .spatial)) (now (a .qf)) (f .from-block-index .ensures .1) (k .component .given .1)
+    whole-block (a .i) (a .ctx) (numbered (now (a .n))) (a .w) (upTo (a .end) (now (a .qfs))) _ (f .from-block-index .result) (now (a .spatial)) (now (a .qf)) (f .from-block-index .ensures .1) (k .component .given .1)
     (flag-passes (e .before .context-fine .ensures) (e .if1 .left)) (c .rebuild-up-to .ensures)
 
 pub reconstruct-up-to-spec : {M : Type 1} → statement M

@@ -1,4 +1,4 @@
--- `coefficients::short::intra_levels_up_to` meets its contract: `put_levels`, of a context, predictors and places that pass. Assumes nothing.
+-- `coefficients::short::intra_levels_up_to` meets its contract: `put_levels`, of a context, numbers and places that pass. Assumes nothing.
 use mathlib.Core.Bool.{true}
 use mathlib.Core.Path.{_≡_, refl, ap, _∙_}
 use Prim.Native.Nat.{ℕ, min}
@@ -10,6 +10,7 @@ use Rattle.numbers.proofs.Tests.{flag-passes, flag-refuses}
 use Rattle.ranges.specs.Range.{quantiserFine}
 use Rattle.ranges.proofs.RangeLaws.{quantiser-range}
 use Rattle.coefficients.specs.Level.{levels, placesFine, predictorsFine}
+use Rattle.coefficients.specs.Needed.{numbered}
 use Rattle.coefficients.specs.Outcomes.{stageOutcome}
 use Rattle.coefficients.specs.UpTo.{upTo}
 use Rattle.coefficients.proofs.OutcomeLaws.{levels-due}
@@ -37,8 +38,8 @@ places-is c = c .places-fine .ensures ∙ ap placesFine (up-to-same (c .before))
 context-ok : (c : tie.Else1) → quantiserFine (c .before .before .args .quantiser-scale) ≡ true
 context-ok c = flag-passes (c .before .fine .ensures) (c .if1 .left)
 
-predictors-ok : (c : tie.Else2) → predictorsFine (c .before .before .before .before .args .predictors) ≡ true
-predictors-ok c = flag-passes (c .before .predictors-fine .ensures) (c .if2 .left)
+numbers-ok : (c : tie.Else2) → predictorsFine (numbered (c .before .before .before .before .args .numbers .now)) ≡ true
+numbers-ok c = flag-passes (c .before .needed-fine .ensures) (c .if2 .left)
 
 places-ok : (c : tie.Else3) → placesFine (upTo (start (c .before .before) .args .end) (start (c .before .before) .args .qfs .now)) ≡ true
 places-ok c = flag-passes (places-is (c .before)) (c .if3 .left)
@@ -49,15 +50,15 @@ fine-requires c κs = search needs
 returns : tie.Need-returns
 returns c =
     let a = c .before .before .args in
-    also stageOutcome (rw (flag-refuses (c .before .fine .ensures) (c .if1 .taken)) (refl, refl)) (levels-due (a .quantiser-scale) (a .predictors) (upTo (a .end) (a .qfs .now)))
+    also stageOutcome (rw (flag-refuses (c .before .fine .ensures) (c .if1 .taken)) (refl, refl)) (levels-due (a .quantiser-scale) (numbered (a .numbers .now)) (upTo (a .end) (a .qfs .now)))
 
-predictors-fine-requires : tie.Need-predictors-fine-requires
-predictors-fine-requires c κs = search needs
+needed-fine-requires : tie.Need-needed-fine-requires
+needed-fine-requires c κs = search needs
 
 returns-2 : tie.Need-returns-2
 returns-2 c =
     let a = c .before .before .before .before .args in
-    also stageOutcome (rw (context-ok (c .before .before), flag-refuses (c .before .predictors-fine .ensures) (c .if2 .taken)) (refl, refl)) (levels-due (a .quantiser-scale) (a .predictors) (upTo (a .end) (a .qfs .now)))
+    also stageOutcome (rw (context-ok (c .before .before), flag-refuses (c .before .needed-fine .ensures) (c .if2 .taken)) (refl, refl)) (levels-due (a .quantiser-scale) (numbered (a .numbers .now)) (upTo (a .end) (a .qfs .now)))
 
 least-requires : tie.Need-least-requires
 least-requires c κs = search needs
@@ -72,7 +73,7 @@ returns-3 : tie.Need-returns-3
 returns-3 c =
     let e = c .before .before .before .before in
     let a = e .before .before .before .before .args in
-    also stageOutcome (rw (context-ok (e .before .before), predictors-ok e, flag-refuses (places-is (c .before)) (c .if3 .taken)) (refl, refl)) (levels-due (a .quantiser-scale) (a .predictors) (upTo (a .end) (a .qfs .now)))
+    also stageOutcome (rw (context-ok (e .before .before), numbers-ok e, flag-refuses (places-is (c .before)) (c .if3 .taken)) (refl, refl)) (levels-due (a .quantiser-scale) (numbered (a .numbers .now)) (upTo (a .end) (a .qfs .now)))
 
 put-levels-requires : tie.Need-put-levels-requires
 put-levels-requires c κs =
@@ -84,7 +85,7 @@ put-levels-requires c κs =
       omega (arith, last-is l),
       q .0,
       omega arith,
-      predictors-good (a .predictors) (predictors-ok e),
+      predictors-good (numbered (a .numbers .now)) (numbers-ok e),
       ap placesFine (up-to-same l) ∙ places-ok (c .before),
     )
 
@@ -93,9 +94,9 @@ returns-4 c =
     let l = c .before .before .before .before in
     let e = l .before .before in
     let a = e .before .before .before .before .args in
-    also stageOutcome (rw (context-ok (e .before .before), predictors-ok e, places-ok (c .before .before))
-    (refl, c .put-levels .ensures ∙ ap (levels (a .component) (a .quantiser-scale) (a .ac-pred-flag) (a .alternate-vertical-scan) (a .predictors)) (up-to-same l)))
-    (levels-due (a .quantiser-scale) (a .predictors) (upTo (a .end) (a .qfs .now)))
+    also stageOutcome (rw (context-ok (e .before .before), numbers-ok e, places-ok (c .before .before))
+    (refl, c .put-levels .ensures ∙ ap (levels (a .component) (a .quantiser-scale) (a .ac-pred-flag) (a .alternate-vertical-scan) (numbered (a .numbers .now))) (up-to-same l)))
+    (levels-due (a .quantiser-scale) (numbered (a .numbers .now)) (upTo (a .end) (a .qfs .now)))
 
 pub intra-levels-up-to-spec : {M : Type 1} → statement M
 intra-levels-up-to-spec =
@@ -103,7 +104,7 @@ intra-levels-up-to-spec =
     (tie.spec
     fine-requires
     returns
-    predictors-fine-requires
+    needed-fine-requires
     returns-2
     least-requires
     least-requires-2

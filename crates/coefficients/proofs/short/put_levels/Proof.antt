@@ -1,14 +1,15 @@
 -- `coefficients::short::put_levels` meets its contract: the places by the scan of the direction, with the predictions beside the DC, and then the DC. Assumes nothing.
 use mathlib.Core.Path.{_≡_, refl, sym, ap, subst, _∙_}
 use Prim.Native.Nat.{_≤_}
-use lib.IntN.{ℤ, natAbs, _+ℤ_}
+use lib.IntN.{ℤ, natAbs, pos, _+ℤ_}
+use lib.ListN.{getD}
 use mir.Syntax.{w32}
-use mir.Val.{ofZ, toZ}
 use borrow.Author.Needs.{needs}
 use Rattle.numbers.specs.Grid.{build}
 use Rattle.numbers.proofs.Expressions.{Sx, loc, _⊞_, fits, back}
 use Rattle.numbers.proofs.Words.{held}
 use Rattle.coefficients.specs.Level.{saturated}
+use Rattle.coefficients.specs.Needed.{numbered}
 use Rattle.coefficients.specs.Prediction.{dcPrediction, dcScaler, directionBy, directionOf}
 use Rattle.coefficients.specs.Short.{Levelled, acPredicted}
 use Rattle.coefficients.specs.UpTo.{upTo}
@@ -17,8 +18,26 @@ use Rattle.coefficients.proofs.ShortLaws.{levels-stored, scanned-levell
 use Rattle.coefficients.proofs.short.put_levels.Statement.{statement}
 use Rattle.coefficients.proofs.short.put_levels.Tie as tie
 
+element-copy-out-direction-of : tie.Need-element-copy-out-direction-of
+element-copy-out-direction-of c = search needs
+
+element-copy-out-direction-of-2 : tie.Need-element-copy-out-direction-of-2
+element-copy-out-direction-of-2 c = search needs
+
+element-copy-out-direction-of-3 : tie.Need-element-copy-out-direction-of-3
+element-copy-out-direction-of-3 c = search needs
+
 direction-of-requires : tie.Need-direction-of-requires
 direction-of-requires c κs = search needs
+
+-- the direction is of the first three numbers
+direction-is : (c : tie.After-direction-of) → c .direction-of .result ≡ directionBy (numbered (c .before .before .before .before .args .n .now))
+direction-is c =
+    let n = c .before .before .before .before .args .n .now in
+    let a = held (getD n 0 (pos 0)) (c .before .before .before .direction-of-arg .given) in
+    let b = held (getD n 1 (pos 0)) (c .before .before .direction-of-arg2 .given) in
+    let d = held (getD n 2 (pos 0)) (c .before .direction-of-arg3 .given) in
+    c .direction-of .ensures ∙ (λ i. directionOf (a i) (b i) (d i))
 
 intra-scan-requires : tie.Need-intra-scan-requires
 intra-scan-requires c κs = search needs
@@ -26,14 +45,32 @@ intra-scan-requires c κs = search needs
 scaler-of-requires : tie.Need-scaler-of-requires
 scaler-of-requires c κs = search needs
 
+element-copy-out-dc-prediction : tie.Need-element-copy-out-dc-prediction
+element-copy-out-dc-prediction c = search needs
+
+element-copy-out-dc-prediction-2 : tie.Need-element-copy-out-dc-prediction-2
+element-copy-out-dc-prediction-2 c = search needs
+
 dc-prediction-requires : tie.Need-dc-prediction-requires
 dc-prediction-requires c κs = search needs
 
-first-place-requires : tie.Need-first-place-requires
-first-place-requires c κs = search needs
-
 abbrev start-of : tie.After-dc-prediction → tie.Start
 start-of c = c .before .before .before .before .before .before .before .before .before
+
+-- the prediction of the DC
+dc-is : (c : tie.After-dc-prediction)
+    → let a = start-of c .args in
+    c .dc-prediction .result
+    ≡ dcPrediction (c .before .before .before .before .before .direction-of .result) (getD (a .n .now) 0 (pos 0)) (getD (a .n .now) 2 (pos 0)) (dcScaler (a .component) (a .quantiser-scale))
+dc-is c =
+    let n = start-of c .args .n .now in
+    let a = held (getD n 0 (pos 0)) (c .before .before .dc-prediction-arg .given) in
+    let b = held (getD n 2 (pos 0)) (c .before .dc-prediction-arg2 .given) in
+    let k = c .before .before .before in
+    c .dc-prediction .ensures .0 ∙ (λ i. dcPrediction (k .before .before .direction-of .result) (a i) (b i) (k .scaler-of .ensures .0 i))
+
+first-place-requires : tie.Need-first-place-requires
+first-place-requires c κs = search needs
 
 abbrev start : tie.After-first-place → tie.Start
 start c = start-of (c .before)
@@ -71,38 +108,16 @@ index-1-qf c = search needs
 index-2-qf : tie.Need-index-2-qf
 index-2-qf c = search needs
 
--- what the code reads of the three DCs
-reads-a : (c : tie.After-struct-told) → toZ w32 (ofZ w32 (c .before .args .p .«fa_dc»)) ≡ c .before .args .p .«fa_dc»
-reads-a c = let g = c .struct-told .given in search needs
-
-reads-b : (c : tie.After-struct-told) → toZ w32 (ofZ w32 (c .before .args .p .«fb_dc»)) ≡ c .before .args .p .«fb_dc»
-reads-b c = let g = c .struct-told .given in search needs
-
-reads-c : (c : tie.After-struct-told) → toZ w32 (ofZ w32 (c .before .args .p .«fc_dc»)) ≡ c .before .args .p .«fc_dc»
-reads-c c = let g = c .struct-told .given in search needs
-
-direction-is : (c : tie.After-direction-of) → c .direction-of .result ≡ directionBy (c .before .before .before .before .args .p)
-direction-is c =
-    let t = c .before .before .before in
-    c .direction-of .ensures ∙ (λ i. directionOf (reads-a t i) (reads-b t i) (reads-c t i))
-
-dc-is : (c : tie.After-dc-prediction) → c .dc-prediction .result ≡ dcPrediction (c .before .before .before .before .before .direction-of .result) (start-of c .args .p .«fa_dc») (start-of c .args .p .«fc_dc») (dcScaler (start-of c .args .component) (start-of c .args .quantiser-scale))
-dc-is c =
-    let n = c .before .before .before .before .before in
-    let t = n .before .before .before in
-    let s = c .before .before .before .scaler-of .ensures .0 in
-    c .dc-prediction .ensures .0 ∙ (λ i. dcPrediction (n .direction-of .result) (reads-a t i) (reads-c t i) (s i))
-
 returns : tie.Need-returns
 returns c =
     let f = c .before .before .before .before .before .before in
     let n = f .before .before .before .before .before in
     let a = start f .args in
     let dir = n .before .direction-of .result in
-    levels-stored (a .end) (a .qfs .now) (a .component) (a .quantiser-scale) (a .ac-pred-flag) (a .alternate-vertical-scan) (a .p) dir (n .intra-scan .result) _ _
+    levels-stored (a .end) (a .qfs .now) (a .component) (a .quantiser-scale) (a .ac-pred-flag) (a .alternate-vertical-scan) (numbered (a .n .now)) dir (n .intra-scan .result) _ _
     (direction-is (n .before))
     (n .intra-scan .ensures)
-    (c .before .predict .ensures ∙ ap (acPredicted (a .ac-pred-flag) dir (a .p) (a .quantiser-scale)) (c .before .before .before .scatter .ensures))
+    (c .before .predict .ensures ∙ ap (acPredicted (a .ac-pred-flag) dir (numbered (a .n .now)) (a .quantiser-scale)) (c .before .before .before .scatter .ensures))
     (held (c .saturate-qf .result) (c .saturate-qf .ok)
     ∙ c .saturate-qf .ensures
     ∙ ap saturated (back (sum f) tt ∙ (λ i. f .first-place .ensures i +ℤ dc-is (f .before) i)))
@@ -111,9 +126,14 @@ pub put-levels-spec : {M : Type 1} → statement M
 put-levels-spec =
     tie.close
     (tie.spec
+    element-copy-out-direction-of
+    element-copy-out-direction-of-2
+    element-copy-out-direction-of-3
     direction-of-requires
     intra-scan-requires
     scaler-of-requires
+    element-copy-out-dc-prediction
+    element-copy-out-dc-prediction-2
     dc-prediction-requires
     first-place-requires
     scatter-requires

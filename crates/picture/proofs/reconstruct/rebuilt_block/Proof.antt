@@ -9,6 +9,7 @@ use lib.IntN.{ℤ}
 use lib.ListN.{length}
 use Rattle.numbers.proofs.Words.{held}
 use Rattle.codes.specs.Component.{componentAt}
+use Rattle.coefficients.specs.Needed.{numbered}
 use Rattle.coefficients.specs.declared.predictor.BlockPredictors.{BlockPredictors}
 use Rattle.samples.proofs.OutcomeLaws.{block-is-written}
 use Rattle.samples.specs.Samples.{blockAfter}
@@ -36,7 +37,7 @@ module _ (c : tie.After-reconstruct-up-to) where
   x = start .args .ctx
 
   abbrev p : BlockPredictors
-  p = start .args .predictors
+  p = numbered (now (start .args .n))
 
   abbrev w : List (List ℕ)
   w = start .args .w

@@ -1,4 +1,4 @@
--- `neighbours::needed::some_value` meets its contract, one test a turn: what is told so far, with the tests that are left. Assumes nothing.
+-- `coefficients::handed::some_value` meets its contract, one test a turn: what is told so far, with the tests that are left. Assumes nothing.
 use mathlib.Core.Bool.{Bool, not, _&&_}
 use mathlib.Core.Path.{_≡_, refl, ap}
 use Prim.Native.Nat.{_-_, _≤_}
@@ -11,10 +11,10 @@ use mir.Val.{ofZ}
 use borrow.Kind.Array.{eSInt, good-length}
 use Rattle.numbers.specs.Every.{every}
 use Rattle.numbers.proofs.Words.{fits-ok}
 use Rattle.coefficients.proofs.EveryLaws.{test-done, test-more}
-use Rattle.neighbours.proofs.NeededLaws.{zero-bits}
-use Rattle.neighbours.proofs.needed.some_value.Statement.{statement}
-use Rattle.neighbours.proofs.needed.some_value.Tie as tie
+use Rattle.coefficients.proofs.HandedLaws.{zero-bits}
+use Rattle.coefficients.proofs.handed.some_value.Statement.{statement}
+use Rattle.coefficients.proofs.handed.some_value.Tie as tie
 
 abbrev none : ℤ → Bool
 none z = eqb (natAbs z) 0
