@@ -2,7 +2,7 @@
 use mathlib.Core.Bool.{Bool, true, false}
 use mathlib.Core.List.{List}
 use mathlib.Core.Path.{_≡_, refl, ap, sym, _∙_}
-use Prim.Native.Nat.{ℕ, _+_, _*_, _<_}
+use Prim.Native.Nat.{ℕ, suc, zero, _+_, _*_, _<_}
 use native.Mathlib.Nat.{not-suc-le-zero}
 use native.Mathlib.Omega.{arith}
 use lib.Dec.{T, ltb}
@@ -39,6 +39,16 @@ all-of-six f g = every-in f 0 sixBlocks (λ (i : ℕ) (h : i < 6). ap f (six-at 
 
 pub one-of-six-not : (f : ℕ → Bool) (i : ℕ) → i < 6 → f i ≡ false → every f sixBlocks ≡ false
 one-of-six-not f i h e = every-fails f 0 sixBlocks i h (ap f (six-at i h) ∙ e)
+
+-- an index of six that is none of the first five
+pub sixth : (i : ℕ) → i < 6 → (i ≡ 0 → ⊥) → (i ≡ 1 → ⊥) → (i ≡ 2 → ⊥) → (i ≡ 3 → ⊥) → (i ≡ 4 → ⊥) → i ≡ 5
+sixth zero l a b c d e = absurd (a refl)
+sixth (suc zero) l a b c d e = absurd (b refl)
+sixth (suc (suc zero)) l a b c d e = absurd (c refl)
+sixth (suc (suc (suc zero))) l a b c d e = absurd (d refl)
+sixth (suc (suc (suc (suc zero)))) l a b c d e = absurd (e refl)
+sixth (suc (suc (suc (suc (suc zero))))) l a b c d e = refl
+sixth (suc (suc (suc (suc (suc (suc i)))))) l a b c d e = absurd (omega arith)
 
 pub a-below : (i : ℕ) → i < 6 → aBlock i < 6
 a-below i h = ltb-true (aBlock i) 6 (each-of-six (λ (j : ℕ). ltb (aBlock j) 6) refl i h)

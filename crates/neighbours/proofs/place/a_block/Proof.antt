@@ -1,18 +1,16 @@
 -- `neighbours::place::a_block` meets its contract: the two tables are the same, and have no block above 5. Assumes nothing.
-use mathlib.Core.Path.{refl}
+use mathlib.Core.Path.{subst⁻¹}
+use Prim.Native.Nat.{ℕ, _<_}
 use borrow.Author.Needs.{needs}
 use Rattle.neighbours.proofs.SideLaws.{a-below}
 use Rattle.neighbours.proofs.place.a_block.Statement.{statement}
 use Rattle.neighbours.proofs.place.a_block.Tie as tie
 
-mul-result : tie.Need-mul-result
-mul-result c = search needs
-
-array-read-result : tie.Need-array-read-result
-array-read-result c = search needs
+block-of-requires : tie.Need-block-of-requires
+block-of-requires c κs = search needs
 
 returns : tie.Need-returns
-returns c = (refl, a-below (c .args .i) (c .pre))
+returns c = let e = c .block-of .ensures in (e, subst⁻¹ (λ (b : ℕ). b < 6) e (a-below (c .before .args .i) (c .before .pre)))
 
 pub a-block-spec : {M : Type 1} → statement M
-a-block-spec = tie.close (tie.spec mul-result array-read-result returns)
+a-block-spec = tie.close (tie.spec block-of-requires returns)

@@ -1,18 +1,16 @@
 -- `neighbours::place::c_block` meets its contract: the two tables are the same, and have no block above 5. Assumes nothing.
-use mathlib.Core.Path.{refl}
+use mathlib.Core.Path.{subst⁻¹}
+use Prim.Native.Nat.{ℕ, _<_}
 use borrow.Author.Needs.{needs}
 use Rattle.neighbours.proofs.SideLaws.{c-below}
 use Rattle.neighbours.proofs.place.c_block.Statement.{statement}
 use Rattle.neighbours.proofs.place.c_block.Tie as tie
 
-mul-result : tie.Need-mul-result
-mul-result c = search needs
-
-array-read-result : tie.Need-array-read-result
-array-read-result c = search needs
+block-of-requires : tie.Need-block-of-requires
+block-of-requires c κs = search needs
 
 returns : tie.Need-returns
-returns c = (refl, c-below (c .args .i) (c .pre))
+returns c = let e = c .block-of .ensures in (e, subst⁻¹ (λ (b : ℕ). b < 6) e (c-below (c .before .args .i) (c .before .pre)))
 
 pub c-block-spec : {M : Type 1} → statement M
-c-block-spec = tie.close (tie.spec mul-result array-read-result returns)
+c-block-spec = tie.close (tie.spec block-of-requires returns)
