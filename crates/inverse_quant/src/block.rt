@@ -70,7 +70,7 @@ fn method1_block(
     if !matrix_fine(w) {
         return Stage::Refused(CoefficientError::Context);
     }
-    if !block_fine(qf) {
+    if !block_fine(&qf) {
         return Stage::Refused(CoefficientError::HandedIn);
     }
     let f = f_prime1(qf, w, ctx);
@@ -120,7 +120,7 @@ pub fn inverse_quant_method2(
     if !context_fine(ctx) {
         return Stage::Refused(CoefficientError::Context);
     }
-    if !block_fine(qf) {
+    if !block_fine(&qf) {
         return Stage::Refused(CoefficientError::HandedIn);
     }
     *out = f_prime2(qf, ctx);

@@ -1,5 +1,6 @@
 // What inverse quantisation takes: the parameters of a block, and the tests of 12 and 13.
 ghost use mathlib.Core.Path.{_≡_};
+ghost use lib.ListN.{length};
 ghost use Rattle.numbers.specs.Every.{every};
 ghost use Rattle.ranges.specs.Range.{levelFine};
 ghost use Rattle.coefficients.specs.Level.{blockFine};
@@ -52,8 +53,9 @@ fn row_fine(row: [i32; 8]) -> bool
 }
 
 // Whether a block's every value is a level.
-pub(crate) fn block_fine(qf: [[i32; 8]; 8]) -> bool
-    ensures { λ r. ⌜ r ≡ blockFine qf ⌝ }
+pub(crate) fn block_fine(qf: &[[i32; 8]; 8]) -> bool
+    requires { ⌜ length (now qf) ≡ 8 ⌝ }
+    ensures { λ r. ⌜ r ≡ blockFine (now (qf .entry)) ⌝ }
 {
     let mut fine = true;
     for v in 0..8 {

@@ -167,7 +167,7 @@ fn rows1(
     requires { ⌜ ContextGood ctx × (length (now qf) ≡ 8) ⌝ }
     ensures { λ r. ⌜ (r ≡ firstBad true (blockFine (now (qf .entry)))) × (now (out .exit) ≡ after (firstBad true (blockFine (now (qf .entry)))) (dequantised1 control ctx (now (w .entry)) (now (qf .entry))) (now (out .entry))) ⌝ }
 {
-    if !block_fine(*qf) {
+    if !block_fine(qf) {
         return Stage::Refused(CoefficientError::HandedIn);
     }
     *out = [[0i32; 8]; 8];
@@ -184,7 +184,7 @@ fn rows2(qf: &[[i32; 8]; 8], ctx: InverseQuantContext, out: &mut [[i32; 8]; 8]) 
     requires { ⌜ ContextGood ctx × (length (now qf) ≡ 8) ⌝ }
     ensures { λ r. ⌜ (r ≡ firstBad true (blockFine (now (qf .entry)))) × (now (out .exit) ≡ after (firstBad true (blockFine (now (qf .entry)))) (dequantised2 ctx (now (qf .entry))) (now (out .entry))) ⌝ }
 {
-    if !block_fine(*qf) {
+    if !block_fine(qf) {
         return Stage::Refused(CoefficientError::HandedIn);
     }
     *out = [[0i32; 8]; 8];

@@ -21,10 +21,10 @@ use Rattle.inverse_quant.proofs.block.method1_block.Tie as tie
 
 module _ (s : tie.Start) where
   abbrev answer : Stage
-  answer = answer1 (s .args .ctx) (s .args .w) (s .args .qf)
+  answer = answer1 (s .args .ctx) (s .args .w) (s .args .t1)
 
   abbrev new : List (List ℤ)
-  new = dequantised1 (s .args .control) (s .args .ctx) (s .args .w) (s .args .qf)
+  new = dequantised1 (s .args .control) (s .args .ctx) (s .args .w) (s .args .t1)
 
   abbrev old : List (List ℤ)
   old = now (s .args .out)
@@ -35,11 +35,11 @@ context c = flag-passes (c .before .context-fine .ensures) (c .if1 .left)
 matrix : (c : tie.Else2) → every (every nonZero) (c .before .before .before .before .args .w) ≡ true
 matrix c = flag-passes (c .before .matrix-fine .ensures) (c .if2 .left)
 
-levels : (c : tie.Else3) → blockFine (c .before .before .before .before .before .before .args .qf) ≡ true
+levels : (c : tie.Else3) → blockFine (c .before .before .before .before .before .before .before .args .t1) ≡ true
 levels c = flag-passes (c .before .block-fine .ensures) (c .if3 .left)
 
-passed : (c : tie.Else3) → answer (c .before .before .before .before .before .before) ≡ Done
-passed c = let m = c .before .before in rw (context (m .before .before), matrix m, levels c)
+passed : (c : tie.Else3) → answer (c .before .before .before .before .before .before .before) ≡ Done
+passed c = let m = c .before .before .before in rw (context (m .before .before), matrix m, levels c)
 
 context-fine-requires : tie.Need-context-fine-requires
 context-fine-requires c κs = search needs
@@ -59,11 +59,11 @@ returns-2 c =
     (rw (context (c .before .before), flag-refuses (c .before .matrix-fine .ensures) (c .if2 .taken)))
 
 block-fine-requires : tie.Need-block-fine-requires
-block-fine-requires c κs = search needs
+block-fine-requires c κs = c .before .before .before .before .before .good .0 .1 .0 .1
 
 returns-3 : tie.Need-returns-3
 returns-3 c =
-    let m = c .before .before in
+    let m = c .before .before .before in
     let s = m .before .before .before .before in
     refused-keeps (answer s) HandedIn (new s) (old s)
     (rw (context (m .before .before), matrix m, flag-refuses (c .before .block-fine .ensures) (c .if3 .taken)))
@@ -71,21 +71,21 @@ returns-3 c =
 -- the context and the levels, as ranges
 f-prime1-requires : tie.Need-f-prime1-requires
 f-prime1-requires c κs =
-    let e = c .before .before .before .before in
+    let e = c .before .before .before .before .before in
     let s = e .before .before in
-    (block-good (s .args .qf) (levels c), context-good (s .args .ctx) (context e))
+    (block-good (s .args .t1) (levels c), context-good (s .args .ctx) (context e))
 
 mismatch-control-requires : tie.Need-mismatch-control-requires
 mismatch-control-requires c κs v u =
-    let e = c .before .before .before .before .before .before in
+    let e = c .before .before .before .before .before .before .before in
     let s = e .before .before in
-    rw (c .before .f-prime1 .ensures) (fPrime1-small (s .args .ctx) (s .args .w) (s .args .qf) (context-good (s .args .ctx) (context e) .depth) v u)
+    rw (c .before .f-prime1 .ensures) (fPrime1-small (s .args .ctx) (s .args .w) (s .args .t1) (context-good (s .args .ctx) (context e) .depth) v u)
 
 returns-4 : tie.Need-returns-4
 unfolding dequantised1
 returns-4 c =
     let p = c .before .before in
-    let s = p .before .before .before .before .before .before .before in
+    let s = p .before .before .before .before .before .before .before .before in
     done-writes (answer s) (new s) (old s) (c .mismatch-control .result) (passed (p .before))
     (rw (c .before .if4 .taken) (c .mismatch-control .ensures ∙ ap mismatched (p .f-prime1 .ensures)))
 
@@ -93,7 +93,7 @@ returns-5 : tie.Need-returns-5
 unfolding dequantised1
 returns-5 c =
     let p = c .before in
-    let s = p .before .before .before .before .before .before .before in
+    let s = p .before .before .before .before .before .before .before .before in
     done-writes (answer s) (new s) (old s) (p .f-prime1 .result) (passed (p .before)) (rw (c .if4 .left) (p .f-prime1 .ensures))
 
 pub method1-block-spec : {M : Type 1} → statement M

@@ -4,7 +4,8 @@ use mathlib.Core.List.{[]}
 use mathlib.Core.Path.{_≡_, refl}
 use Prim.Native.Nat.{_-_, _≤_}
 use native.Mathlib.Omega.{arith}
-use lib.ListN.{drop, length}
+use denote.Ref.{now}
+use lib.ListN.{drop}
 use Rattle.numbers.specs.Every.{every}
 use Rattle.ranges.specs.Range.{levelFine}
 use Rattle.coefficients.proofs.EveryLaws.{test-done, test-more}
@@ -17,17 +18,14 @@ Inv-loop b fine₀ v₀ fine v = (v ≤ 8) × (every (every levelFine) b ≡ (fi
 abbrev μ-loop : tie.MeasureT-loop
 μ-loop b fine₀ v₀ fine v = 8 - v
 
-eight : (s : tie.Start Inv-loop μ-loop) → length (s .args .t1) ≡ 8
-eight s = s .good .0 .1 .0 .1
-
 loop-holds : tie.Need-loop-holds Inv-loop μ-loop
 loop-holds c = (omega arith, refl)
 
 mul-row : tie.Need-mul-row Inv-loop μ-loop
 mul-row c = omega arith
 
-array-copy-out-row : tie.Need-array-copy-out-row Inv-loop μ-loop
-array-copy-out-row c = omega arith
+element-copy-out-row : tie.Need-element-copy-out-row Inv-loop μ-loop
+element-copy-out-row c = omega arith
 
 row-fine-requires : tie.Need-row-fine-requires Inv-loop μ-loop
 row-fine-requires c κs = tt
@@ -43,7 +41,7 @@ loop-again c =
     let a = c .before .before .before in
     let s = a .before in (
       omega arith,
-      test-more (every levelFine) [] (s .args .t1) (every (every levelFine) (s .args .t1)) (a .loop .v) (a .loop .fine) (c .row-fine .result) (omega (arith, eight s)) (a .loop .inv .1)
+      test-more (every levelFine) [] (now (s .args .qf)) (every (every levelFine) (now (s .args .qf))) (a .loop .v) (a .loop .fine) (c .row-fine .result) (omega (arith, s .pre)) (a .loop .inv .1)
           (c .row-fine .ensures),
     )
 
@@ -51,7 +49,7 @@ returns : tie.Need-returns Inv-loop μ-loop
 returns c =
     let a = c .before in
     let s = a .before in
-    test-done (every levelFine) [] (s .args .t1) (every (every levelFine) (s .args .t1)) (a .loop .v) (a .loop .fine) (omega (arith, eight s)) (a .loop .inv .1)
+    test-done (every levelFine) [] (now (s .args .qf)) (every (every levelFine) (now (s .args .qf))) (a .loop .v) (a .loop .fine) (omega (arith, s .pre)) (a .loop .inv .1)
 
 pub block-fine-spec : {M : Type 1} → statement M
-block-fine-spec = tie.close (tie.spec Inv-loop μ-loop loop-holds mul-row array-copy-out-row row-fine-requires add-v loop-less loop-again returns)
+block-fine-spec = tie.close (tie.spec Inv-loop μ-loop loop-holds mul-row element-copy-out-row row-fine-requires add-v loop-less loop-again returns)

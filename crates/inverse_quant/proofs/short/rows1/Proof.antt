@@ -27,13 +27,13 @@ use Rattle.inverse_quant.proofs.short.rows1.Statement.{statement}
 use Rattle.inverse_quant.proofs.short.rows1.Tie as tie
 
 -- what passed the test
-in-range : (c : tie.Else1) → blockFine (now (c .before .before .before .args .qf)) ≡ true
+in-range : (c : tie.Else1) → blockFine (now (c .before .before .args .qf)) ≡ true
 in-range c = flag-passes (c .before .block-fine .ensures) (c .if1 .left)
 
 -- every row is put and summed
 module _ (c : tie.After-fill1) where
   abbrev s : tie.Start
-  s = c .before .before .before .before .before .before
+  s = c .before .before .before .before .before
 
   abbrev qf : List (List ℤ)
   qf = now (s .args .qf)
@@ -112,11 +112,11 @@ module _ (c : tie.After-first-value) where
   square = dequantised1-square false (s e .args .ctx) (now (s e .args .w)) (qf e)
 
 block-fine-requires : tie.Need-block-fine-requires
-block-fine-requires c κs = search needs
+block-fine-requires c κs = c .pre .1
 
 returns : tie.Need-returns
 returns c =
-    let s = c .before .before .before in
+    let s = c .before .before in
     let qf = now (s .args .qf) in
     refused-keeps (firstBad true (blockFine qf)) HandedIn (dequantised1 (s .args .control) (s .args .ctx) (now (s .args .w)) qf) (now (s .args .out))
     (ap (firstBad true) (flag-refuses (c .before .block-fine .ensures) (c .if1 .taken)))
@@ -125,7 +125,7 @@ fill1-requires : tie.Need-fill1-requires
 unfolding build
 fill1-requires c κs =
     let p = c .before .before in
-    let s = p .before .before .before in
+    let s = p .before .before in
     (s .pre .0, s .pre .1, in-range p, refl)
 
 index-1-first-value : tie.Need-index-1-first-value
