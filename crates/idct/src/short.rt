@@ -314,8 +314,15 @@ fn sums_of(
     sums
 }
 
-// The samples by the nearest whole numbers, and whether these are the rule's. `out` is made anew, two
-// rows a turn: row y from the sum of both halves, row 7 - y from the difference.
+// That a block has eight rows: behind a reference only a slice of it tells. It leaves no machine code.
+fn eight_rows(rows: &[[i32; 8]; 8])
+    ensures { λ r. ⌜ length (now (rows .entry)) ≡ 8 ⌝ }
+{
+    let _all: &[[i32; 8]] = rows;
+}
+
+// The samples by the nearest whole numbers, and whether these are the rule's. Every row of `out` is
+// written, two a turn: row y from the sum of both halves, row 7 - y from the difference.
 fn near_samples(
     evens: &[[f64; 8]; 4],
     even: &[usize; 4],
@@ -331,7 +338,7 @@ fn near_samples(
     ensures { λ r. ⌜ now (out .exit) ≡ block (λ (y x : ℕ). clampZ (nearZ (valueOfBoth (now (evens .entry)) (now (even .entry)) m (now (odds .entry)) (now (odd .entry)) n y x)) (pos 0) hi) ⌝ }
     ensures sure { λ r. ⌜ (r ≡ true → (y x : ℕ) → y < 8 → x < 8 → Sure (valueOfBoth (now (evens .entry)) (now (even .entry)) m (now (odds .entry)) (now (odd .entry)) n y x)) ⌝ }
 {
-    *out = [[0i32; 8]; 8];
+    eight_rows(out);
     let mut worst = [0.0f64; 8];
     for y in 0..4 {
         let e = sums_of(evens, even, m, table, y);
@@ -361,7 +368,7 @@ fn ruled(
     requires { ⌜ (now table ≡ block cosF) × (n ≤ 8) × ((j : ℕ) → j < n → getD (now which) j 0 < 8) × ((y x : ℕ) → y < 8 → x < 8 → Roundable (halfOfKept (now terms) (now which) n y x)) ⌝ }
     ensures { λ r. ⌜ now (out .exit) ≡ block (λ (y x : ℕ). clampZ (wholeOf rounding (halfOfKept (now (terms .entry)) (now (which .entry)) n y x)) (pos 0) hi) ⌝ }
 {
-    *out = [[0i32; 8]; 8];
+    eight_rows(out);
     for p in 0..4 {
         let y = 2 * p;
         let pair = two_rows(terms, which, n, table, y);

@@ -26,20 +26,23 @@ Inv-loop evens even m odds odd n table hi out₀ worst₀ y₀ out worst y = (y 
 abbrev μ-loop : tie.MeasureT-loop
 μ-loop evens even m odds odd n table hi out₀ worst₀ y₀ out worst y = 4 - y
 
+eight-rows-requires : tie.Need-eight-rows-requires Inv-loop μ-loop
+eight-rows-requires c κs = tt
+
 loop-holds : tie.Need-loop-holds Inv-loop μ-loop
 unfolding build
 loop-holds c =
-    let a = c .before .args in
-    (omega arith, rows-none (f (toZ w32 (ofZ w32 (a .hi))) (a .evens .now) (a .even .now) (a .m) (a .odds .now) (a .odd .now) (a .n)) (Done 0 0) _ refl done-none, cleared-none (valueOfBoth (a .evens .now) (a .even .now) (a .m) (a .odds .now) (a .odd .now) (a .n)) (Done 0 0) _ done-none refl)
+    let a = c .before .before .args in
+    (omega arith, rows-none (f (toZ w32 (ofZ w32 (a .hi))) (a .evens .now) (a .even .now) (a .m) (a .odds .now) (a .odd .now) (a .n)) (Done 0 0) _ (c .eight-rows .ensures) done-none, cleared-none (valueOfBoth (a .evens .now) (a .even .now) (a .m) (a .odds .now) (a .odd .now) (a .n)) (Done 0 0) _ done-none refl)
 
 sums-of-requires : tie.Need-sums-of-requires Inv-loop μ-loop
 sums-of-requires c κs =
-    let s = c .before .before .before in
+    let s = c .before .before .before .before in
     (s .pre .0, s .pre .1, omega (arith, c .loop-test .taken), s .pre .3)
 
 sums-of-requires-2 : tie.Need-sums-of-requires-2 Inv-loop μ-loop
 sums-of-requires-2 c κs =
-    let s = c .before .before .before .before in
+    let s = c .before .before .before .before .before in
     (s .pre .0, s .pre .2, omega (arith, c .before .loop-test .taken), s .pre .4)
 
 plus-requires : tie.Need-plus-requires Inv-loop μ-loop
@@ -58,7 +61,7 @@ clipped-row-requires c κs =
     let o = p .before in
     let e = o .before in
     let i = e .before in
-    let s = i .before .before .before in
+    let s = i .before .before .before .before in
     let a = s .args in
     let y = i .before .loop .y in
     let h = i .loop-test .taken in
@@ -87,18 +90,18 @@ clipped-row-requires-2 c κs =
     let o = t .before .before .before .before .before in
     let e = o .before in
     let i = e .before in
-    let s = i .before .before .before in
+    let s = i .before .before .before .before in
     let a = s .args in
     let y = i .before .loop .y in
     let h = i .loop-test .taken in
     let g : 7 - y < 8 = omega arith in
     near-castable (valueOfBoth (a .evens .now) (a .even .now) (a .m) (a .odds .now) (a .odd .now) (a .n) (7 - y)) (t .minus .result) (k .near-row2 .result) (minus-is (a .evens .now) (a .even .now) (a .m) (a .odds .now) (a .odd .now) (a .n) y h _ _ _ (e .sums-of .ensures) (o .sums-of2 .ensures) (t .minus .ensures)) (k .near-row2 .ensures) (λ x q. s .pre .5 (7 - y) x g q)
 
-sub-t22 : tie.Need-sub-t22 Inv-loop μ-loop
-sub-t22 c = omega arith
+sub-t23 : tie.Need-sub-t23 Inv-loop μ-loop
+sub-t23 c = omega arith
 
-mul-t25 : tie.Need-mul-t25 Inv-loop μ-loop
-mul-t25 c = omega arith
+mul-t26 : tie.Need-mul-t26 Inv-loop μ-loop
+mul-t26 c = omega arith
 
 element-set-from-out-2 : tie.Need-element-set-from-out-2 Inv-loop μ-loop
 element-set-from-out-2 c = omega arith
@@ -122,7 +125,7 @@ loop-again c =
     let e = o .before in
     let i = e .before in
     let l = i .before .loop in
-    let s = i .before .before .before in
+    let s = i .before .before .before .before in
     let a = s .args in
     let hi = toZ w32 (ofZ w32 (a .hi)) in
     let y = l .y in
@@ -150,7 +153,7 @@ returns : tie.Need-returns Inv-loop μ-loop
 returns c =
     let o = c .before .before in
     let l = o .loop in
-    let s = o .before .before in
+    let s = o .before .before .before in
     let a = s .args in
     let hi = toZ-ofZ {w = w32} {z = a .hi} (s .fits .hi) in
     let h = c .before .loop-test .left in (
@@ -164,6 +167,7 @@ near-samples-spec =
     (tie.spec
     Inv-loop
     μ-loop
+    eight-rows-requires
     loop-holds
     sums-of-requires
     sums-of-requires-2
@@ -177,8 +181,8 @@ near-samples-spec =
     near-row-requires-2
     farther-requires-2
     clipped-row-requires-2
-    sub-t22
-    mul-t25
+    sub-t23
+    mul-t26
     element-set-from-out-2
     add-y
     loop-less
