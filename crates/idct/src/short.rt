@@ -159,13 +159,13 @@ fn both_terms(e: [f64; 4], o: [f64; 4], s: f64) -> [f64; 8]
 
 // Row v transformed by its even and its odd terms, each value times C(v) / 4: the factor of both passes,
 // so that the second one has none.
-fn paired_terms(row: [i32; 8], v: usize, table: &[[f64; 8]; 8]) -> [f64; 8]
+fn paired_terms(row: [i32; 8], v: usize, table: &[[f64; 8]; 8], terms: &mut [f64; 8])
     requires { ⌜ now table ≡ block cosF ⌝ }
-    ensures { λ r. ⌜ r ≡ build 8 (pairedAt row v) ⌝ }
+    ensures { λ _. ⌜ now (terms .exit) ≡ build 8 (pairedAt row v) ⌝ }
 {
     let e = half_sums(row, 0, table);
     let o = half_sums(row, 1, table);
-    both_terms(e, o, 0.25 * c(v))
+    *terms = both_terms(e, o, 0.25 * c(v));
 }
 
 // ---- blocks
@@ -225,8 +225,7 @@ fn even_rows(
             if !row_within(row, least, most) {
                 return KeptRows::OutOfLimits;
             }
-            let more = paired_terms(row, v, table);
-            terms[n] = more;
+            paired_terms(row, v, table, &mut terms[n]);
             which[n] = v;
             n += 1;
         }
@@ -254,8 +253,7 @@ fn odd_rows(
             if !row_within(row, least, most) {
                 return KeptRows::OutOfLimits;
             }
-            let more = paired_terms(row, v, table);
-            terms[n] = more;
+            paired_terms(row, v, table, &mut terms[n]);
             which[n] = v;
             n += 1;
         }

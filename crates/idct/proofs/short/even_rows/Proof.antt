@@ -72,14 +72,14 @@ returns c =
     let l = s .args .f .now in
     sym (back s l) ∙ every-fails (every (within (toZ w32 (ofZ w32 (s .args .least))) (toZ w32 (ofZ w32 (s .args .most))))) [] l (2 * o .loop .k) (omega (arith, s .pre .1, i .loop-test .taken)) (sym (c .before .row-within .ensures) ∙ not-true _ (c .if2 .taken))
 
+mul-paired-terms : tie.Need-mul-paired-terms Inv-loop μ-loop
+mul-paired-terms c = omega arith
+
+index-1-paired-terms : tie.Need-index-1-paired-terms Inv-loop μ-loop
+index-1-paired-terms c = omega arith
+
 paired-terms-requires : tie.Need-paired-terms-requires Inv-loop μ-loop
-paired-terms-requires c κs = c .before .before .before .before .before .before .before .pre .0
-
-mul-more : tie.Need-mul-more Inv-loop μ-loop
-mul-more c = omega arith
-
-element-set-from-more : tie.Need-element-set-from-more Inv-loop μ-loop
-element-set-from-more c = omega arith
+paired-terms-requires c κs = c .before .before .before .before .before .before .before .before .pre .0
 
 mul-which : tie.Need-mul-which Inv-loop μ-loop
 mul-which c = omega arith
@@ -112,7 +112,7 @@ loop-again c =
     let more : every (within lo hi) (getD l v []) ≡ true → (j : ℕ) → j < k + 1 → every (within lo hi) (getD l (2 * j + 0) []) ≡ true = λ e j q. within-at 0 l k v z lo hi e (o .loop .inv .2) j q in (
       omega arith,
       ⊎-elim
-          (λ w. half-kept-same 0 l (k + 1) (c .if1 .terms) _ (c .if1 .which) _ (c .if1 .n) _ (w .4) (w .5) (w .6) (half-kept-at 0 l k v z (o .loop .terms) (o .loop .which) (o .loop .n) (w .3 .result) (w .3 .ensures) (i .loop-test .taken) (omega arith) (o .loop .inv .1)))
+          (λ w. half-kept-same 0 l (k + 1) (c .if1 .terms) _ (c .if1 .which) _ (c .if1 .n) _ (w .5) (w .6) (w .7) (half-kept-at 0 l k v z (o .loop .terms) (o .loop .which) (o .loop .n) _ (w .4 .ensures) (i .loop-test .taken) (omega arith) (o .loop .inv .1)))
           (λ w. half-kept-same 0 l (k + 1) (c .if1 .terms) _ (c .if1 .which) _ (c .if1 .n) _ (w .1) (w .2) (w .3) (half-skip-at 0 l k v z (o .loop .terms) (o .loop .which) (o .loop .n) (is-T _ (sym (t .zero-row .ensures) ∙ not-false _ (w .0 .left))) (o .loop .inv .1)))
           (c .if1 .came),
       ⊎-elim
@@ -142,9 +142,9 @@ even-rows-spec =
     zero-row-requires
     row-within-requires
     returns
+    mul-paired-terms
+    index-1-paired-terms
     paired-terms-requires
-    mul-more
-    element-set-from-more
     mul-which
     element-write-which
     add-n
