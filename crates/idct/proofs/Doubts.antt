@@ -84,12 +84,12 @@ module _ (a b : Float) (f : Finite a) (g : Finite b) where
       go : (t : Bool) → lt a b ≡ t → lt (cond t b a) wellWithin ≡ true → (lt a wellWithin ≡ true) × (lt b wellWithin ≡ true)
       go true s h =
           let p = lt-is a b (f .0) (g .0) (f .1) (g .1) s in
-          let q = lt-is b wellWithin (g .0) (pos (576390383559245824 * grain)) (g .1) well-is h in
-          (is-true (lt a wellWithin) (lt-shown a wellWithin (f .0) (pos (576390383559245824 * grain)) (f .1) well-is (omega arith)), h)
+          let q = lt-is b wellWithin (g .0) (pos (576460683583946752 * grain)) (g .1) well-is h in
+          (is-true (lt a wellWithin) (lt-shown a wellWithin (f .0) (pos (576460683583946752 * grain)) (f .1) well-is (omega arith)), h)
       go false s h =
           let p = nlt-is a b (f .0) (g .0) (f .1) (g .1) s in
-          let q = lt-is a wellWithin (f .0) (pos (576390383559245824 * grain)) (f .1) well-is h in
-          (h, is-true (lt b wellWithin) (lt-shown b wellWithin (g .0) (pos (576390383559245824 * grain)) (g .1) well-is (omega arith)))
+          let q = lt-is a wellWithin (f .0) (pos (576460683583946752 * grain)) (f .1) well-is h in
+          (h, is-true (lt b wellWithin) (lt-shown b wellWithin (g .0) (pos (576460683583946752 * grain)) (g .1) well-is (omega arith)))
 
 -- ---- a block: the rows with D are done
 

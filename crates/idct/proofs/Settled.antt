@@ -19,13 +19,13 @@ use Rattle.idct.specs.declared.rounding.HalfIntegerRounding.{HalfInteger
 use Rattle.idct.proofs.Floors.{near-exactly, near-size}
 use Rattle.idct.proofs.Rounds.{rounded-near}
 
-pub well-is : Is wellWithin (pos (576390383559245824 * grain))
+pub well-is : Is wellWithin (pos (576460683583946752 * grain))
 unfolding Is ofBits grain
-well-is = (576390383559245824 * 2 ^ 1014, refl, refl)
+well-is = (576460683583946752 * 2 ^ 1014, refl, refl)
 
--- n within 1/2 + 2 ^ -26 of v, and t within 1/2 - 2 ^ -15 of it, are one
+-- n within 1/2 + 2 ^ -26 of v, and t within 1/2 - 2 ^ -25 of it, are one
 one-whole : (n t v : ℤ) → up n * one + dn v ≤ dn n * one + up v + (2 ^ 59 + 12066085959) * grain → dn n * one + up v ≤ up n * one + dn v + (2 ^ 59 + 12066085959) * grain
-    → up t * one + dn v ≤ dn t * one + up v + 576425567931334656 * grain → dn t * one + up v ≤ up t * one + dn v + 576425567931334656 * grain → n ≡ t
+    → up t * one + dn v ≤ dn t * one + up v + 576460717943685120 * grain → dn t * one + up v ≤ up t * one + dn v + 576460717943685120 * grain → n ≡ t
 one-whole n t v a b c d =
     let l : (up n + dn t) * one < (dn n + up t + 1) * one = omega (arith, one-is, grain-pos) in
     let r : (dn n + up t) * one < (up n + dn t + 1) * one = omega (arith, one-is, grain-pos) in
@@ -55,18 +55,18 @@ module _ (x : Float) (h : Roundable x) where
   pub gap : (w : ℤ) × Is d w
   gap = (taken .0, taken .1)
 
-  small : lt (magF d) wellWithin ≡ true → (up (taken .0) ≤ dn (taken .0) + 576390383559245824 * grain) × (dn (taken .0) ≤ up (taken .0) + 576390383559245824 * grain)
+  small : lt (magF d) wellWithin ≡ true → (up (taken .0) ≤ dn (taken .0) + 576460683583946752 * grain) × (dn (taken .0) ≤ up (taken .0) + 576460683583946752 * grain)
   small q = go (lt d (fin false 0 (pos 0))) refl q
     where
       go : (b : Bool) → lt d (fin false 0 (pos 0)) ≡ b → lt (cond b (neg d) d) wellWithin ≡ true
-          → (up (taken .0) ≤ dn (taken .0) + 576390383559245824 * grain) × (dn (taken .0) ≤ up (taken .0) + 576390383559245824 * grain)
+          → (up (taken .0) ≤ dn (taken .0) + 576460683583946752 * grain) × (dn (taken .0) ≤ up (taken .0) + 576460683583946752 * grain)
       go true e g =
           let l = lt-is d (fin false 0 (pos 0)) (taken .0) (pos 0) (taken .1) zero-is e in
-          let m = lt-is (neg d) wellWithin (negℤ (taken .0)) (pos (576390383559245824 * grain)) (neg-is d (taken .0) (taken .1)) well-is g in
+          let m = lt-is (neg d) wellWithin (negℤ (taken .0)) (pos (576460683583946752 * grain)) (neg-is d (taken .0) (taken .1)) well-is g in
           omega (arith, neg-up (taken .0), neg-dn (taken .0))
       go false e g =
           let l = nlt-is d (fin false 0 (pos 0)) (taken .0) (pos 0) (taken .1) zero-is e in
-          let m = lt-is d wellWithin (taken .0) (pos (576390383559245824 * grain)) (taken .1) well-is g in
+          let m = lt-is d wellWithin (taken .0) (pos (576460683583946752 * grain)) (taken .1) well-is g in
           omega arith
 
   -- the whole number of another f64 that is within 2 ^ -28 of x

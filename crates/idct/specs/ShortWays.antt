@@ -37,9 +37,9 @@ nearZ x = toSigned 31 (nearF x)
 abbrev pub Castable : Float → Type 0
 Castable x = T (inSigned binary64 31 x) × (natAbs (toSigned 31 x) ≤ 1048576)
 
--- 1/2 - 2 ^ -14
+-- 1/2 - 2 ^ -24
 abbrev pub wellWithin : Float
-wellWithin = ofBits binary64 4602677719661019136
+wellWithin = ofBits binary64 4602678818098905088
 
 -- the near number is well within a half, so that no rule gives another one
 abbrev pub Sure : Float → Type 0
