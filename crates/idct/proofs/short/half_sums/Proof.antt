@@ -3,6 +3,7 @@ use mathlib.Core.List.{List, []}
 use mathlib.Core.Path.{_≡_, ap, _∙_}
 use Prim.Native.Nat.{ℕ, _+_, _-_, _*_, _≤_, _<_}
 use native.Mathlib.Omega.{arith}
+use denote.Ref.{now}
 use lib.Ieee.{Float}
 use lib.ListN.{getD}
 use borrow.Author.Needs.{needs}
@@ -15,14 +16,14 @@ use Rattle.idct.proofs.short.half_sums.Statement.{statement}
 use Rattle.idct.proofs.short.half_sums.Tie as tie
 
 abbrev Inv-loop : tie.InvT-loop
-Inv-loop p table row sums₀ k₀ sums k = (k ≤ 4) × (sums ≡ build 4 (halfSum row p k))
+Inv-loop row p table sums₀ k₀ sums k = (k ≤ 4) × (sums ≡ build 4 (halfSum row p k))
 
 abbrev μ-loop : tie.MeasureT-loop
-μ-loop p table row sums₀ k₀ sums k = 4 - k
+μ-loop row p table sums₀ k₀ sums k = 4 - k
 
 loop-holds : tie.Need-loop-holds Inv-loop μ-loop
 unfolding build
-loop-holds c = (omega arith, half-none (c .args .t1) (c .args .p))
+loop-holds c = (omega arith, half-none (now (c .args .row)) (c .args .p))
 
 mul-u : tie.Need-mul-u Inv-loop μ-loop
 mul-u c = omega arith
@@ -36,8 +37,8 @@ c-requires c κs = tt
 mul-f : tie.Need-mul-f Inv-loop μ-loop
 mul-f c = omega arith
 
-array-copy-out-f : tie.Need-array-copy-out-f Inv-loop μ-loop
-array-copy-out-f c = omega arith
+shared-slice-copy-out-f : tie.Need-shared-slice-copy-out-f Inv-loop μ-loop
+shared-slice-copy-out-f c = let s = c .before .before .before in omega (arith, s .pre .2)
 
 int-to-float-f : tie.Need-int-to-float-f Inv-loop μ-loop
 int-to-float-f c = search needs
@@ -67,14 +68,14 @@ loop-again c =
     let u : ℕ = 2 * k + a .p in
     let l : u < 8 = omega (arith, i .loop-test .taken, s .pre .1) in
     let row = ap (λ (t : List (List Float)). getD t u []) (s .pre .0) ∙ getD-build 8 (λ (v : ℕ). build 8 (cosF v)) u [] l in
-    (omega arith, half-more (a .t1) (a .p) k (o .loop .sums) _ (c .four-terms .result) _ _ (c .four-terms .ensures) (o .loop .inv .1) row (c .before .before .before .before .c .ensures) (let h = c .before .before .row-known .given in let g = c .before .before .before .f .given in search needs))
+    (omega arith, half-more (now (a .row)) (a .p) k (o .loop .sums) _ (c .four-terms .result) _ _ (c .four-terms .ensures) (o .loop .inv .1) row (c .before .before .before .before .c .ensures) (let h = c .before .before .row-known .given in let g = c .before .before .before .f .given in search needs))
 
 returns : tie.Need-returns Inv-loop μ-loop
 returns c =
     let l = c .before .loop in
     let a = c .before .before .args in
     let h : l .k ≡ 4 = omega (arith, l .inv .0, c .loop-test .left) in
-    l .inv .1 ∙ ap (λ (m : ℕ). build 4 (halfSum (a .t1) (a .p) m)) h
+    l .inv .1 ∙ ap (λ (m : ℕ). build 4 (halfSum (now (a .row)) (a .p) m)) h
 
 pub half-sums-spec : {M : Type 1} → statement M
 half-sums-spec =
@@ -87,7 +88,7 @@ half-sums-spec =
     add-u
     c-requires
     mul-f
-    array-copy-out-f
+    shared-slice-copy-out-f
     int-to-float-f
     mul-cosines
     element-copy-out-cosines

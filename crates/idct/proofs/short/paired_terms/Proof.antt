@@ -1,5 +1,6 @@
 -- `idct::short::paired_terms` meets its contract. Assumes nothing.
 use Rattle.idct.proofs.EvenOddLaws.{paired-terms}
+use denote.Ref.{now}
 use borrow.Author.Needs.{needs}
 use Rattle.idct.proofs.short.paired_terms.Statement.{statement}
 use Rattle.idct.proofs.short.paired_terms.Tie as tie
@@ -22,7 +23,7 @@ returns c =
     let o = k .before in
     let e = o .before in
     let a = e .before .args in
-    paired-terms (a .row) (a .v) (e .half-sums .result) (o .half-sums2 .result) (c .both-terms .result) (k .c .result) (e .half-sums .ensures) (o .half-sums2 .ensures) (k .c .ensures) (c .both-terms .ensures)
+    paired-terms (now (a .row)) (a .v) (e .half-sums .result) (o .half-sums2 .result) (c .both-terms .result) (k .c .result) (e .half-sums .ensures) (o .half-sums2 .ensures) (k .c .ensures) (c .both-terms .ensures)
 
 pub paired-terms-spec : {M : Type 1} → statement M
 paired-terms-spec =
