@@ -13,7 +13,7 @@ use mir.Syntax.{w32}
 use mir.Val.{SFits, toZ, ofZ}
 use Rattle.numbers.proofs.Expressions.{Sx, loc, lit, _⊟_, val-fits}
 use Rattle.numbers.proofs.Integers.{abs-is}
-use Rattle.f64_error.proofs.Binary64.{lt-is, nlt-is, int-is}
+use Rattle.f64_error.proofs.Binary64.{Part, lt-is, nlt-is, int-is}
 use Rattle.f64_error.proofs.Floors.{part-size, floor-under, floor-at}
 use Rattle.f64_error.proofs.FromIntegers.{times-up, times-dn, in-float}
 use Rattle.f64_error.proofs.Nearest.{floor-is}
@@ -82,6 +82,10 @@ module _ (x : Float) (h : Roundable x) where
 
   pub near-size : natAbs (nearZ x) ≤ 1048576
   near-size = subst (λ (z : ℤ). natAbs z ≤ 1048576) (sym near-is) (size x h found found-is)
+
+  -- it is less than 1 from x
+  pub near-part : Part (h .v) (nearZ x)
+  near-part = subst (λ (z : ℤ). Part (h .v) z) (sym near-is) (found .part)
 
   -- what is read back from its bits
   pub near-held : toZ w32 (ofZ w32 (nearZ x)) ≡ nearZ x

@@ -13,7 +13,6 @@ use Rattle.numbers.specs.Limit.{clampZ}
 use Rattle.ranges.specs.Range.{within}
 use Rattle.f64_error.specs.Series.{half, pass, seriesF}
 use Rattle.f64_error.specs.Units.{one, Bounded}
-use Rattle.f64_error.specs.Wholes.{magF}
 use Rattle.idct.specs.Cosines.{cF, cosF}
 use Rattle.idct.specs.Transform.{whole}
 use Rattle.idct.specs.declared.rounding.HalfIntegerRounding.{HalfIntegerRounding}
@@ -41,9 +40,16 @@ Castable x = T (inSigned binary64 31 x) × (natAbs (toSigned 31 x) ≤ 1048576)
 abbrev pub wellWithin : Float
 wellWithin = ofBits binary64 4602678818098905088
 
+-- 1/4 - 2 ^ -24
+abbrev pub wellWithinSquare : Float
+wellWithinSquare = ofBits binary64 4598175217397792768
+
+abbrev pub squareF : Float → Float
+squareF x = mul binary64 x x
+
 -- the near number is well within a half, so that no rule gives another one
 abbrev pub Sure : Float → Type 0
-Sure x = lt (magF (sub binary64 x (nearF x))) wellWithin ≡ true
+Sure x = lt (squareF (sub binary64 x (nearF x))) wellWithinSquare ≡ true
 
 -- the greater, as `if a < b { b } else { a }` has it
 abbrev pub greaterF : Float → Float → Float

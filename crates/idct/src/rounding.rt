@@ -48,14 +48,14 @@ fn floor_of(x: f64) -> i32
 }
 
 // |x|
-pub(crate) fn magnitude(x: f64) -> f64
+fn magnitude(x: f64) -> f64
     ensures { λ r. ⌜ r ≡ magF x ⌝ }
 {
     if x < 0.0 { -x } else { x }
 }
 
 // 1/2 - 2^-24.
-pub(crate) const WELL_WITHIN: f64 = 0.499_999_940_395_355_22;
+const WELL_WITHIN: f64 = 0.499_999_940_395_355_22;
 
 // 0 where `nearest_of` is so near to x that no rule gives another whole number; elsewhere 1.
 pub(crate) fn unsettled(x: f64) -> u32

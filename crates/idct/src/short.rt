@@ -11,18 +11,15 @@ ghost use Rattle.numbers.specs.Every.{every};
 ghost use Rattle.numbers.specs.Grid.{block, build};
 ghost use Rattle.numbers.specs.Limit.{clampZ};
 ghost use Rattle.ranges.specs.Range.{within};
-ghost use Rattle.f64_error.specs.Wholes.{magF};
 ghost use Rattle.idct.specs.Cosines.{cosF};
 ghost use Rattle.idct.specs.EvenOdd.{ToldHalf, bothAt, halfSum, pairedAt, valueOfBoth};
 ghost use Rattle.idct.specs.Exact.{Modest};
 ghost use Rattle.idct.specs.Rounding.{wholeOf};
-ghost use Rattle.idct.specs.ShortWays.{Castable, Roundable, Sure, Told, greaterF, halfOfKept, isZero, nearF, nearZ, samplesIn, sumOfKept, wellWithin};
+ghost use Rattle.idct.specs.ShortWays.{Castable, Roundable, Sure, Told, greaterF, halfOfKept, isZero, nearF, nearZ, samplesIn, squareF, sumOfKept, wellWithinSquare};
 use crate::cosines::c;
 use crate::limits::row_within;
 use crate::rounding::HalfIntegerRounding;
 use crate::rounding::SHIFT;
-use crate::rounding::WELL_WITHIN;
-use crate::rounding::magnitude;
 use crate::transform::add_row;
 use crate::transform::row_terms;
 use crate::transform::ruled_row;
@@ -58,14 +55,14 @@ fn greater(a: f64, b: f64) -> f64
     if a < b { b } else { a }
 }
 
-// How far each sum was from its whole number, where that is farther than the worst so far.
+// The square of how far each sum was from its whole number, where that is more than the worst so far.
 fn farther(worst: [f64; 8], sums: [f64; 8], near: [f64; 8]) -> [f64; 8]
-    ensures { λ r. ⌜ r ≡ build 8 (λ (x : ℕ). greaterF (getD worst x nan) (magF (sub binary64 (getD sums x nan) (getD near x nan)))) ⌝ }
+    ensures { λ r. ⌜ r ≡ build 8 (λ (x : ℕ). greaterF (getD worst x nan) (squareF (sub binary64 (getD sums x nan) (getD near x nan)))) ⌝ }
 {
     let mut out = [0.0f64; 8];
     for x in 0..8 {
-        let far = magnitude(sums[x] - near[x]);
-        out[x] = greater(worst[x], far);
+        let d = sums[x] - near[x];
+        out[x] = greater(worst[x], d * d);
     }
     out
 }
@@ -83,13 +80,16 @@ fn clipped_row(near: [f64; 8], hi: i32) -> [i32; 8]
     out
 }
 
-// Whether each is well within a half.
+// 1/4 - 2^-24.
+const WELL_WITHIN_SQUARE: f64 = 0.249_999_940_395_355_22;
+
+// Whether each is well within the square of a half.
 fn settled(worst: [f64; 8]) -> bool
-    ensures { λ r. ⌜ r ≡ every (λ (w : Float). lt w wellWithin) worst ⌝ }
+    ensures { λ r. ⌜ r ≡ every (λ (w : Float). lt w wellWithinSquare) worst ⌝ }
 {
     let mut fine = true;
     for x in 0..8 {
-        let within = worst[x] < WELL_WITHIN;
+        let within = worst[x] < WELL_WITHIN_SQUARE;
         fine = fine & within;
     }
     fine

@@ -2,6 +2,7 @@
 pub mod BlockSums
 pub mod RefusalLaws
 pub mod MethodLaws
+pub mod Products
 pub mod DcLaws
 pub mod LimitLaws
 pub mod MismatchLaws

@@ -1,7 +1,7 @@
 -- A sign is -1, 0 or 1, and with it each method is one formula that gives 0 at 0. Assumes nothing.
 use mathlib.Core.Bool.{Bool, true, false, cond}
 use mathlib.Core.Path.{_≡_, refl, ap, _∙_}
-use Prim.Native.Nat.{ℕ, zero, suc, _+_, _-_, _*_, _%_, _≤_}
+use Prim.Native.Nat.{ℕ, zero, suc, _+_, _-_, _*_, _/_, _%_, _≤_}
 use native.Mathlib.Omega.{arith}
 use lib.Dec.{eqb}
 use lib.IntN.{ℤ, pos, negsuc, negℤ, natAbs, _+ℤ_, _-ℤ_, _*ℤ_}
@@ -36,6 +36,17 @@ pub method1-intra : (z : ℤ) (w q : ℕ) → method1Intra z w q ≡ method1 tru
 method1-intra (pos zero) w q = ap (λ (x : ℤ). quotZ x (pos 16)) (ring (nat 0 ⊗ nat w ⊗ nat q ⊗ nat 2) (nat 0) (omega arith))
 method1-intra (pos (suc n)) w q = rw (not-zero n)
 method1-intra (negsuc n) w q = rw (not-zero n)
+
+-- an eighth is two sixteenths
+eighth : (z : ℤ) → quotZ z (pos 8) ≡ quotZ (z *ℤ pos 2) (pos 16)
+eighth (pos n) = let e : n / 8 ≡ n * 2 / 16 = omega arith in ap pos e
+eighth (negsuc n) =
+    let e : suc n / 8 ≡ suc (suc (n * 2)) / 16 = omega arith in
+    let t : suc (suc (n * 2)) ≡ suc n * 2 = omega arith in
+    ap (λ (x : ℕ). negℤ (pos x)) e ∙ ap (λ (x : ℕ). quotZ (negℤ (pos x)) (pos 16)) t
+
+pub method1-eighth : (z : ℤ) (w q : ℕ) → quotZ (z *ℤ pos w *ℤ pos q) (pos 8) ≡ method1 true z w q
+method1-eighth z w q = eighth (z *ℤ pos w *ℤ pos q) ∙ method1-intra z w q
 
 pub method1-inter : (z : ℤ) (w q : ℕ) → quotZ ((pos 2 *ℤ z +ℤ signum z) *ℤ pos w *ℤ pos q) (pos 16) ≡ method1 false z w q
 method1-inter (pos zero) w q = ap (λ (x : ℤ). quotZ x (pos 16)) (ring ((nat 2 ⊗ nat 0 ⊕ nat 0) ⊗ nat w ⊗ nat q) (nat 0) (omega arith))

@@ -125,7 +125,7 @@ pub fn inverse_quant_method2_coef(qf: i32, quantiser_scale: u32) -> Value
 }
 
 // 7.4.4.4: a value limited by the depth, which is one.
-fn saturate_fprime(value: i32, bits_per_pixel: u32) -> i32
+pub(crate) fn saturate_fprime(value: i32, bits_per_pixel: u32) -> i32
     requires { ⌜ (4 ≤ «bits_per_pixel») × («bits_per_pixel» ≤ 12) ⌝ }
     ensures { λ r. ⌜ r ≡ limitedF «bits_per_pixel» value ⌝ }
 {

@@ -2,7 +2,7 @@
 ghost use mathlib.Core.Bool.{true};
 ghost use mathlib.Core.Path.{_≡_};
 ghost use Prim.Native.Nat.{ℕ, _≤_};
-ghost use lib.IntN.{natAbs};
+ghost use lib.IntN.{natAbs, pos, _*ℤ_};
 ghost use lib.ListN.{length};
 ghost use Rattle.numbers.specs.Every.{every};
 ghost use Rattle.numbers.specs.Grid.{build};
@@ -10,11 +10,12 @@ ghost use Rattle.numbers.specs.Sum.{sumZ};
 ghost use Rattle.coefficients.specs.Level.{blockFine};
 ghost use Rattle.coefficients.specs.Outcomes.{stageOutcome};
 ghost use Rattle.coefficients.specs.Refusal.{after, firstBad};
-ghost use Rattle.inverse_quant.specs.Dequantised.{dequantised1, dequantised2, sumOf};
+ghost use Rattle.inverse_quant.specs.Dequantised.{dequantised1, dequantised2, limitedF, method1, sumOf};
 ghost use Rattle.inverse_quant.specs.Either.{answerBy, dequantisedBy, dueBy};
 ghost use Rattle.inverse_quant.specs.Stages.{ContextGood};
 ghost use Rattle.inverse_quant.specs.ByRows.{isZero, LevelsRow, ValuesRow, zeros, rowBy1, rowBy2, rowsBy1, rowsBy2, firstValue, lastValue};
 use crate::coefficient::dc_value;
+use crate::coefficient::saturate_fprime;
 use crate::coefficient::value1;
 use crate::coefficient::value2;
 use crate::context::InverseQuantContext;
@@ -36,6 +37,28 @@ fn row_zero(row: [i32; 8]) -> bool
     some == 0
 }
 
+// The product of a level, its weight and the quantiser, at most 2048 * 255 * 31. So it is exact in an f32, as is each product on the
+// way, and four are taken at a time; 0 is added so that no -0 is left.
+fn product(level: i32, weight: u8, quantiser_scale: u32) -> i32
+    requires { ⌜ (natAbs level ≤ 2048) × («quantiser_scale» ≤ 31) ⌝ }
+    ensures { λ r. ⌜ r ≡ level *ℤ pos weight *ℤ pos «quantiser_scale» ⌝ }
+{
+    let p = (level as f32) * (weight as f32) * (quantiser_scale as f32) + 0.0;
+    p as i32
+}
+
+// As `value1`: in an intra macroblock by that product, since twice it over 16 is an eighth of it.
+fn product_value1(level: i32, weight: u8, ctx: InverseQuantContext) -> i32
+    requires { ⌜ (natAbs level ≤ 2048) × ContextGood ctx ⌝ }
+    ensures { λ r. ⌜ r ≡ limitedF (ctx .«bits_per_pixel») (method1 (ctx .«macroblock_intra») level weight (ctx .«quantiser_scale»)) ⌝ }
+{
+    if !ctx.macroblock_intra {
+        return value1(level, weight, ctx);
+    }
+    let f = product(level, weight, ctx.quantiser_scale) / 8;
+    saturate_fprime(f, ctx.bits_per_pixel)
+}
+
 // A row of levels by method 1, limited.
 fn row1(levels: [i32; 8], weights: [u8; 8], ctx: InverseQuantContext) -> [i32; 8]
     requires { ⌜ LevelsRow levels × ContextGood ctx ⌝ }
@@ -43,7 +66,7 @@ fn row1(levels: [i32; 8], weights: [u8; 8], ctx: InverseQuantContext) -> [i32; 8
 {
     let mut row = [0i32; 8];
     for u in 0..8 {
-        row[u] = value1(levels[u], weights[u], ctx);
+        row[u] = product_value1(levels[u], weights[u], ctx);
     }
     row
 }

@@ -1,14 +1,13 @@
 -- `idct::short::farther` meets its contract, one store a turn. Assumes nothing.
 use mathlib.Core.List.{List}
-use mathlib.Core.Path.{_≡_, refl, ap, _∙_}
+use mathlib.Core.Path.{_≡_, refl}
 use Prim.Native.Nat.{ℕ, _-_, _≤_}
 use native.Mathlib.Omega.{arith}
 use lib.Ieee.{Float, nan, binary64, ofBits, sub}
 use lib.ListN.{getD}
 use Rattle.numbers.proofs.Fill.{part, cells-none, cells-more, cells-all}
 use Rattle.numbers.specs.Grid.{build}
-use Rattle.f64_error.specs.Wholes.{magF}
-use Rattle.idct.specs.ShortWays.{greaterF}
+use Rattle.idct.specs.ShortWays.{greaterF, squareF}
 use Rattle.idct.proofs.short.farther.Statement.{statement}
 use Rattle.idct.proofs.short.farther.Tie as tie
 
@@ -16,7 +15,7 @@ abbrev z : ℕ → Float
 z k = ofBits binary64 0
 
 abbrev f : List Float → List Float → List Float → ℕ → Float
-f worst sums near x = greaterF (getD worst x nan) (magF (sub binary64 (getD sums x nan) (getD near x nan)))
+f worst sums near x = greaterF (getD worst x nan) (squareF (sub binary64 (getD sums x nan) (getD near x nan)))
 
 abbrev Inv-loop : tie.InvT-loop
 Inv-loop worst sums near out₀ x₀ out x = (x ≤ 8) × (out ≡ part 8 (f worst sums near) z x)
@@ -28,20 +27,17 @@ loop-holds : tie.Need-loop-holds Inv-loop μ-loop
 unfolding build
 loop-holds c = (omega arith, cells-none 8 (f (c .args .t1) (c .args .t2) (c .args .t3)) z _ refl)
 
-mul-magnitude : tie.Need-mul-magnitude Inv-loop μ-loop
-mul-magnitude c = omega arith
+mul-d : tie.Need-mul-d Inv-loop μ-loop
+mul-d c = omega arith
 
-array-read-magnitude : tie.Need-array-read-magnitude Inv-loop μ-loop
-array-read-magnitude c = omega arith
+array-read-d : tie.Need-array-read-d Inv-loop μ-loop
+array-read-d c = omega arith
 
-mul-magnitude-2 : tie.Need-mul-magnitude-2 Inv-loop μ-loop
-mul-magnitude-2 c = omega arith
+mul-d-2 : tie.Need-mul-d-2 Inv-loop μ-loop
+mul-d-2 c = omega arith
 
-array-read-magnitude-2 : tie.Need-array-read-magnitude-2 Inv-loop μ-loop
-array-read-magnitude-2 c = omega arith
-
-magnitude-requires : tie.Need-magnitude-requires Inv-loop μ-loop
-magnitude-requires c κs = tt
+array-read-d-2 : tie.Need-array-read-d-2 Inv-loop μ-loop
+array-read-d-2 c = omega arith
 
 mul-greater : tie.Need-mul-greater Inv-loop μ-loop
 mul-greater c = omega arith
@@ -66,14 +62,8 @@ loop-less c = omega arith
 
 loop-again : tie.Need-loop-again Inv-loop μ-loop
 loop-again c =
-    let m = c .before in
-    let i = m .before .before in
-    let a = i .before .args in
-    let x = i .loop .x in (
-      omega arith,
-      cells-more 8 _ _ nan _ _ _ (m .before .loop-test .taken) (i .loop .inv .1)
-          (c .greater .ensures ∙ ap (greaterF (getD (a .t1) x nan)) (m .magnitude .ensures)),
-    )
+    let i = c .before in
+    (omega arith, cells-more 8 _ _ nan _ _ _ (i .loop-test .taken) (i .before .loop .inv .1) (c .greater .ensures))
 
 returns : tie.Need-returns Inv-loop μ-loop
 returns c = cells-all 8 _ _ _ _ (c .loop-test .left) (c .before .loop .inv .0) (c .before .loop .inv .1)
@@ -85,11 +75,10 @@ farther-spec =
     Inv-loop
     μ-loop
     loop-holds
-    mul-magnitude
-    array-read-magnitude
-    mul-magnitude-2
-    array-read-magnitude-2
-    magnitude-requires
+    mul-d
+    array-read-d
+    mul-d-2
+    array-read-d-2
     mul-greater
     array-read-greater
     greater-requires

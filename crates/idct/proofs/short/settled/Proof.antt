@@ -6,13 +6,13 @@ use native.Mathlib.Omega.{arith}
 use lib.Ieee.{Float, lt, nan}
 use lib.ListN.{drop, getD}
 use Rattle.numbers.specs.Every.{every}
-use Rattle.idct.specs.ShortWays.{wellWithin}
+use Rattle.idct.specs.ShortWays.{wellWithinSquare}
 use Rattle.idct.proofs.Scans.{adds, has-all}
 use Rattle.idct.proofs.short.settled.Statement.{statement}
 use Rattle.idct.proofs.short.settled.Tie as tie
 
 abbrev well : Float → Bool
-well w = lt w wellWithin
+well w = lt w wellWithinSquare
 
 abbrev Inv-loop : tie.InvT-loop
 Inv-loop worst fine₀ x₀ fine x = (x ≤ 8) × (every well worst ≡ (fine && every well (drop x worst)))

@@ -34,17 +34,17 @@ loop-holds : tie.Need-loop-holds Inv-loop μ-loop
 unfolding build
 loop-holds c = (omega arith, cells-none 8 _ (λ (k : ℕ). pos 0) _ refl)
 
-mul-value1 : tie.Need-mul-value1 Inv-loop μ-loop
-mul-value1 c = omega arith
+mul-product-value1 : tie.Need-mul-product-value1 Inv-loop μ-loop
+mul-product-value1 c = omega arith
 
-array-copy-out-value1 : tie.Need-array-copy-out-value1 Inv-loop μ-loop
-array-copy-out-value1 c = omega arith
+array-copy-out-product-value1 : tie.Need-array-copy-out-product-value1 Inv-loop μ-loop
+array-copy-out-product-value1 c = omega arith
 
-array-read-value1 : tie.Need-array-read-value1 Inv-loop μ-loop
-array-read-value1 c = omega arith
+array-read-product-value1 : tie.Need-array-read-product-value1 Inv-loop μ-loop
+array-read-product-value1 c = omega arith
 
-value1-requires : tie.Need-value1-requires Inv-loop μ-loop
-value1-requires c κs =
+product-value1-requires : tie.Need-product-value1-requires Inv-loop μ-loop
+product-value1-requires c κs =
     let a = c .before .before in
     (rw (level a) (a .before .pre .0 (a .loop .u)), a .before .pre .1)
 
@@ -67,7 +67,7 @@ loop-again c =
     let s = a .before in (
       omega arith,
       cells-more 8 _ _ (pos 0) _ _ _ (i .loop-test .taken) (a .loop .inv .1)
-          (held (c .value1 .result) (c .value1 .ok) ∙ c .value1 .ensures ∙ ap (rule (s .args .ctx) (s .args .t2) (a .loop .u)) (level a)),
+          (held (c .product-value1 .result) (c .product-value1 .ok) ∙ c .product-value1 .ensures ∙ ap (rule (s .args .ctx) (s .args .t2) (a .loop .u)) (level a)),
     )
 
 returns : tie.Need-returns Inv-loop μ-loop
@@ -81,10 +81,10 @@ row1-spec =
     Inv-loop
     μ-loop
     loop-holds
-    mul-value1
-    array-copy-out-value1
-    array-read-value1
-    value1-requires
+    mul-product-value1
+    array-copy-out-product-value1
+    array-read-product-value1
+    product-value1-requires
     mul-row
     array-set-from-row
     add-u
