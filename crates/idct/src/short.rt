@@ -128,8 +128,8 @@ fn four_terms(sums: [f64; 4], f: f64, cosines: [f64; 8]) -> [f64; 4]
 }
 
 // The sums of the terms of a row at u = 2k + p.
-fn half_sums(row: &[i32], p: usize, table: &[[f64; 8]; 8]) -> [f64; 4]
-    requires { ⌜ (now table ≡ block cosF) × (p < 2) × (length (now row) ≡ 8) ⌝ }
+fn half_sums(row: &[i32; 8], p: usize, table: &[[f64; 8]; 8]) -> [f64; 4]
+    requires { ⌜ (now table ≡ block cosF) × (p < 2) ⌝ }
     ensures { λ r. ⌜ r ≡ build 4 (halfSum (now (row .entry)) p 4) ⌝ }
 {
     let mut sums = [0.0f64; 4];
@@ -159,8 +159,8 @@ fn both_terms(e: [f64; 4], o: [f64; 4], s: f64) -> [f64; 8]
 
 // Row v transformed by its even and its odd terms, each value times C(v) / 4: the factor of both passes,
 // so that the second one has none.
-fn paired_terms(row: &[i32], v: usize, table: &[[f64; 8]; 8], terms: &mut [f64; 8])
-    requires { ⌜ (now table ≡ block cosF) × (length (now row) ≡ 8) ⌝ }
+fn paired_terms(row: &[i32; 8], v: usize, table: &[[f64; 8]; 8], terms: &mut [f64; 8])
+    requires { ⌜ now table ≡ block cosF ⌝ }
     ensures { λ _. ⌜ now (terms .exit) ≡ build 8 (pairedAt (now (row .entry)) v) ⌝ }
 {
     let e = half_sums(row, 0, table);

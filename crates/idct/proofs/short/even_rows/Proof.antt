@@ -85,7 +85,7 @@ index-1-paired-terms-2 : tie.Need-index-1-paired-terms-2 Inv-loop μ-loop
 index-1-paired-terms-2 c = omega arith
 
 paired-terms-requires : tie.Need-paired-terms-requires Inv-loop μ-loop
-paired-terms-requires c κs = (c .before .before .before .before .before .before .before .before .before .before .pre .0, c .before .paired-terms-arg2 .given .0)
+paired-terms-requires c κs = c .before .before .before .before .before .before .before .before .before .pre .0
 
 mul-which : tie.Need-mul-which Inv-loop μ-loop
 mul-which c = omega arith
@@ -118,7 +118,7 @@ loop-again c =
     let more : every (within lo hi) (getD l v []) ≡ true → (j : ℕ) → j < k + 1 → every (within lo hi) (getD l (2 * j + 0) []) ≡ true = λ e j q. within-at 0 l k v z lo hi e (o .loop .inv .2) j q in (
       omega arith,
       ⊎-elim
-          (λ w. half-kept-same 0 l (k + 1) (c .if1 .terms) _ (c .if1 .which) _ (c .if1 .n) _ (w .7) (w .8) (w .9) (half-kept-at 0 l k v z (o .loop .terms) (o .loop .which) (o .loop .n) _ (w .6 .ensures) (i .loop-test .taken) (omega arith) (o .loop .inv .1)))
+          (λ w. half-kept-same 0 l (k + 1) (c .if1 .terms) _ (c .if1 .which) _ (c .if1 .n) _ (w .6) (w .7) (w .8) (half-kept-at 0 l k v z (o .loop .terms) (o .loop .which) (o .loop .n) _ (w .5 .ensures) (i .loop-test .taken) (omega arith) (o .loop .inv .1)))
           (λ w. half-kept-same 0 l (k + 1) (c .if1 .terms) _ (c .if1 .which) _ (c .if1 .n) _ (w .1) (w .2) (w .3) (half-skip-at 0 l k v z (o .loop .terms) (o .loop .which) (o .loop .n) (is-T _ (sym (t .zero-row .ensures) ∙ not-false _ (w .0 .left))) (o .loop .inv .1)))
           (c .if1 .came),
       ⊎-elim

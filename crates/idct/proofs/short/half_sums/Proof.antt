@@ -37,8 +37,8 @@ c-requires c κs = tt
 mul-f : tie.Need-mul-f Inv-loop μ-loop
 mul-f c = omega arith
 
-shared-slice-copy-out-f : tie.Need-shared-slice-copy-out-f Inv-loop μ-loop
-shared-slice-copy-out-f c = let s = c .before .before .before in omega (arith, s .pre .2)
+element-copy-out-f : tie.Need-element-copy-out-f Inv-loop μ-loop
+element-copy-out-f c = omega arith
 
 int-to-float-f : tie.Need-int-to-float-f Inv-loop μ-loop
 int-to-float-f c = search needs
@@ -88,7 +88,7 @@ half-sums-spec =
     add-u
     c-requires
     mul-f
-    shared-slice-copy-out-f
+    element-copy-out-f
     int-to-float-f
     mul-cosines
     element-copy-out-cosines
