@@ -7,12 +7,10 @@ use Prim.Native.Nat.{ℕ, _≤_, _<_}
 use native.Mathlib.Omega.{arith}
 use lib.IntN.{ℤ, pos, natAbs, _+ℤ_, _-ℤ_}
 use lib.ListN.{getD, length, set, List·getD-eq-default}
-use lib.Seq.{set-getD, take-all}
+use lib.Seq.{set-getD}
 use Rattle.numbers.specs.Grid.{block, build, cell}
-use Rattle.numbers.specs.Sum.{sumZ}
 use Rattle.numbers.proofs.Fill.{cell-block, getD-build, length-build, lt-or-le}
 use Rattle.numbers.proofs.Integers.{add-is, diff-is, zarith}
-use Rattle.numbers.proofs.Lists.{sum-bound}
 use Rattle.coefficients.proofs.BlockLaws.{Square, each-cell, square-block}
 use Rattle.inverse_quant.specs.ByRows.{ValuesRow, firstValue, lastValue, rowBy1, rowBy2, rowsBy1, rowsBy2}
 use Rattle.inverse_quant.specs.Dequantised.{even, fPrime1, fPrime2, intraDc, limitedF, method1, mismatched, sumOf}
@@ -31,7 +29,7 @@ same-cell b v u = ap (λ (r : List ℤ). set b v r) (set-getD (getD b v []) u (p
 
 -- ---- a row
 
--- what is limited is small, and its sum
+-- what is limited is small
 limited-row : (d : ℕ) (rule : ℕ → ℤ) → d ≤ 12 → ValuesRow (build 8 (λ (u : ℕ). limitedF d (rule u)))
 limited-row d rule h u =
     let f : ℕ → ℤ = λ (k : ℕ). limitedF d (rule k) in
@@ -43,14 +41,9 @@ pub values-row1 : (ctx : InverseQuantContext) (w : List ℕ) (row : List ℤ) �
 unfolding rowBy1
 values-row1 ctx w row = limited-row (ctx .«bits_per_pixel») (λ (u : ℕ). method1 (ctx .«macroblock_intra») (getD row u (pos 0)) (getD w u 0) (ctx .«quantiser_scale»))
 
-long-row1 : (ctx : InverseQuantContext) (w : List ℕ) (row : List ℤ) → length (rowBy1 ctx w row) ≡ 8
+pub long-row1 : (ctx : InverseQuantContext) (w : List ℕ) (row : List ℤ) → length (rowBy1 ctx w row) ≡ 8
 unfolding rowBy1
 long-row1 ctx w row = length-build 8 _
-
-pub sum-row1 : (ctx : InverseQuantContext) (w : List ℕ) (row : List ℤ) → ctx .«bits_per_pixel» ≤ 12 → natAbs (sumZ (rowBy1 ctx w row)) ≤ 262144
-sum-row1 ctx w row h =
-    let r = rowBy1 ctx w row in
-    rw (take-all 8 r (omega (arith, long-row1 ctx w row))) at (sum-bound 32768 r (values-row1 ctx w row h) 8)
 
 -- ---- the first value
 

@@ -10,4 +10,5 @@ pub mod FlipLaws
 pub mod AnswerLaws
 pub mod OutcomeLaws
 pub mod ZeroLaws
+pub mod RowSums
 pub mod ByRowsLaws

@@ -3,7 +3,7 @@ use mathlib.Core.Bool.{Bool, cond}
 use mathlib.Core.List.{List, []}
 use Prim.Native.Nat.{ℕ, _≤_}
 use lib.Dec.{eqb}
-use lib.IntN.{ℤ, pos, natAbs}
+use lib.IntN.{ℤ, pos, natAbs, _+ℤ_}
 use lib.ListN.{getD}
 use Rattle.numbers.specs.Grid.{build}
 use Rattle.inverse_quant.specs.declared.context.InverseQuantContext.{InverseQuantContext}
@@ -18,6 +18,17 @@ LevelsRow row = (u : ℕ) → natAbs (getD row u (pos 0)) ≤ 2048
 
 abbrev pub ValuesRow : List ℤ → Type 0
 ValuesRow row = (u : ℕ) → natAbs (getD row u (pos 0)) ≤ 32768
+
+-- sums of seven such rows, and of eight
+abbrev pub SumsRow : List ℤ → Type 0
+SumsRow sums = (u : ℕ) → natAbs (getD sums u (pos 0)) ≤ 229376
+
+abbrev pub SumsAll : List ℤ → Type 0
+SumsAll sums = (u : ℕ) → natAbs (getD sums u (pos 0)) ≤ 262144
+
+-- a row added to sums, value by value
+abbrev pub withRow : List ℤ → List ℤ → List ℤ
+withRow sums row = build 8 (λ (u : ℕ). getD sums u (pos 0) +ℤ getD row u (pos 0))
 
 abbrev pub zeros : List ℤ
 zeros = build 8 (λ (u : ℕ). pos 0)

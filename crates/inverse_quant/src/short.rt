@@ -13,7 +13,7 @@ ghost use Rattle.coefficients.specs.Refusal.{after, firstBad};
 ghost use Rattle.inverse_quant.specs.Dequantised.{dequantised1, dequantised2, limitedF, method1, sumOf};
 ghost use Rattle.inverse_quant.specs.Either.{answerBy, dequantisedBy, dueBy};
 ghost use Rattle.inverse_quant.specs.Stages.{ContextGood};
-ghost use Rattle.inverse_quant.specs.ByRows.{isZero, LevelsRow, ValuesRow, zeros, rowBy1, rowBy2, rowsBy1, rowsBy2, firstValue, lastValue};
+ghost use Rattle.inverse_quant.specs.ByRows.{isZero, LevelsRow, SumsAll, SumsRow, ValuesRow, withRow, zeros, rowBy1, rowBy2, rowsBy1, rowsBy2, firstValue, lastValue};
 use crate::coefficient::dc_value;
 use crate::coefficient::saturate_fprime;
 use crate::coefficient::value1;
@@ -83,30 +83,48 @@ fn row2(levels: [i32; 8], ctx: InverseQuantContext) -> [i32; 8]
     row
 }
 
-// The sum of a row whose values are within 2^15.
-fn sum_of(row: [i32; 8]) -> i32
-    requires { ⌜ ValuesRow row ⌝ }
-    ensures { λ r. ⌜ r ≡ sumZ row ⌝ }
+// A row added to sums, value by value.
+fn added(sums: [i32; 8], row: [i32; 8]) -> [i32; 8]
+    requires { ⌜ SumsRow sums × ValuesRow row ⌝ }
+    ensures { λ r. ⌜ r ≡ withRow sums row ⌝ }
+{
+    let mut out = [0i32; 8];
+    for u in 0..8 {
+        out[u] = sums[u] + row[u];
+    }
+    out
+}
+
+// The sum of sums.
+fn sum_of(sums: [i32; 8]) -> i32
+    requires { ⌜ SumsAll sums ⌝ }
+    ensures { λ r. ⌜ r ≡ sumZ sums ⌝ }
 {
     let mut sum: i32 = 0;
     for u in 0..8 {
-        sum += row[u];
+        sum += sums[u];
     }
     sum
 }
 
-// A row by method 1 into `row`, of zeros, and its sum. Levels that are all zero leave it, since 0 gives 0.
-fn put1(levels: [i32; 8], weights: [u8; 8], ctx: InverseQuantContext, row: &mut [i32; 8]) -> i32
-    requires { ⌜ LevelsRow levels × ContextGood ctx × (now row ≡ zeros) ⌝ }
-    ensures { λ r. ⌜ (now (row .exit) ≡ rowBy1 ctx weights levels) × (r ≡ sumZ (rowBy1 ctx weights levels)) ⌝ }
+// A row by method 1 into `row`, of zeros, and added to the sums. Levels that are all zero leave it, since 0 gives 0.
+fn put1(
+    levels: [i32; 8],
+    weights: [u8; 8],
+    ctx: InverseQuantContext,
+    row: &mut [i32; 8],
+    sums: [i32; 8],
+) -> [i32; 8]
+    requires { ⌜ LevelsRow levels × ContextGood ctx × (now row ≡ zeros) × SumsRow sums ⌝ }
+    ensures { λ r. ⌜ (now (row .exit) ≡ rowBy1 ctx weights levels) × (r ≡ withRow sums (rowBy1 ctx weights levels)) ⌝ }
 {
     if row_zero(levels) {
-        return 0;
+        return sums;
     }
     let values = row1(levels, weights, ctx);
-    let sum = sum_of(values);
+    let more = added(sums, values);
     *row = values;
-    sum
+    more
 }
 
 // A row by method 2 into `row`, of zeros.
@@ -130,13 +148,14 @@ fn fill1(
     requires { ⌜ ContextGood ctx × (length (now qf) ≡ 8) × (blockFine (now qf) ≡ true) × (now f ≡ build 8 (λ (v : ℕ). zeros)) ⌝ }
     ensures { λ r. ⌜ (now (f .exit) ≡ rowsBy1 ctx (now (w .entry)) (now (qf .entry))) × (r ≡ sumOf (rowsBy1 ctx (now (w .entry)) (now (qf .entry)))) ⌝ }
 {
-    let mut sum: i32 = 0;
+    let mut sums = [0i32; 8];
     for v in 0..8 {
         let levels = qf[v];
         let weights = w[v];
-        sum += put1(levels, weights, ctx, &mut f[v]);
+        let more = put1(levels, weights, ctx, &mut f[v], sums);
+        sums = more;
     }
-    sum
+    sum_of(sums)
 }
 
 // Every row by method 2 into `f`, of zeros.

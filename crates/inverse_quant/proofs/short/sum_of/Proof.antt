@@ -1,4 +1,4 @@
--- `inverse_quant::short::sum_of` meets its contract, one value a turn; no part of the sum leaves 8 * 2 ^ 15. Assumes nothing.
+-- `inverse_quant::short::sum_of` meets its contract, one value a turn; no part of the sum leaves 8 * 2 ^ 18. Assumes nothing.
 use mathlib.Core.List.{List}
 use mathlib.Core.Path.{_≡_, refl, ap, sym, _∙_}
 use Prim.Native.Nat.{_-_, _≤_}
@@ -16,10 +16,10 @@ use Rattle.inverse_quant.proofs.short.sum_of.Statement.{statement}
 use Rattle.inverse_quant.proofs.short.sum_of.Tie as tie
 
 abbrev Inv-loop : tie.InvT-loop
-Inv-loop row sum₀ u₀ sum u = (u ≤ 8) × (sum ≡ ofZ w32 (sumZ (take u row)))
+Inv-loop sums sum₀ u₀ sum u = (u ≤ 8) × (sum ≡ ofZ w32 (sumZ (take u sums)))
 
 abbrev μ-loop : tie.MeasureT-loop
-μ-loop row sum₀ u₀ sum u = 8 - u
+μ-loop sums sum₀ u₀ sum u = 8 - u
 
 eight : (s : tie.Start Inv-loop μ-loop) → length (s .args .t1) ≡ 8
 eight s = good-length (eSInt w32) 8 (s .args .t1) _ (s .good .0)
@@ -30,10 +30,10 @@ module _ (a : tie.At-loop Inv-loop μ-loop) where
   row = a .before .args .t1
 
   abbrev so-far : Sx w32
-  so-far = loc (sumZ (take (a .loop .u) row)) 262144 (omega (arith, sum-bound 32768 row (a .before .pre) (a .loop .u)))
+  so-far = loc (sumZ (take (a .loop .u) row)) 2097152 (omega (arith, sum-bound 262144 row (a .before .pre) (a .loop .u)))
 
   abbrev next : Sx w32
-  next = so-far ⊞ loc (getD row (a .loop .u) (pos 0)) 32768 (a .before .pre (a .loop .u))
+  next = so-far ⊞ loc (getD row (a .loop .u) (pos 0)) 262144 (a .before .pre (a .loop .u))
 
 loop-holds : tie.Need-loop-holds Inv-loop μ-loop
 unfolding sumZ
