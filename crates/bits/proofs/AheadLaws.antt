@@ -3,10 +3,10 @@ use mathlib.Core.Bool.{false}
 use mathlib.Core.List.{List, [], _∷_, _++_, append-assoc}
 use mathlib.Core.Path.{_≡_, refl, sym, ap, ap₂, _∙_}
 use Prim.Native.Nat.{ℕ, zero, suc, _+_, _-_, _*_, _/_, _%_, _^_, _<_, _≤_}
-use native.Mathlib.Nat.{add-zero, zero-mul}
+use native.Mathlib.Nat.{add-zero, mul-div-cancel, mul-mod-left, zero-mul}
 use native.Mathlib.Omega.{arith}
 use lib.ListN.{drop, getD, length, length-append, length-drop, length-replicate, replicate, take, take-append-drop}
-use lib.Pow.{low}
+use lib.Pow.{low, mod-pow-add, pow-pos}
 use lib.Seq.{drop-drop, ext-getD, getD-drop, getD-take, length-take-le, take-add, take-all, take-append-le, take-take}
 use Rattle.bits.proofs.BitLaws.{bin-val, length-bitsFrom, val-append, val-lt}
 use Rattle.bits.proofs.CutLaws.{val-field}
@@ -117,3 +117,13 @@ moved-val b skip rest l =
     val-append d (replicate skip false)
     ∙ ap₂ (λ (x y : ℕ). val d * 2 ^ x + y) (length-replicate skip false) (val-zeros skip)
     ∙ add-zero (val d * 2 ^ skip) ∙ ap (λ (x : ℕ). x * 2 ^ skip) (sym low-is)
+
+-- the same as a number of 32 bits shifted
+pub moved-shift : (b : Bits) (skip : ℕ) → length b ≡ 32 → skip ≤ 32 → val b * 2 ^ skip % 4294967296 ≡ val (drop skip b ++ replicate skip false)
+moved-shift b skip l h =
+    let rest : ℕ = 32 - skip in
+    let n : ℕ = val b * 2 ^ skip in
+    let all : rest + skip ≡ 32 = omega arith in
+    ap (λ (x : ℕ). n % 2 ^ x) (sym all) ∙ mod-pow-add n rest skip
+    ∙ ap₂ (λ (x y : ℕ). x % 2 ^ rest * 2 ^ skip + y) (mul-div-cancel (val b) (pow-pos skip)) (mul-mod-left (val b) (2 ^ skip))
+    ∙ add-zero (val b % 2 ^ rest * 2 ^ skip) ∙ sym (moved-val b skip rest (l ∙ (let e : 32 ≡ skip + rest = omega arith in e)))

@@ -2,16 +2,16 @@
 use mathlib.Core.Bool.{Bool, true, false, cond}
 use mathlib.Core.List.{List}
 use mathlib.Core.Logic.{⊎-elim}
-use mathlib.Core.Path.{_≡_, refl, sym, _∙_}
+use mathlib.Core.Path.{_≡_, refl, sym, subst, _∙_}
 use Prim.Native.Nat.{ℕ, _+_, min, _≤_, _<_}
 use native.Mathlib.Omega.{arith}
 use lib.Dec.{ltb}
 use lib.IntN.{ℤ, pos}
-use lib.ListN.{length, getD, drop, List·getD-eq-default}
+use lib.ListN.{length, getD, drop, length-drop, List·getD-eq-default}
 use lib.Seq.{getD-drop}
 use borrow.Author.Tests.{lt-ltb, le-ltb, ltb-true}
 use Rattle.numbers.specs.Every.{every}
-use Rattle.numbers.proofs.Every.{every-in}
+use Rattle.numbers.proofs.Every.{every-get, every-in}
 use Rattle.numbers.proofs.Fill.{lt-or-le, build-eq, getD-build, is-build, length-build}
 use Rattle.ranges.specs.Range.{levelFine}
 use Rattle.coefficients.specs.UpTo.{upTo}
@@ -50,6 +50,17 @@ module _ (end : ℕ) (qfs : List ℤ) where
   up-to-rest i l =
       every-in levelFine (pos 0) (drop i (upTo end qfs))
       (λ (k : ℕ) (h : k < length (drop i (upTo end qfs))). rw (getD-drop, up-to-above (i + k) (omega arith)))
+
+  -- where all but the first place are levels, they are up to any end
+  pub up-to-fine : every levelFine (drop 1 qfs) ≡ true → every levelFine (drop 1 (upTo end qfs)) ≡ true
+  up-to-fine f =
+      every-in levelFine (pos 0) (drop 1 (upTo end qfs))
+      (λ (k : ℕ) (h : k < length (drop 1 (upTo end qfs))).
+      let fine : levelFine (getD qfs (1 + k) (pos 0)) ≡ true = subst (λ (z : ℤ). levelFine z ≡ true) (getD-drop 1 qfs k (pos 0)) (every-get levelFine (pos 0) refl (drop 1 qfs) f k) in
+      rw getD-drop
+      (⊎-elim (λ (l : 1 + k < end). rw (up-to-below (1 + k) (omega (arith, length-drop 1 (upTo end qfs), up-to-length)) l) fine)
+      (λ (l : end ≤ 1 + k). rw (up-to-above (1 + k) l))
+      (lt-or-le (1 + k) end)))
 
 -- an end past the last place
 pub up-to-least : (end : ℕ) (qfs : List ℤ) → upTo (min 64 (min end (length qfs))) qfs ≡ upTo end qfs

@@ -1,7 +1,8 @@
 // A short way to the levels: places are put where the scan has them, up to an end from which on they are 0, and only the DC and the seven predicted levels are limited.
-ghost use mathlib.Core.Bool.{true};
+ghost use mathlib.Core.Bool.{true, _&&_};
 ghost use mathlib.Core.Path.{_≡_};
 ghost use Prim.Native.Nat.{ℕ, _-_, _≤_, _<_};
+ghost use lib.Dec.{eqb};
 ghost use lib.IntN.{natAbs, pos};
 ghost use lib.ListN.{drop, getD, length};
 ghost use Rattle.numbers.specs.Every.{every};
@@ -270,11 +271,29 @@ fn first_place(qfs: &[i32], end: usize) -> i32
     0
 }
 
-// Whether the places 1 .. end hold levels.
+// Whether there are 64 places and all but the first hold levels.
+fn all_fine(qfs: &[i32]) -> bool
+    ensures { λ r. ⌜ r ≡ (eqb (length (now (qfs .entry))) 64 && every levelFine (drop 1 (now (qfs .entry)))) ⌝ }
+{
+    if qfs.len() != 64 {
+        return false;
+    }
+    let mut fine = true;
+    for k in 1..64 {
+        let level = ranges::Level::fine(qfs[k]);
+        fine = fine & level;
+    }
+    fine
+}
+
+// Whether the places 1 .. end hold levels. As a rule all do, and to ask that takes no count of them.
 fn levels_fine(qfs: &[i32], end: usize) -> bool
     requires { ⌜ (end ≤ 64) × (end ≤ length (now qfs)) ⌝ }
     ensures { λ r. ⌜ r ≡ every levelFine (drop 1 (upTo end (now (qfs .entry)))) ⌝ }
 {
+    if all_fine(qfs) {
+        return true;
+    }
     let mut fine = true;
     for k in 1..end {
         let level = ranges::Level::fine(qfs[k]);

@@ -20,10 +20,18 @@ use Rattle.numbers.specs.Grid.{build}
 use Rattle.ranges.specs.Range.{within}
 use Rattle.f64_error.specs.Series.{seriesF, seriesZ}
 use Rattle.idct.specs.Cosines.{cF, cosF}
-use Rattle.idct.specs.EvenOdd.{Half, bothAt, halfSum, pairedAt, quarter, valueOfBoth}
-use Rattle.idct.specs.ShortWays.{isZero, sumOfKept}
+use Rattle.idct.specs.EvenOdd.{Half, bothAt, halfSum, halfTable, pairedAt, quarter, valueOfBoth}
+use Rattle.idct.specs.ShortWays.{cellF, isZero, sumOfKept}
 use Rattle.idct.proofs.EvenOddSums.{sum-ext}
 use Rattle.idct.proofs.Loops.{zero-bits}
+
+-- ---- a table of the cosines below 4: a row of it, and a place
+
+pub half-row : (table : List (List Float)) (u : ℕ) → table ≡ halfTable → u < 8 → getD table u [] ≡ build 4 (cosF u)
+half-row table u e p = ap (λ (t : List (List Float)). getD t u []) e ∙ getD-build 8 (λ (v : ℕ). build 4 (cosF v)) u [] p
+
+pub half-cosine-at : (table : List (List Float)) (u x : ℕ) → table ≡ halfTable → u < 8 → x < 4 → cellF table u x ≡ cosF u x
+half-cosine-at table u x e p q = ap (λ (r : List Float). getD r x nan) (half-row table u e p) ∙ getD-build 4 (cosF u) x nan q
 
 -- ---- the first pass: half of the terms of a row
 
@@ -33,14 +41,14 @@ module _ (row : List ℤ) (p : ℕ) where
   half-none = build-eq 4 (λ (x : ℕ). ofBits binary64 0) (halfSum row p 0) (λ (x : ℕ) (q : x < 4). zero-bits)
 
   pub half-more : (k : ℕ) (sums cosines more : List Float) (c : Float) (z : ℤ) → more ≡ build 4 (λ (x : ℕ). add binary64 (getD sums x nan) (mul binary64 (mul binary64 c (ofInt binary64 z)) (getD cosines x nan))) → sums ≡ build 4 (halfSum row p k)
-      → cosines ≡ build 8 (cosF (2 * k + p)) → c ≡ cF (2 * k + p) → z ≡ getD row (2 * k + p) (pos 0) → more ≡ build 4 (halfSum row p (k + 1))
+      → cosines ≡ build 4 (cosF (2 * k + p)) → c ≡ cF (2 * k + p) → z ≡ getD row (2 * k + p) (pos 0) → more ≡ build 4 (halfSum row p (k + 1))
   unfolding seriesF
   half-more k sums cosines more c z e a b d g =
       e
       ∙ build-eq 4 (λ (x : ℕ). add binary64 (getD sums x nan) (mul binary64 (mul binary64 c (ofInt binary64 z)) (getD cosines x nan))) (halfSum row p (k + 1))
       (λ (x : ℕ) (h : x < 4).
       ap (λ (y : Float). add binary64 y (mul binary64 (mul binary64 c (ofInt binary64 z)) (getD cosines x nan))) (ap (λ (l : List Float). getD l x nan) a ∙ getD-build 4 (halfSum row p k) x nan h)
-      ∙ ap (λ (y : Float). add binary64 (halfSum row p k x) (mul binary64 (mul binary64 c (ofInt binary64 z)) y)) (ap (λ (l : List Float). getD l x nan) b ∙ getD-build 8 (cosF (2 * k + p)) x nan (omega arith))
+      ∙ ap (λ (y : Float). add binary64 (halfSum row p k x) (mul binary64 (mul binary64 c (ofInt binary64 z)) y)) (ap (λ (l : List Float). getD l x nan) b ∙ getD-build 4 (cosF (2 * k + p)) x nan h)
       ∙ ap (λ (y : Float). add binary64 (halfSum row p k x) (mul binary64 (mul binary64 y (ofInt binary64 z)) (cosF (2 * k + p) x))) d
       ∙ ap (λ (y : ℤ). add binary64 (halfSum row p k x) (mul binary64 (mul binary64 (cF (2 * k + p)) (ofInt binary64 y)) (cosF (2 * k + p) x))) g
       ∙ ap (λ (n : ℕ). halfSum row p n x) (sym (add-one k)))

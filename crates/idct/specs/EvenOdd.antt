@@ -16,6 +16,10 @@ use Rattle.idct.specs.ShortWays.{isZero, sumOfKept}
 use Rattle.idct.specs.declared.short.KeptRows.{KeptRows}
 use Rattle.idct.specs.declared.short.KeptRows.the-variants.{Are, OutOfLimits}
 
+-- the cosines at x below 4
+abbrev pub halfTable : List (List Float)
+halfTable = build 8 (λ (u : ℕ). build 4 (cosF u))
+
 -- the sum at x of the first n terms of a row at 2 k + p
 abbrev pub halfSum : List ℤ → ℕ → ℕ → ℕ → Float
 halfSum row p n x = seriesF (λ (k : ℕ). mul binary64 (mul binary64 (cF (2 * k + p)) (ofInt binary64 (getD row (2 * k + p) (pos 0)))) (cosF (2 * k + p) x)) n

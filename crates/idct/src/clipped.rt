@@ -6,7 +6,7 @@ ghost use Rattle.numbers.specs.Outcome.{accepted, checked};
 ghost use Rattle.ranges.specs.Range.{depthFine};
 ghost use Rattle.idct.specs.Clipped.{clipped, dcAndLast, dcBlock};
 ghost use Rattle.idct.specs.Limits.{blockAfter, idctOutcome, inBounds, valuesFine};
-use crate::cosines::cos_table;
+use crate::cosines::half_table;
 use crate::dc::dc_pass;
 use crate::limits::IdctAnswer;
 use crate::rounding::HalfIntegerRounding;
@@ -31,7 +31,7 @@ pub fn idct_8x8_clipped(
         DepthLimits::Are(least, most) => match Depth::saturation_limits(bits_per_pixel) {
             DepthLimits::OutOfRange => IdctAnswer::DepthOutOfRange,
             DepthLimits::Are(_, hi) => {
-                let table = cos_table();
+                let table = half_table();
                 if !transform(&coefficients, &table, hi, rounding, least, most, out) {
                     return IdctAnswer::ValueOutOfLimits;
                 }
@@ -89,7 +89,7 @@ pub fn idct_dc_and_last_clipped(
             }
             match Depth::saturation_limits(bits_per_pixel) {
                 DepthLimits::Are(_, hi) => {
-                    let table = cos_table();
+                    let table = half_table();
                     let mut f = [[0i32; 8]; 8];
                     f[0][0] = dc;
                     f[7][7] = 1;

@@ -2,6 +2,7 @@
 ghost use mathlib.Core.Path.{_≡_};
 ghost use Rattle.numbers.specs.Grid.{block};
 ghost use Rattle.idct.specs.Cosines.{cosF, cF};
+ghost use Rattle.idct.specs.EvenOdd.{halfTable};
 
 // cos(k pi / 16) for k = 0..=7, each the f64 nearest to it.
 const COS_0: f64 = 1.0;
@@ -37,6 +38,25 @@ pub(crate) fn cos_table() -> [[f64; 8]; 8]
     ensures { λ r. ⌜ r ≡ block cosF ⌝ }
 {
     COSINES
+}
+
+// Its first four columns: at 7 - x stand the same cosines but for the sign of the odd rows.
+const HALF_COSINES: [[f64; 4]; 8] = [
+    [COS_0, COS_0, COS_0, COS_0],
+    [COS_1, COS_3, COS_5, COS_7],
+    [COS_2, COS_6, -COS_6, -COS_2],
+    [COS_3, -COS_7, -COS_1, -COS_5],
+    [COS_4, -COS_4, -COS_4, COS_4],
+    [COS_5, -COS_1, COS_7, COS_3],
+    [COS_6, -COS_2, COS_2, -COS_6],
+    [COS_7, -COS_5, COS_3, -COS_1],
+];
+
+// The same as a value.
+pub(crate) fn half_table() -> [[f64; 4]; 8]
+    ensures { λ r. ⌜ r ≡ halfTable ⌝ }
+{
+    HALF_COSINES
 }
 
 // C(k): 1/sqrt 2 at 0, and 1 elsewhere.

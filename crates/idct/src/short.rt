@@ -12,11 +12,12 @@ ghost use Rattle.numbers.specs.Grid.{block, build};
 ghost use Rattle.numbers.specs.Limit.{clampZ};
 ghost use Rattle.ranges.specs.Range.{within};
 ghost use Rattle.idct.specs.Cosines.{cosF};
-ghost use Rattle.idct.specs.EvenOdd.{ToldHalf, bothAt, halfSum, pairedAt, valueOfBoth};
+ghost use Rattle.idct.specs.EvenOdd.{ToldHalf, bothAt, halfSum, halfTable, pairedAt, valueOfBoth};
 ghost use Rattle.idct.specs.Exact.{Modest};
 ghost use Rattle.idct.specs.Rounding.{wholeOf};
 ghost use Rattle.idct.specs.ShortWays.{Castable, Roundable, Sure, Told, greaterF, halfOfKept, isZero, nearF, nearZ, samplesIn, squareF, sumOfKept, wellWithinSquare};
 use crate::cosines::c;
+use crate::cosines::cos_table;
 use crate::limits::row_within;
 use crate::rounding::HalfIntegerRounding;
 use crate::rounding::SHIFT;
@@ -117,7 +118,7 @@ fn minus(a: [f64; 8], b: [f64; 8]) -> [f64; 8]
 }
 
 // A term added at each x below 4: f times the cosine there.
-fn four_terms(sums: [f64; 4], f: f64, cosines: [f64; 8]) -> [f64; 4]
+fn four_terms(sums: [f64; 4], f: f64, cosines: [f64; 4]) -> [f64; 4]
     ensures { λ r. ⌜ r ≡ build 4 (λ (x : ℕ). add binary64 (getD sums x nan) (mul binary64 f (getD cosines x nan))) ⌝ }
 {
     let mut out = [0.0f64; 4];
@@ -128,8 +129,8 @@ fn four_terms(sums: [f64; 4], f: f64, cosines: [f64; 8]) -> [f64; 4]
 }
 
 // The sums of the terms of a row at u = 2k + p.
-fn half_sums(row: &[i32; 8], p: usize, table: &[[f64; 8]; 8]) -> [f64; 4]
-    requires { ⌜ (now table ≡ block cosF) × (p < 2) ⌝ }
+fn half_sums(row: &[i32; 8], p: usize, table: &[[f64; 4]; 8]) -> [f64; 4]
+    requires { ⌜ (now table ≡ halfTable) × (p < 2) ⌝ }
     ensures { λ r. ⌜ r ≡ build 4 (halfSum (now (row .entry)) p 4) ⌝ }
 {
     let mut sums = [0.0f64; 4];
@@ -159,8 +160,8 @@ fn both_terms(e: [f64; 4], o: [f64; 4], s: f64) -> [f64; 8]
 
 // Row v transformed by its even and its odd terms, each value times C(v) / 4: the factor of both passes,
 // so that the second one has none.
-fn paired_terms(row: &[i32; 8], v: usize, table: &[[f64; 8]; 8], terms: &mut [f64; 8])
-    requires { ⌜ now table ≡ block cosF ⌝ }
+fn paired_terms(row: &[i32; 8], v: usize, table: &[[f64; 4]; 8], terms: &mut [f64; 8])
+    requires { ⌜ now table ≡ halfTable ⌝ }
     ensures { λ _. ⌜ now (terms .exit) ≡ build 8 (pairedAt (now (row .entry)) v) ⌝ }
 {
     let e = half_sums(row, 0, table);
@@ -208,13 +209,13 @@ fn kept_rows(
 // The same for the even rows, by their even and odd terms.
 fn even_rows(
     f: &[[i32; 8]; 8],
-    table: &[[f64; 8]; 8],
+    table: &[[f64; 4]; 8],
     least: i32,
     most: i32,
     terms: &mut [[f64; 8]; 4],
     which: &mut [usize; 4],
 ) -> KeptRows
-    requires { ⌜ (now table ≡ block cosF) × (length (now f) ≡ 8) × (length (now terms) ≡ 4) × (length (now which) ≡ 4) × (within least most (pos 0) ≡ true) ⌝ }
+    requires { ⌜ (now table ≡ halfTable) × (length (now f) ≡ 8) × (length (now terms) ≡ 4) × (length (now which) ≡ 4) × (within least most (pos 0) ≡ true) ⌝ }
     ensures { λ r. ⌜ ToldHalf 0 (now (f .entry)) least most (now (terms .exit)) (now (which .exit)) r ⌝ }
 {
     let mut n: usize = 0;
@@ -236,13 +237,13 @@ fn even_rows(
 // The same for the odd rows.
 fn odd_rows(
     f: &[[i32; 8]; 8],
-    table: &[[f64; 8]; 8],
+    table: &[[f64; 4]; 8],
     least: i32,
     most: i32,
     terms: &mut [[f64; 8]; 4],
     which: &mut [usize; 4],
 ) -> KeptRows
-    requires { ⌜ (now table ≡ block cosF) × (length (now f) ≡ 8) × (length (now terms) ≡ 4) × (length (now which) ≡ 4) × (within least most (pos 0) ≡ true) ⌝ }
+    requires { ⌜ (now table ≡ halfTable) × (length (now f) ≡ 8) × (length (now terms) ≡ 4) × (length (now which) ≡ 4) × (within least most (pos 0) ≡ true) ⌝ }
     ensures { λ r. ⌜ ToldHalf 1 (now (f .entry)) least most (now (terms .exit)) (now (which .exit)) r ⌝ }
 {
     let mut n: usize = 0;
@@ -296,10 +297,10 @@ fn sums_of(
     terms: &[[f64; 8]; 4],
     which: &[usize; 4],
     n: usize,
-    table: &[[f64; 8]; 8],
+    table: &[[f64; 4]; 8],
     y: usize,
 ) -> [f64; 8]
-    requires { ⌜ (now table ≡ block cosF) × (n ≤ 4) × (y < 8) × ((j : ℕ) → j < n → getD (now which) j 0 < 8) ⌝ }
+    requires { ⌜ (now table ≡ halfTable) × (n ≤ 4) × (y < 4) × ((j : ℕ) → j < n → getD (now which) j 0 < 8) ⌝ }
     ensures { λ r. ⌜ r ≡ build 8 (sumOfKept (now (terms .entry)) (now (which .entry)) n y) ⌝ }
 {
     let mut sums = [0.0f64; 8];
@@ -328,11 +329,11 @@ fn near_samples(
     odds: &[[f64; 8]; 4],
     odd: &[usize; 4],
     n: usize,
-    table: &[[f64; 8]; 8],
+    table: &[[f64; 4]; 8],
     hi: i32,
     out: &mut [[i32; 8]; 8],
 ) -> bool
-    requires { ⌜ (now table ≡ block cosF) × (m ≤ 4) × (n ≤ 4) × ((j : ℕ) → j < m → getD (now even) j 0 < 8) × ((j : ℕ) → j < n → getD (now odd) j 0 < 8) × ((y x : ℕ) → y < 8 → x < 8 → Roundable (valueOfBoth (now evens) (now even) m (now odds) (now odd) n y x)) ⌝ }
+    requires { ⌜ (now table ≡ halfTable) × (m ≤ 4) × (n ≤ 4) × ((j : ℕ) → j < m → getD (now even) j 0 < 8) × ((j : ℕ) → j < n → getD (now odd) j 0 < 8) × ((y x : ℕ) → y < 8 → x < 8 → Roundable (valueOfBoth (now evens) (now even) m (now odds) (now odd) n y x)) ⌝ }
     ensures { λ r. ⌜ now (out .exit) ≡ block (λ (y x : ℕ). clampZ (nearZ (valueOfBoth (now (evens .entry)) (now (even .entry)) m (now (odds .entry)) (now (odd .entry)) n y x)) (pos 0) hi) ⌝ }
     ensures sure { λ r. ⌜ (r ≡ true → (y x : ℕ) → y < 8 → x < 8 → Sure (valueOfBoth (now (evens .entry)) (now (even .entry)) m (now (odds .entry)) (now (odd .entry)) n y x)) ⌝ }
 {
@@ -380,22 +381,22 @@ fn ruled(
 // Both passes of `f` by the rule, one row after another.
 fn slow(
     f: &[[i32; 8]; 8],
-    table: &[[f64; 8]; 8],
     hi: i32,
     rounding: HalfIntegerRounding,
     least: i32,
     most: i32,
     out: &mut [[i32; 8]; 8],
 ) -> bool
-    requires { ⌜ (now table ≡ block cosF) × (length (now f) ≡ 8) × (within least most (pos 0) ≡ true) × (every (every (within least most)) (now f) ≡ true → Modest (now f)) ⌝ }
+    requires { ⌜ (length (now f) ≡ 8) × (within least most (pos 0) ≡ true) × (every (every (within least most)) (now f) ≡ true → Modest (now f)) ⌝ }
     ensures { λ r. ⌜ (r ≡ every (every (within least most)) (now (f .entry))) × (now (out .exit) ≡ cond r (samplesIn rounding (pos 0) hi (now (f .entry))) (now (out .entry))) ⌝ }
 {
+    let table = cos_table();
     let mut terms = [[0.0f64; 8]; 8];
     let mut which = [0usize; 8];
-    match kept_rows(f, table, least, most, &mut terms, &mut which) {
+    match kept_rows(f, &table, least, most, &mut terms, &mut which) {
         KeptRows::OutOfLimits => false,
         KeptRows::Are(n) => {
-            ruled(&terms, &which, n, table, hi, rounding, out);
+            ruled(&terms, &which, n, &table, hi, rounding, out);
             true
         }
     }
@@ -404,14 +405,14 @@ fn slow(
 // Both passes of `f`, whose samples go into `out`; or false where a value is outside least..=most.
 pub(crate) fn transform(
     f: &[[i32; 8]; 8],
-    table: &[[f64; 8]; 8],
+    table: &[[f64; 4]; 8],
     hi: i32,
     rounding: HalfIntegerRounding,
     least: i32,
     most: i32,
     out: &mut [[i32; 8]; 8],
 ) -> bool
-    requires { ⌜ (now table ≡ block cosF) × (length (now f) ≡ 8) × (within least most (pos 0) ≡ true) × (every (every (within least most)) (now f) ≡ true → Modest (now f)) ⌝ }
+    requires { ⌜ (now table ≡ halfTable) × (length (now f) ≡ 8) × (within least most (pos 0) ≡ true) × (every (every (within least most)) (now f) ≡ true → Modest (now f)) ⌝ }
     ensures { λ r. ⌜ (r ≡ every (every (within least most)) (now (f .entry))) × (now (out .exit) ≡ cond r (samplesIn rounding (pos 0) hi (now (f .entry))) (now (out .entry))) ⌝ }
 {
     let mut evens = [[0.0f64; 8]; 4];
@@ -427,7 +428,7 @@ pub(crate) fn transform(
                     if near_samples(&evens, &even, m, &odds, &odd, n, table, hi, out) {
                         return true;
                     }
-                    slow(f, table, hi, rounding, least, most, out)
+                    slow(f, hi, rounding, least, most, out)
                 }
             }
         }

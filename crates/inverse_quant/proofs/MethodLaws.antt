@@ -7,7 +7,7 @@ use lib.Dec.{eqb}
 use lib.IntN.{ℤ, pos, negsuc, negℤ, natAbs, _+ℤ_, _-ℤ_, _*ℤ_}
 use lib.Signed.{quotZ, _<ℤ_, _≤ℤ_}
 use borrow.Author.Tests.{eqb-true, eqb-false, ne-eqb}
-use Rattle.numbers.proofs.Integers.{le-in, le-ltZ, lt-out, nat, neg, ring, var, _⊕_, _⊗_, _⊝_}
+use Rattle.numbers.proofs.Integers.{dn, le-in, le-ltZ, lt-out, nat, neg, ring, up, var, _⊕_, _⊗_, _⊝_}
 use Rattle.inverse_quant.specs.Dequantised.{method1, method1Intra, method2}
 use Rattle.inverse_quant.specs.Stages.{signum}
 
@@ -76,3 +76,12 @@ method2-is (pos zero) q h =
     ring ((nat 2 ⊗ nat 0 ⊕ nat 0) ⊗ nat q ⊝ nat 0 ⊗ (nat 1 ⊝ nat (q % 2))) (nat 0) (omega arith)
 method2-is (pos (suc n)) q h = rw (not-zero n) (above n q h (eqb (q % 2) 1) refl)
 method2-is (negsuc n) q h = below n q h ∙ rw (above n q h (eqb (q % 2) 1) refl)
+
+-- the product of twice the level and the quantiser, and with the sign the greatest odd number up to the quantiser
+pub method2-odd : (z : ℤ) (q : ℕ) → 1 ≤ q → (z *ℤ pos 2 *ℤ pos q +ℤ signum z *ℤ pos (q - 1 + q % 2)) ≡ method2 z q
+method2-odd z q h =
+    let s = signum z in
+    let e : q - 1 + q % 2 + 1 ≡ q + q % 2 = omega arith in
+    ring (var z ⊗ nat 2 ⊗ nat q ⊕ var s ⊗ nat (q - 1 + q % 2)) ((nat 2 ⊗ var z ⊕ var s) ⊗ nat q ⊝ var s ⊗ (nat 1 ⊝ nat (q % 2)))
+    (omega (arith, ap (λ (t : ℕ). up s * t) e, ap (λ (t : ℕ). dn s * t) e))
+    ∙ method2-is z q h

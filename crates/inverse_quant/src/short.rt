@@ -10,14 +10,13 @@ ghost use Rattle.numbers.specs.Sum.{sumZ};
 ghost use Rattle.coefficients.specs.Level.{blockFine};
 ghost use Rattle.coefficients.specs.Outcomes.{stageOutcome};
 ghost use Rattle.coefficients.specs.Refusal.{after, firstBad};
-ghost use Rattle.inverse_quant.specs.Dequantised.{dequantised1, dequantised2, limitedF, method1, sumOf};
+ghost use Rattle.inverse_quant.specs.Dequantised.{dequantised1, dequantised2, limitedF, method1, method2, sumOf};
 ghost use Rattle.inverse_quant.specs.Either.{answerBy, dequantisedBy, dueBy};
-ghost use Rattle.inverse_quant.specs.Stages.{ContextGood};
+ghost use Rattle.inverse_quant.specs.Stages.{ContextGood, signum};
 ghost use Rattle.inverse_quant.specs.ByRows.{isZero, LevelsRow, SumsAll, SumsRow, ValuesRow, withRow, zeros, rowBy1, rowBy2, rowsBy1, rowsBy2, firstValue, lastValue};
 use crate::coefficient::dc_value;
 use crate::coefficient::saturate_fprime;
 use crate::coefficient::value1;
-use crate::coefficient::value2;
 use crate::context::InverseQuantContext;
 use crate::context::block_fine;
 use crate::context::context_fine;
@@ -59,6 +58,31 @@ fn product_value1(level: i32, weight: u8, ctx: InverseQuantContext) -> i32
     saturate_fprime(f, ctx.bits_per_pixel)
 }
 
+// A small number with the sign of a level, and 0 for a level of 0.
+fn signed_as(level: i32, n: i32) -> i32
+    requires { ⌜ natAbs n ≤ 31 ⌝ }
+    ensures { λ r. ⌜ (r ≡ signum level *ℤ n) × (natAbs r ≤ 31) ⌝ }
+{
+    if level < 0 {
+        return -n;
+    }
+    if level == 0 {
+        return 0;
+    }
+    n
+}
+
+// As `value2`: the product of twice the level and the quantiser, and with the level's sign the greatest odd number up to the quantiser.
+fn product_value2(level: i32, ctx: InverseQuantContext) -> i32
+    requires { ⌜ (natAbs level ≤ 2048) × ContextGood ctx ⌝ }
+    ensures { λ r. ⌜ r ≡ limitedF (ctx .«bits_per_pixel») (method2 level (ctx .«quantiser_scale»)) ⌝ }
+{
+    let q = ctx.quantiser_scale;
+    let odd = (q - 1 + q % 2) as i32;
+    let f = product(level, 2, q) + signed_as(level, odd);
+    saturate_fprime(f, ctx.bits_per_pixel)
+}
+
 // A row of levels by method 1, limited.
 fn row1(levels: [i32; 8], weights: [u8; 8], ctx: InverseQuantContext) -> [i32; 8]
     requires { ⌜ LevelsRow levels × ContextGood ctx ⌝ }
@@ -78,7 +102,7 @@ fn row2(levels: [i32; 8], ctx: InverseQuantContext) -> [i32; 8]
 {
     let mut row = [0i32; 8];
     for u in 0..8 {
-        row[u] = value2(levels[u], ctx);
+        row[u] = product_value2(levels[u], ctx);
     }
     row
 }

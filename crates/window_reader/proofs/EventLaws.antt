@@ -3,7 +3,7 @@ use mathlib.Core.Bool.{Bool, cond}
 use mathlib.Core.List.{List, _++_, append-assoc}
 use mathlib.Core.Path.{_≡_, sym, ap, ap₂, subst, _∙_}
 use Prim.Native.Nat.{ℕ, _+_, _*_, _/_, _%_, _≤_}
-use native.Mathlib.Nat.{add-zero, mod-lt}
+use native.Mathlib.Nat.{mod-lt}
 use native.Mathlib.Omega.{arith}
 use lib.Dec.{eqb, leb}
 use lib.IntN.{ℤ}
@@ -31,15 +31,15 @@ event-is e f g = λ j. record { last = e j; run = f j; level = g j }
 module _ (d : List ℕ) (at : ℕ) where
   -- ---- a row and its sign
 
-  pub plain-told : (r : RowAt) → RowTold d at 0 r → (v : EventAt)
-      → v .next ≡ r .next → v .last ≡ eqb (r .last) 1 → v .run ≡ r .run → v .level ≡ signedBy (r .sign) (r .size) → EventTold d at v
+  pub plain-told : (skip : ℕ) (r : RowAt) → RowTold d at skip r → (v : EventAt)
+      → v .next ≡ r .next → v .last ≡ eqb (r .last) 1 → v .run ≡ r .run → v .level ≡ signedBy (r .sign) (r .size) → EventTold d (at + skip) v
   unfolding GoodEvent eventBits lastNumber runOf levelOf
-  plain-told r t v e₁ e₂ e₃ e₄ =
+  plain-told skip r t v e₁ e₂ e₃ e₄ =
       record {
         event = plain (t .row) (r .sign);
         good = (t .below, t .sign-lt);
         bits =
-            ap (bitsFrom d) (sym (add-zero at)) ∙ t .bits ∙ sym (append-assoc (vlcBits (t .row)) (bin 1 (r .sign)) (bitsFrom d (r .next)))
+            t .bits ∙ sym (append-assoc (vlcBits (t .row)) (bin 1 (r .sign)) (bitsFrom d (r .next)))
             ∙ ap (λ (n : ℕ). (vlcBits (t .row) ▸ bin 1 (r .sign)) ▸ bitsFrom d n) (sym e₁);
         inside = subst (λ (n : ℕ). n ≤ 8 * length d) (sym e₁) (t .inside);
         says = event-is (sym (e₂ ∙ ap (λ (n : ℕ). eqb n 1) (t .last-is))) (sym (e₃ ∙ t .run-is)) (sym (e₄ ∙ ap (signedBy (r .sign)) (t .size-is)));

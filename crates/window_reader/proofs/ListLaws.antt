@@ -4,11 +4,11 @@ use mathlib.Core.List.{List}
 use mathlib.Core.Path.{_≡_, refl, sym, ap, ap₂, subst, subst₂, _∙_}
 use Prim.Native.Nat.{ℕ, _+_, _-_, _*_, _≤_, _<_}
 use native.Mathlib.Omega.{arith}
-use lib.Dec.{eqb, leb}
+use lib.Dec.{eqb, leb, ltb}
 use lib.IntN.{ℤ, natAbs, negℤ, pos, _-ℤ_}
 use lib.ListN.{getD, getD-replicate, length, length-set, set}
 use lib.Seq.{getD-set-other, getD-set-same}
-use borrow.Author.Tests.{leb-true, lt-ltb}
+use borrow.Author.Tests.{leb-true, lt-ltb, ltb-true}
 use Rattle.numbers.proofs.Integers.{diff-is, halves}
 use Rattle.numbers.proofs.Magnitudes.{abs-neg}
 use Rattle.bits.proofs.BitLaws.{length-bitsFrom}
@@ -142,3 +142,30 @@ module _ (d : List ℕ) (start at place : ℕ) (qfs : List ℤ) (s : Stands d st
         ends = sym (end-last (set qfs (place + r .run) (r .level)) (place + r .run) low
             (λ q. let z : natAbs (r .level) ≡ 0 = ap natAbs (sym (getD-set-same qfs (place + r .run) (r .level) (pos 0) (omega (arith, s .long))) ∙ q) in omega (arith, t .level-pos)) after-zero);
       }
+
+-- ---- one turn of the code
+
+-- an event that was put at a place and did not end the list, or did
+module _ (d : List ℕ) (start at place : ℕ) (qfs : List ℤ) (s : Stands d start at place qfs) (r : EventAt) (t : Turn d at r) (after : ℕ) (qfs′ : List ℤ)
+    (is : after ≡ cond (ltb (place + r .run) 64) (place + r .run + 1) 0)
+    (are : qfs′ ≡ cond (ltb (place + r .run) 64) (set qfs (place + r .run) (r .level)) qfs) (some : after ≡ 0 → ⊥) where
+  low : place + r .run < 64
+  low = go (ltb (place + r .run) 64) refl is
+    where
+      go : (b : Bool) → ltb (place + r .run) 64 ≡ b → after ≡ cond b (place + r .run + 1) 0 → place + r .run < 64
+      go true e q = ltb-true (place + r .run) 64 e
+      go false e q = absurd (some q)
+
+  after-is : after ≡ place + r .run + 1
+  after-is = is ∙ ap (λ (b : Bool). cond b (place + r .run + 1) 0) (lt-ltb (place + r .run) 64 low)
+
+  places-are : qfs′ ≡ set qfs (place + r .run) (r .level)
+  places-are = are ∙ ap (λ (b : Bool). cond b (set qfs (place + r .run) (r .level)) qfs) (lt-ltb (place + r .run) 64 low)
+
+  pub put-on : r .last ≡ false → Stands d start (r .next) after qfs′
+  put-on l = subst₂ (Stands d start (r .next)) (sym after-is) (sym places-are) (stands-on d start at place qfs s r t low l)
+
+  pub put-last : r .last ≡ true → ListTold d start (record { next = r .next; end = after }) qfs′
+  put-last l =
+      subst₂ (λ (n : ℕ) (xs : List ℤ). ListTold d start (record { next = r .next; end = n }) xs) (sym after-is) (sym places-are)
+      (stands-last d start at place qfs s r t low l)

@@ -46,7 +46,7 @@ begins-after d at skip n h l =
     ∙ ap (drop skip) (append-assoc (take skip w) (take n (drop skip w)) (bitsFrom d (at + (skip + n))))
     ∙ drop-at (take skip w) (take n (drop skip w) ++ bitsFrom d (at + (skip + n))) skip t-len
 
-module _ (d : List ℕ) (at skip : ℕ) (h : skip ≤ 9) where
+module _ (d : List ℕ) (at skip : ℕ) (h : skip ≤ 19) where
   abbrev m : Bits
   m = moved d at skip
 
@@ -56,7 +56,7 @@ module _ (d : List ℕ) (at skip : ℕ) (h : skip ≤ 9) where
       ∙ (let e : length (drop skip (window d at)) + length (replicate skip false) ≡ 32 = omega (arith, length-drop skip (window d at), window-length d at, length-replicate skip false) in e)
 
   -- what is at the front of the moved window stands in the window
-  moved-front : (n : ℕ) → n ≤ 23 → take n m ≡ take n (drop skip (window d at))
+  moved-front : (n : ℕ) → n ≤ 13 → take n m ≡ take n (drop skip (window d at))
   moved-front n l = take-append-le n (drop skip (window d at)) (replicate skip false) (omega (arith, length-drop skip (window d at), window-length d at))
 
   -- a row and its sign

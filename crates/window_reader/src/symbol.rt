@@ -1,7 +1,7 @@
 // A DC part and a plain event by one window each. A next position 0 says nothing.
 ghost use mathlib.Core.Bool.{cond};
 ghost use mathlib.Core.Path.{_≡_};
-ghost use Prim.Native.Nat.{_*_, _/_, _%_, _<_, _≤_, _^_};
+ghost use Prim.Native.Nat.{_+_, _*_, _/_, _%_, _<_, _≤_, _^_};
 ghost use lib.Dec.{leb};
 ghost use lib.ListN.{length};
 ghost use Rattle.bits.specs.Ahead.{aheadOf};
@@ -108,7 +108,7 @@ fn two_s_complement(raw: u32) -> i32
 
 // The code and sign that stand `skip` bits after a position; w is its window moved on by these.
 fn row_at(data: &[u8], short: &[u16], long: &[u16], at: usize, w: u32, skip: u32) -> RowAt
-    requires { ⌜ Readable (now «data») at × Tables (now short) (now long) × (skip ≤ 9) × (w ≡ val (moved (now «data») at skip)) ⌝ }
+    requires { ⌜ Readable (now «data») at × Tables (now short) (now long) × (skip ≤ 19) × (w ≡ val (moved (now «data») at skip)) ⌝ }
     ensures { λ r. ⌜ RowSettled (now («data» .entry)) at skip r ⌝ }
 {
     let e = codes::tcoef_plain(short, long, w);
@@ -219,15 +219,14 @@ fn escape_at(data: &[u8], short: &[u16], long: &[u16], at: usize, w: u32) -> Eve
     type3_at(data, at, w)
 }
 
-// The event at a position.
-pub(crate) fn event_at(data: &[u8], short: &[u16], long: &[u16], at: usize) -> EventAt
-    requires { ⌜ Readable (now «data») at × Tables (now short) (now long) ⌝ }
-    ensures { λ r. ⌜ EventSettled (now («data» .entry)) at r ⌝ }
+// The plain event that stands `skip` bits after a position; w is its window moved on by these.
+fn plain_at(data: &[u8], short: &[u16], long: &[u16], at: usize, w: u32, skip: u32) -> EventAt
+    requires { ⌜ Readable (now «data») at × Tables (now short) (now long) × (skip ≤ 19) × (w ≡ val (moved (now «data») at skip)) ⌝ }
+    ensures { λ r. ⌜ EventSettled (now («data» .entry)) (at + skip) r ⌝ }
 {
-    let w = bits::ahead(data, at);
-    let one = row_at(data, short, long, at, w, 0);
+    let one = row_at(data, short, long, at, w, skip);
     if one.next == 0 {
-        return escape_at(data, short, long, at, w);
+        return unsettled();
     }
     EventAt {
         next: one.next,
@@ -235,4 +234,36 @@ pub(crate) fn event_at(data: &[u8], short: &[u16], long: &[u16], at: usize) -> E
         run: one.run,
         level: with_sign(one.sign, one.size),
     }
+}
+
+// The event at a position, by its window.
+pub(crate) fn event_at(data: &[u8], short: &[u16], long: &[u16], at: usize, w: u32) -> EventAt
+    requires { ⌜ Readable (now «data») at × Tables (now short) (now long) × (w ≡ aheadOf (now «data») at) ⌝ }
+    ensures { λ r. ⌜ EventSettled (now («data» .entry)) at r ⌝ }
+{
+    let one = plain_at(data, short, long, at, w, 0);
+    if one.next == 0 {
+        return escape_at(data, short, long, at, w);
+    }
+    one
+}
+
+// The plain event at `next`, by the window of a position before it, where that has 13 bits for it.
+pub(crate) fn second_at(
+    data: &[u8],
+    short: &[u16],
+    long: &[u16],
+    at: usize,
+    w: u32,
+    next: usize,
+) -> EventAt
+    requires { ⌜ Readable (now «data») at × Tables (now short) (now long) × (w ≡ aheadOf (now «data») at) × (at ≤ next) ⌝ }
+    ensures { λ r. ⌜ EventSettled (now («data» .entry)) next r ⌝ }
+{
+    let used = next - at;
+    if 19 < used {
+        return unsettled();
+    }
+    let skip = used as u32;
+    plain_at(data, short, long, at, w << skip, skip)
 }

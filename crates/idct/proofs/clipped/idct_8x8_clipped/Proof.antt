@@ -52,8 +52,8 @@ enum-told-2 c = search needs
 enum-known-hi : tie.Need-enum-known-hi
 enum-known-hi c = search needs
 
-cos-table-requires : tie.Need-cos-table-requires
-cos-table-requires c κs = search needs
+half-table-requires : tie.Need-half-table-requires
+half-table-requires c κs = search needs
 
 transform-requires : tie.Need-transform-requires
 transform-requires c κs =
@@ -61,7 +61,7 @@ transform-requires c κs =
     let s = t .before .before .before .before in
     let d = s .args .bits-per-pixel in
     let l = limits t in
-    (c .before .before .before .cos-table .ensures, omega arith, zero-taken d _ _ (l .1) (l .2), modest-taken d _ _ (l .1) (l .2) (l .0) (s .args .t1))
+    (c .before .before .before .half-table .ensures, omega arith, zero-taken d _ _ (l .1) (l .2), modest-taken d _ _ (l .1) (l .2) (l .0) (s .args .t1))
 
 returns : tie.Need-returns
 returns c =
@@ -112,7 +112,7 @@ idct-8x8-clipped-spec =
     saturation-limits-requires
     enum-told-2
     enum-known-hi
-    cos-table-requires
+    half-table-requires
     transform-requires
     returns
     returns-2

@@ -68,8 +68,8 @@ saturation-limits-requires c κs = search needs
 enum-known-hi : tie.Need-enum-known-hi
 enum-known-hi c = search needs
 
-cos-table-requires : tie.Need-cos-table-requires
-cos-table-requires c κs = search needs
+half-table-requires : tie.Need-half-table-requires
+half-table-requires c κs = search needs
 
 index-1-dc : tie.Need-index-1-dc
 index-1-dc c = search needs
@@ -90,7 +90,7 @@ transform-requires c κs =
     let s = t .before .before .before .before in
     let d = s .args .bits-per-pixel in
     let l = limits t in
-    (c .before .before .before .cos-table .ensures, refl, zero-taken d _ _ (l .1) (l .2), modest-taken d _ _ (l .1) (l .2) (l .0) (stored (toZ w32 (ofZ w32 (s .args .dc)))))
+    (c .before .before .before .half-table .ensures, refl, zero-taken d _ _ (l .1) (l .2), modest-taken d _ _ (l .1) (l .2) (l .0) (stored (toZ w32 (ofZ w32 (s .args .dc)))))
 
 enum-told-2 : tie.Need-enum-told-2
 enum-told-2 c = search needs
@@ -136,7 +136,7 @@ idct-dc-and-last-clipped-spec =
     returns
     saturation-limits-requires
     enum-known-hi
-    cos-table-requires
+    half-table-requires
     index-1-dc
     index-2-dc
     index-1-f

@@ -1,17 +1,12 @@
 -- `idct::short::half_sums` meets its contract: one term a turn, at every x. Assumes nothing.
-use mathlib.Core.List.{List, []}
 use mathlib.Core.Path.{_≡_, ap, _∙_}
 use Prim.Native.Nat.{ℕ, _+_, _-_, _*_, _≤_, _<_}
 use native.Mathlib.Omega.{arith}
 use denote.Ref.{now}
-use lib.Ieee.{Float}
-use lib.ListN.{getD}
 use borrow.Author.Needs.{needs}
-use Rattle.numbers.proofs.Fill.{getD-build}
 use Rattle.numbers.specs.Grid.{build}
-use Rattle.idct.specs.Cosines.{cosF}
 use Rattle.idct.specs.EvenOdd.{halfSum}
-use Rattle.idct.proofs.EvenOddLaws.{half-more, half-none}
+use Rattle.idct.proofs.EvenOddLaws.{half-more, half-none, half-row}
 use Rattle.idct.proofs.short.half_sums.Statement.{statement}
 use Rattle.idct.proofs.short.half_sums.Tie as tie
 
@@ -67,8 +62,7 @@ loop-again c =
     let k = o .loop .k in
     let u : ℕ = 2 * k + a .p in
     let l : u < 8 = omega (arith, i .loop-test .taken, s .pre .1) in
-    let row = ap (λ (t : List (List Float)). getD t u []) (s .pre .0) ∙ getD-build 8 (λ (v : ℕ). build 8 (cosF v)) u [] l in
-    (omega arith, half-more (now (a .row)) (a .p) k (o .loop .sums) _ (c .four-terms .result) _ _ (c .four-terms .ensures) (o .loop .inv .1) row (c .before .before .before .before .c .ensures) (let h = c .before .before .row-known .given in let g = c .before .before .before .f .given in search needs))
+    (omega arith, half-more (now (a .row)) (a .p) k (o .loop .sums) _ (c .four-terms .result) _ _ (c .four-terms .ensures) (o .loop .inv .1) (half-row (now (a .table)) u (s .pre .0) l) (c .before .before .before .before .c .ensures) (let h = c .before .before .row-known .given in let g = c .before .before .before .f .given in search needs))
 
 returns : tie.Need-returns Inv-loop μ-loop
 returns c =

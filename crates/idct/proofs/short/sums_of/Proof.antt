@@ -5,7 +5,8 @@ use native.Mathlib.Omega.{arith}
 use lib.ListN.{getD}
 use Rattle.numbers.specs.Grid.{build}
 use Rattle.idct.specs.ShortWays.{sumOfKept}
-use Rattle.idct.proofs.KeptLaws.{cosine-at, sums-none, sums-one-more}
+use Rattle.idct.proofs.EvenOddLaws.{half-cosine-at}
+use Rattle.idct.proofs.KeptLaws.{sums-none, sums-one-more}
 use Rattle.idct.proofs.short.sums_of.Statement.{statement}
 use Rattle.idct.proofs.short.sums_of.Tie as tie
 
@@ -65,7 +66,7 @@ loop-again c =
     let s = o .before in
     let a = s .args in
     let v = getD (a .which .now) (o .loop .j) 0 in
-    (omega arith, sums-one-more (a .terms .now) (a .which .now) (o .loop .j) (a .y) (o .loop .sums) (c .add-row .result) _ (o .loop .inv .1) (cosine-at (a .table .now) v (a .y) (s .pre .0) (place i) (s .pre .2)) (c .add-row .ensures))
+    (omega arith, sums-one-more (a .terms .now) (a .which .now) (o .loop .j) (a .y) (o .loop .sums) (c .add-row .result) _ (o .loop .inv .1) (half-cosine-at (a .table .now) v (a .y) (s .pre .0) (place i) (s .pre .2)) (c .add-row .ensures))
 
 returns : tie.Need-returns Inv-loop μ-loop
 returns c =

@@ -33,14 +33,14 @@ loop-holds : tie.Need-loop-holds Inv-loop μ-loop
 unfolding build
 loop-holds c = (omega arith, cells-none 8 _ (λ (k : ℕ). pos 0) _ refl)
 
-mul-value2 : tie.Need-mul-value2 Inv-loop μ-loop
-mul-value2 c = omega arith
+mul-product-value2 : tie.Need-mul-product-value2 Inv-loop μ-loop
+mul-product-value2 c = omega arith
 
-array-copy-out-value2 : tie.Need-array-copy-out-value2 Inv-loop μ-loop
-array-copy-out-value2 c = omega arith
+array-copy-out-product-value2 : tie.Need-array-copy-out-product-value2 Inv-loop μ-loop
+array-copy-out-product-value2 c = omega arith
 
-value2-requires : tie.Need-value2-requires Inv-loop μ-loop
-value2-requires c κs =
+product-value2-requires : tie.Need-product-value2-requires Inv-loop μ-loop
+product-value2-requires c κs =
     let a = c .before .before in
     (rw (level a) (a .before .pre .0 (a .loop .u)), a .before .pre .1)
 
@@ -63,7 +63,7 @@ loop-again c =
     let s = a .before in (
       omega arith,
       cells-more 8 _ _ (pos 0) _ _ _ (i .loop-test .taken) (a .loop .inv .1)
-          (held (c .value2 .result) (c .value2 .ok) ∙ c .value2 .ensures ∙ ap (rule (s .args .ctx)) (level a)),
+          (held (c .product-value2 .result) (c .product-value2 .ok) ∙ c .product-value2 .ensures ∙ ap (rule (s .args .ctx)) (level a)),
     )
 
 returns : tie.Need-returns Inv-loop μ-loop
@@ -77,9 +77,9 @@ row2-spec =
     Inv-loop
     μ-loop
     loop-holds
-    mul-value2
-    array-copy-out-value2
-    value2-requires
+    mul-product-value2
+    array-copy-out-product-value2
+    product-value2-requires
     mul-row
     array-set-from-row
     add-u

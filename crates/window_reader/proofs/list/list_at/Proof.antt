@@ -1,16 +1,10 @@
 -- `window_reader::list::list_at` meets its contract: what is left to answer stays the same after each event, and each takes bits. Assumes nothing.
-use mathlib.Core.Path.{_≡_, refl, subst, sym}
-use Prim.Native.Nat.{_+_, _*_, _-_, _≤_}
+use mathlib.Core.Path.{refl}
+use Prim.Native.Nat.{_*_, _-_}
 use native.Mathlib.Omega.{arith}
 use denote.Ref.{now}
-use lib.IntN.{ℤ, natAbs}
-use lib.ListN.{length, set}
-use mir.Facts.{toZ-ofZ}
-use mir.Syntax.{w32}
-use mir.Val.{ofZ, toZ}
-use Rattle.numbers.proofs.Words.{fits-mag}
-use Rattle.window_reader.proofs.ListLaws.{Stands, Turn, stands-first, stands-last, stands-on, turn}
-use Rattle.window_reader.specs.Told.{ListTold}
+use lib.ListN.{length}
+use Rattle.window_reader.proofs.ListLaws.{Stands, Turn, put-last, put-on, stands-first, turn}
 use Rattle.window_reader.proofs.list.list_at.Statement.{statement}
 use Rattle.window_reader.proofs.list.list_at.Tie as tie
 
@@ -21,67 +15,116 @@ abbrev μ-loop : tie.MeasureT-loop
 μ-loop «data» short long start places₀ at₀ place₀ places at place = 8 * length «data» - at
 
 -- the turn at an event that was told
-here : (k : tie.Else1 Inv-loop μ-loop) → let l = k .before .before .before .loop in
-    Turn (now (k .before .before .before .before .before .before .before .args .«data»)) (l .at) (k .before .before .event-at .result)
+here : (k : tie.Else1 Inv-loop μ-loop) → let l = k .before .before .before .before in
+    Turn (now (l .before .before .before .before .args .«data»)) (l .loop .at) (k .before .before .event-at .result)
 here k =
-    let l = k .before .before .before .loop in
-    let a = k .before .before .before .before .before .before .before .args in
-    turn (now (a .«data»)) (l .at) (k .before .before .event-at .result) (k .before .before .event-at .ensures (k .if1 .left))
+    let l = k .before .before .before .before in
+    turn (now (l .before .before .before .before .args .«data»)) (l .loop .at) (k .before .before .event-at .result) (k .before .before .event-at .ensures (k .if1 .left))
 
-level-back : (z : ℤ) → natAbs z ≤ 2047 → toZ w32 (ofZ w32 z) ≡ z
-level-back z h = toZ-ofZ (fits-mag 2047 tt z h)
+-- where the list stands after it
+on : (c : tie.Else3 Inv-loop μ-loop) → let p = c .before .before in let k = p .before .before in
+    let a = k .before .before .before .before .before .before .before .before .args in
+    Stands (now (a .«data»)) (a .start) (k .before .before .event-at .result .next) (p .put-at .result) (p .put-at .last .1 .1 .0)
+on c =
+    let p = c .before .before in
+    let k = p .before .before in
+    let l = k .before .before .before .before in
+    let a = l .before .before .before .before .args in
+    put-on (now (a .«data»)) (a .start) (l .loop .at) (l .loop .place) (l .loop .places) (l .loop .inv) (k .before .before .event-at .result) (here k) _ _
+    (p .put-at .ensures .0) (p .put-at .ensures .1) (c .before .if2 .left) (c .if3 .left)
+
+-- the turn at a second event
+there : (k : tie.Else4 Inv-loop μ-loop) → let e = k .before .before .before .before .before .before .before .before .before in
+    Turn (now (e .before .before .before .before .before .before .args .«data»)) (e .event-at .result .next) (k .before .before .second-at .result)
+there k =
+    let e = k .before .before .before .before .before .before .before .before .before in
+    turn (now (e .before .before .before .before .before .before .args .«data»)) (e .event-at .result .next) (k .before .before .second-at .result)
+    (k .before .before .second-at .ensures (k .if4 .left))
 
 loop-holds : tie.Need-loop-holds Inv-loop μ-loop
 loop-holds c = let s = c .before .before .before in stands-first (now (s .args .«data»)) (s .args .start) (now (s .args .places)) (s .pre .0 .0) (s .pre .2)
 
+ahead-requires : tie.Need-ahead-requires Inv-loop μ-loop
+ahead-requires c κs = tt
+
 event-at-requires : tie.Need-event-at-requires Inv-loop μ-loop
-event-at-requires c κs = let p = c .before .before .before .before .pre in ((c .loop .inv .inside, p .0 .1), p .1)
+event-at-requires c κs =
+    let l = c .before in
+    let p = l .before .before .before .before .pre in
+    ((l .loop .inv .inside, p .0 .1), p .1, c .ahead .ensures)
 
 returns : tie.Need-returns Inv-loop μ-loop
 returns c = λ z. absurd (z refl)
 
-cast-land : tie.Need-cast-land Inv-loop μ-loop
-cast-land c = let h = here (c .before) .run-le in omega arith
-
-add-land : tie.Need-add-land Inv-loop μ-loop
-add-land c = let h = here (c .before) .run-le in let l = c .before .before .before .before .loop .inv .place-le in omega arith
+put-at-requires : tie.Need-put-at-requires Inv-loop μ-loop
+put-at-requires c κs =
+    let k = c .before in
+    let s = k .before .before .before .before .loop .inv in
+    let t = here k in
+    (s .place-le, t .run-le, t .level-le, s .long)
 
 returns-2 : tie.Need-returns-2 Inv-loop μ-loop
 returns-2 c = λ z. absurd (z refl)
 
-mul-level : tie.Need-mul-level Inv-loop μ-loop
-mul-level c = let h = c .before .if2 .left in omega arith
-
-element-set-from-level : tie.Need-element-set-from-level Inv-loop μ-loop
-element-set-from-level c = let h = c .before .if2 .left in omega arith
-
-add-place : tie.Need-add-place Inv-loop μ-loop
-add-place c = let h = c .before .if2 .left in omega arith
-
 returns-3 : tie.Need-returns-3 Inv-loop μ-loop
 returns-3 c = λ z.
+    let p = c .before .before in
+    let k = p .before .before in
+    let l = k .before .before .before .before in
+    let a = l .before .before .before .before .args in
+    put-last (now (a .«data»)) (a .start) (l .loop .at) (l .loop .place) (l .loop .places) (l .loop .inv) (k .before .before .event-at .result) (here k) _ _
+    (p .put-at .ensures .0) (p .put-at .ensures .1) (c .before .if2 .left) (c .if3 .taken)
+
+second-at-requires : tie.Need-second-at-requires Inv-loop μ-loop
+second-at-requires c κs =
     let k = c .before .before .before .before in
-    let l = k .before .before .before .loop in
-    let a = k .before .before .before .before .before .before .before .args in
-    let d = now (a .«data») in
-    let r = k .before .before .event-at .result in
-    let t = here k in
-    subst (λ (x : ℤ). ListTold d (a .start) (record { next = r .next; end = l .place + r .run + 1 }) (set (l .places) (l .place + r .run) x))
-    (sym (level-back (r .level) (t .level-le))) (stands-last d (a .start) (l .at) (l .place) (l .places) (l .inv) r t (c .before .before .if2 .left) (c .if3 .taken))
+    let l = k .before .before .before .before in
+    let p = l .before .before .before .before .pre in
+    let t = here k .less in
+    ((l .loop .inv .inside, p .0 .1), p .1, k .before .before .before .ahead .ensures, omega (arith, t))
 
 loop-less : tie.Need-loop-less Inv-loop μ-loop
-loop-less c = here (c .before .before .before .before) .less
+loop-less c = here (c .before .before .before .before .before .before .before) .less
 
 loop-again : tie.Need-loop-again Inv-loop μ-loop
-loop-again c =
+loop-again c = on (c .before .before .before)
+
+put-at-requires-2 : tie.Need-put-at-requires-2 Inv-loop μ-loop
+put-at-requires-2 c κs =
+    let k = c .before in
+    let s = on (k .before .before .before) in
+    let t = there k in
+    (s .place-le, t .run-le, t .level-le, s .long)
+
+returns-4 : tie.Need-returns-4 Inv-loop μ-loop
+returns-4 c = λ z. absurd (z refl)
+
+returns-5 : tie.Need-returns-5 Inv-loop μ-loop
+returns-5 c = λ z.
+    let p = c .before .before in
+    let k = p .before .before in
+    let f = k .before .before .before in
+    let m = f .before .before in
+    let a = m .before .before .before .before .before .before .before .before .before .before .args in
+    put-last (now (a .«data»)) (a .start) (m .before .before .before .before .event-at .result .next) (m .put-at .result) _ (on f) (k .before .before .second-at .result) (there k) _ _
+    (p .put-at2 .ensures .0) (p .put-at2 .ensures .1) (c .before .if5 .left) (c .if6 .taken)
+
+loop-less-2 : tie.Need-loop-less-2 Inv-loop μ-loop
+loop-less-2 c =
     let k = c .before .before .before .before in
-    let l = k .before .before .before .loop in
-    let a = k .before .before .before .before .before .before .before .args in
-    let d = now (a .«data») in
-    let r = k .before .before .event-at .result in
-    let t = here k in
-    subst (λ (x : ℤ). Stands d (a .start) (r .next) (l .place + r .run + 1) (set (l .places) (l .place + r .run) x))
-    (sym (level-back (r .level) (t .level-le))) (stands-on d (a .start) (l .at) (l .place) (l .places) (l .inv) r t (c .before .before .if2 .left) (c .if3 .left))
+    let t = there k .less in
+    let u = here (k .before .before .before .before .before .before .before) .less in
+    omega (arith, t, u)
+
+loop-again-2 : tie.Need-loop-again-2 Inv-loop μ-loop
+loop-again-2 c =
+    let p = c .before .before in
+    let k = p .before .before in
+    let f = k .before .before .before in
+    let m = f .before .before in
+    let a = m .before .before .before .before .before .before .before .before .before .before .args in
+    put-on (now (a .«data»)) (a .start) (m .before .before .before .before .event-at .result .next) (m .put-at .result) _ (on f) (k .before .before .second-at .result) (there k) _ _
+    (p .put-at2 .ensures .0) (p .put-at2 .ensures .1) (c .before .if5 .left) (c .if6 .left)
 
 pub list-at-spec : {M : Type 1} → statement M
 list-at-spec =
@@ -90,14 +133,17 @@ list-at-spec =
     Inv-loop
     μ-loop
     loop-holds
+    ahead-requires
     event-at-requires
     returns
-    cast-land
-    add-land
+    put-at-requires
     returns-2
-    mul-level
-    element-set-from-level
-    add-place
     returns-3
+    second-at-requires
     loop-less
-    loop-again)
+    loop-again
+    put-at-requires-2
+    returns-4
+    returns-5
+    loop-less-2
+    loop-again-2)
