@@ -1,4 +1,4 @@
--- The end of 64 places: from it on all are 0, before it stands one that is not or it is 1, and place 0 does not change it. Assumes nothing.
+-- The end of 64 places: from it on all are 0, it is 64 where one after the first is not and else 1, and place 0 does not change it. Assumes nothing.
 use mathlib.Core.Bool.{Bool, true, false, cond}
 use mathlib.Core.List.{List, [], _∷_, _++_, map-append}
 use mathlib.Core.Logic.{⊎-elim}
@@ -7,11 +7,11 @@ use Prim.Native.Nat.{ℕ, zero, suc, max, _+_, _≤_, _<_}
 use native.Mathlib.Nat.{le-refl}
 use native.Mathlib.Numerals.{add-one}
 use native.Mathlib.Omega.{arith}
-use lib.Dec.{eqb}
+use lib.Dec.{eqb, leb}
 use lib.IntN.{ℤ, natAbs, pos}
 use lib.ListN.{getD, getD-replicate, length, set, take}
 use lib.Seq.{getD-set-other, take-all, take-suc, take-suc-set}
-use borrow.Author.Tests.{eqb-true, ne-eqb}
+use borrow.Author.Tests.{eqb-true, le-leb, leb-true, lt-leb, ne-eqb}
 use Rattle.numbers.proofs.Fill.{lt-or-le}
 use Rattle.numbers.proofs.Magnitudes.{zero-of-abs}
 use Rattle.texture.specs.Places.{zeros}
@@ -59,27 +59,27 @@ module _ (qfs : List ℤ) where
 
   -- ---- the end
 
-  pub end-least : 1 ≤ endOf qfs
-  unfolding endOf
-  end-least = omega arith
-
-  pub end-most : endOf qfs ≤ 64
-  unfolding endOf
-  end-most = omega (arith, reach-most 64)
-
   pub beyond-end : (k : ℕ) → endOf qfs ≤ k → k < 64 → getD qfs k (pos 0) ≡ pos 0
   unfolding endOf
-  beyond-end k h l = beyond-reach 64 k (omega arith) l
+  beyond-end k h l = go (leb (reach qfs 64) 1) refl h
+    where
+      go : (t : Bool) → leb (reach qfs 64) 1 ≡ t → cond t 1 64 ≤ k → getD qfs k (pos 0) ≡ pos 0
+      go true e g = let r = leb-true (reach qfs 64) 1 e in beyond-reach 64 k (omega arith) l
+      go false e g = absurd (omega arith)
 
-  -- the end after the last place that is not 0
-  pub end-last : (n : ℕ) → n < 64 → (getD qfs n (pos 0) ≡ pos 0 → ⊥) → ((k : ℕ) → n < k → k < 64 → getD qfs k (pos 0) ≡ pos 0) → endOf qfs ≡ n + 1
+  -- the end where the last place that is not 0 is not the first
+  pub end-last : (n : ℕ) → 1 ≤ n → n < 64 → (getD qfs n (pos 0) ≡ pos 0 → ⊥) → ((k : ℕ) → n < k → k < 64 → getD qfs k (pos 0) ≡ pos 0) → endOf qfs ≡ 64
   unfolding endOf
-  end-last n h p z = omega (arith, reach-zeros (suc n) 64 h z, reach-stop n p)
+  end-last n f h p z =
+      let far : 1 < reach qfs 64 = omega (arith, reach-zeros (suc n) 64 h z, reach-stop n p) in
+      ap (λ (t : Bool). cond t 1 64) (lt-leb (reach qfs 64) 1 far)
 
   -- the end where none after the first is not 0
   pub end-none : ((k : ℕ) → 1 ≤ k → k < 64 → getD qfs k (pos 0) ≡ pos 0) → endOf qfs ≡ 1
   unfolding endOf
-  end-none z = omega (arith, reach-zeros 1 64 (omega arith) z, reach-most 1)
+  end-none z =
+      let near : reach qfs 64 ≤ 1 = omega (arith, reach-zeros 1 64 (omega arith) z, reach-most 1) in
+      ap (λ (t : Bool). cond t 1 64) (le-leb (reach qfs 64) 1 near)
 
 -- ---- place 0 does not change it
 
@@ -98,9 +98,15 @@ reach-set qfs z (suc (suc n)) =
     go true h = h
     go false h = refl
 
+-- numbers that are one above 1 are the same beside it
+beside-one : (a b : ℕ) → max 1 a ≡ max 1 b → leb a 1 ≡ leb b 1
+beside-one a b e =
+    ⊎-elim (λ (l : 1 < a). let m : 1 < b = omega arith in lt-leb a 1 l ∙ sym (lt-leb b 1 m))
+    (λ (l : a ≤ 1). let m : b ≤ 1 = omega arith in le-leb a 1 l ∙ sym (le-leb b 1 m)) (lt-or-le 1 a)
+
 pub end-set : (qfs : List ℤ) (z : ℤ) → endOf (set qfs 0 z) ≡ endOf qfs
 unfolding endOf
-end-set qfs z = reach-set qfs z 64
+end-set qfs z = ap (λ (t : Bool). cond t 1 64) (beside-one (reach (set qfs 0 z) 64) (reach qfs 64) (reach-set qfs z 64))
 
 -- a block that has its DC part only
 pub end-zeros : (z : ℤ) → endOf (set zeros 0 z) ≡ 1

@@ -96,6 +96,7 @@ st place qfs = record { place = place; bad = 0; qfs = qfs }
 -- where a list stands that began at a position: all places from the next on are 0
 pub record Stands (d : List ℕ) (start at place : ℕ) (qfs : List ℤ) : Type 0 where
   pub inside : at ≤ 8 * length d
+  pub place-pos : 1 ≤ place
   pub place-le : place ≤ 64
   pub long : length qfs ≡ 64
   pub beyond : (k : ℕ) → place ≤ k → k < 64 → getD qfs k (pos 0) ≡ pos 0
@@ -105,6 +106,7 @@ pub stands-first : (d : List ℕ) (start : ℕ) (qfs : List ℤ) → start ≤ 8
 stands-first d start qfs h q =
     record {
       inside = h;
+      place-pos = omega arith;
       place-le = omega arith;
       long = ap length q;
       beyond = λ k a b. ap (λ (xs : List ℤ). getD xs k (pos 0)) q ∙ getD-replicate 64 k (pos 0) (pos 0) b;
@@ -125,6 +127,7 @@ module _ (d : List ℕ) (start at place : ℕ) (qfs : List ℤ) (s : Stands d st
   stands-on l =
       record {
         inside = t .inside;
+        place-pos = omega arith;
         place-le = omega arith;
         long = length-set qfs (place + r .run) (r .level) ∙ s .long;
         beyond = λ k a b. after-zero k (omega arith) b;
@@ -132,14 +135,14 @@ module _ (d : List ℕ) (start at place : ℕ) (qfs : List ℤ) (s : Stands d st
             ∙ ap (λ (x : State). rest false Intra x (bitsFrom d (r .next))) put-is;
       }
 
-  pub stands-last : r .last ≡ true → ListTold d start (record { next = r .next; end = place + r .run + 1 }) (set qfs (place + r .run) (r .level))
+  pub stands-last : r .last ≡ true → ListTold d start (record { next = r .next; end = 64 }) (set qfs (place + r .run) (r .level))
   stands-last l =
       record {
         read = sym (rest-start false Intra 1 (bitsFrom d start)) ∙ s .same
             ∙ rest-last false Intra (st place qfs) (bitsFrom d at) (t .e) (bitsFrom d (r .next)) (t .read) (t .last-is ∙ l)
             ∙ ap (λ (x : State). ended x (bitsFrom d (r .next))) put-is;
         inside = t .inside;
-        ends = sym (end-last (set qfs (place + r .run) (r .level)) (place + r .run) low
+        ends = sym (end-last (set qfs (place + r .run) (r .level)) (place + r .run) (omega (arith, s .place-pos)) low
             (λ q. let z : natAbs (r .level) ≡ 0 = ap natAbs (sym (getD-set-same qfs (place + r .run) (r .level) (pos 0) (omega (arith, s .long))) ∙ q) in omega (arith, t .level-pos)) after-zero);
       }
 
@@ -165,7 +168,5 @@ module _ (d : List ℕ) (start at place : ℕ) (qfs : List ℤ) (s : Stands d st
   pub put-on : r .last ≡ false → Stands d start (r .next) after qfs′
   put-on l = subst₂ (Stands d start (r .next)) (sym after-is) (sym places-are) (stands-on d start at place qfs s r t low l)
 
-  pub put-last : r .last ≡ true → ListTold d start (record { next = r .next; end = after }) qfs′
-  put-last l =
-      subst₂ (λ (n : ℕ) (xs : List ℤ). ListTold d start (record { next = r .next; end = n }) xs) (sym after-is) (sym places-are)
-      (stands-last d start at place qfs s r t low l)
+  pub put-last : r .last ≡ true → ListTold d start (record { next = r .next; end = 64 }) qfs′
+  put-last l = subst (ListTold d start (record { next = r .next; end = 64 })) (sym places-are) (stands-last d start at place qfs s r t low l)

@@ -1,8 +1,8 @@
 -- How far the places of a block reach. Definitions only.
 use mathlib.Core.Bool.{cond}
 use mathlib.Core.List.{List, map}
-use Prim.Native.Nat.{ℕ, zero, suc, max}
-use lib.Dec.{eqb}
+use Prim.Native.Nat.{ℕ, zero, suc}
+use lib.Dec.{eqb, leb}
 use lib.IntN.{ℤ, natAbs, pos}
 use lib.ListN.{getD}
 
@@ -11,9 +11,9 @@ unfoldable pub reach : List ℤ → ℕ → ℕ
 reach qfs zero = zero
 reach qfs (suc n) = cond (eqb (natAbs (getD qfs n (pos 0))) 0) (reach qfs n) (suc n)
 
--- an end of 64 places: from it on all are 0; 1 where none after the first is not
+-- an end of 64 places, from which on all are 0: 1 where none after the first is not, else 64
 unfoldable pub endOf : List ℤ → ℕ
-endOf qfs = max 1 (reach qfs 64)
+endOf qfs = cond (leb (reach qfs 64) 1) 1 64
 
 abbrev pub endsOf : List (List ℤ) → List ℕ
 endsOf rows = map endOf rows

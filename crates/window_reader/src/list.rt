@@ -11,7 +11,7 @@ use crate::symbol::EventAt;
 use crate::symbol::event_at;
 use crate::symbol::second_at;
 
-// The position after a list, and the place after its last event.
+// The position after a list or a block, and an end of its places.
 pub struct ListAt {
     pub next: usize,
     pub end: usize,
@@ -59,7 +59,7 @@ pub(crate) fn list_at(
         if e.last {
             return ListAt {
                 next: e.next,
-                end: after,
+                end: 64,
             };
         }
         let f = second_at(data, short, long, at, w, e.next);
@@ -75,7 +75,7 @@ pub(crate) fn list_at(
         if f.last {
             return ListAt {
                 next: f.next,
-                end: more,
+                end: 64,
             };
         }
         at = f.next;

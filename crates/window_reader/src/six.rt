@@ -97,7 +97,7 @@ fn end_of(qfs: [i32; 64]) -> usize
     let mut n: usize = 64;
     while 1 < n {
         if qfs[n - 1] != 0 {
-            return n;
+            return 64;
         }
         n -= 1;
     }

@@ -37,8 +37,7 @@ returns c =
     let l = c .before .before .before .loop in
     let qfs = c .before .before .before .before .args .t1 in
     let t = c .before .before .loop-test .taken in
-    let back : l .n ≡ l .n - 1 + 1 = omega arith in
-    back ∙ sym (end-last qfs (l .n - 1) (omega arith) (λ q. c .if1 .taken (ap (ofZ w32) q)) (λ k a b. l .inv .2 k (omega arith) b))
+    sym (end-last qfs (l .n - 1) (omega arith) (omega arith) (λ q. c .if1 .taken (ap (ofZ w32) q)) (λ k a b. l .inv .2 k (omega arith) b))
 
 sub-n : tie.Need-sub-n Inv-loop μ-loop
 sub-n c = omega arith
