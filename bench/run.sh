@@ -21,7 +21,7 @@ decoded() {
         sed -n 's/^frame= *\([0-9]*\) .*/\1/p; s/^bench: utime=\([0-9.]*\)s.*/\1/p' | tail -n 2 | tr '\n' ' '
 }
 
-# Nanoseconds a macroblock: the stream 200 times over less the stream once, so that its start is left out.
+# Nanoseconds a macroblock, the least of five: the stream 200 times over less the stream once, so that its start is left out.
 by_ffmpeg() {
     stream=${1%.in}.m4v
     if [ ! -f "$stream" ]; then return; fi
@@ -31,8 +31,11 @@ by_ffmpeg() {
         cat "$stream" >>"$work/often.m4v"
         copies=$((copies + 1))
     done
-    echo "$(decoded "$stream") $(decoded "$work/often.m4v") $(sed -n '1s/(picture \([0-9]*\) \([0-9]*\) .*/\1 \2/p' "$1")" |
-        awk -v name="clip $(basename "$1" .in), by ffmpeg, all of it" '{ printf "%-44s %8.0f\n", name, ($4 - $2) * 1e9 / (($3 - $1) * $5 * $6) }'
+    size=$(sed -n '1s/(picture \([0-9]*\) \([0-9]*\) .*/\1 \2/p' "$1")
+    for _ in 1 2 3 4 5; do echo "$(decoded "$stream") $(decoded "$work/often.m4v") $size"; done |
+        awk -v name="clip $(basename "$1" .in), by ffmpeg, all of it" '
+            { took = ($4 - $2) * 1e9 / (($3 - $1) * $5 * $6); if (NR == 1 || took < least) least = took }
+            END { printf "%-44s %8.0f\n", name, least }'
 }
 
 [ $# -eq 0 ] || shift

@@ -14,5 +14,6 @@ pub mod UpToLaws
 pub mod HandedLaws
 pub mod NeededLaws
 pub mod OrderLaws
+pub mod PlacedLaws
 pub mod SideLaws
 pub mod ShortLaws

@@ -3,7 +3,7 @@ use mathlib.Core.Bool.{Bool, true, cond}
 use mathlib.Core.List.{List, []}
 use mathlib.Core.Path.{_≡_}
 use Prim.Native.Nat.{ℕ, zero, suc, _/_, _%_}
-use lib.Dec.{ltb}
+use lib.Dec.{eqb, ltb}
 use lib.IntN.{ℤ, pos}
 use lib.ListN.{getD, set}
 use Rattle.numbers.specs.Every.{every}
@@ -41,6 +41,10 @@ acPlace end qfs (suc k) = cond (ltb (suc k) end) (getD qfs (suc k) (pos 0)) (pos
 -- the places of a block but for the DC's, in the order of a scan
 abbrev pub acScanned : ℕ → List ℤ → ScanType → List (List ℤ)
 acScanned end qfs s = block (λ (v u : ℕ). acPlace end qfs (cellN (gridOf s) v u))
+
+-- the same with a level at the DC's place
+abbrev pub placedBy : ℤ → ℕ → List ℤ → ScanType → List (List ℤ)
+placedBy level end qfs s = block (λ (v u : ℕ). cond (eqb (cellN (gridOf s) v u) 0) level (acPlace end qfs (cellN (gridOf s) v u)))
 
 -- eight rows of eight levels
 pub record Levelled (b : List (List ℤ)) : Type 0 where

@@ -1,4 +1,4 @@
-// A short way to the levels: places are put where the scan has them, up to an end from which on they are 0, and only the DC and the seven predicted levels are limited.
+// A short way to the levels: all places are taken where the scan has them, or those up to an end from which on they are 0, and only the DC and the seven predicted levels are limited.
 ghost use mathlib.Core.Bool.{true, _&&_};
 ghost use mathlib.Core.Path.{_≡_};
 ghost use Prim.Native.Nat.{ℕ, _-_, _≤_, _<_};
@@ -13,9 +13,10 @@ ghost use Rattle.coefficients.specs.Needed.{numbered};
 ghost use Rattle.coefficients.specs.Outcomes.{levelsDue, stageOutcome};
 ghost use Rattle.coefficients.specs.Prediction.{acPrediction};
 ghost use Rattle.coefficients.specs.Refusal.{after};
-ghost use Rattle.coefficients.specs.Short.{Levelled, acPredicted, acScanned, columnAdded, inside, placed, rowAdded, zeros};
+ghost use Rattle.coefficients.specs.Short.{Levelled, acPredicted, acScanned, columnAdded, inside, placed, placedBy, rowAdded, zeros};
 ghost use Rattle.coefficients.specs.Stages.{PredictorsGood};
 ghost use Rattle.coefficients.specs.UpTo.{upTo};
+ghost use Rattle.coefficients.specs.declared.scan.ScanType.the-variants.{AlternateHorizontal, AlternateVertical, Zigzag};
 use crate::handed::needed_fine;
 use crate::handed::seven_in;
 use crate::refusal::CoefficientError;
@@ -260,6 +261,96 @@ fn scatter(qfs: &[i32], end: usize, scan_type: ScanType, qf: &mut [[i32; 8]; 8])
     }
 }
 
+// The eight places that a row of a scan names.
+fn row_of(qfs: &[i32], at: [u8; 8]) -> [i32; 8]
+    requires { ⌜ (64 ≤ length (now qfs)) × (inside at ≡ true) ⌝ }
+    ensures { λ r. ⌜ r ≡ build 8 (λ (u : ℕ). getD (now (qfs .entry)) (getD at u 0) (pos 0)) ⌝ }
+{
+    let mut row = [0i32; 8];
+    for u in 0..8 {
+        let k = at[u] as usize;
+        row[u] = qfs[k];
+    }
+    row
+}
+
+// All 64 places by the alternate horizontal scan, with a level at the DC's, into a block of zeros.
+fn by_horizontal(qfs: &[i32], level: i32, qf: &mut [[i32; 8]; 8])
+    requires { ⌜ (64 ≤ length (now qfs)) × (now qf ≡ zeros) ⌝ }
+    ensures { λ _. ⌜ now (qf .exit) ≡ placedBy level 64 (now (qfs .entry)) AlternateHorizontal ⌝ }
+{
+    let mut first = row_of(qfs, [0, 1, 2, 3, 10, 11, 12, 13]);
+    first[0] = level;
+    qf[0] = first;
+    qf[1] = row_of(qfs, [4, 5, 8, 9, 17, 16, 15, 14]);
+    qf[2] = row_of(qfs, [6, 7, 19, 18, 26, 27, 28, 29]);
+    qf[3] = row_of(qfs, [20, 21, 24, 25, 30, 31, 32, 33]);
+    qf[4] = row_of(qfs, [22, 23, 34, 35, 42, 43, 44, 45]);
+    qf[5] = row_of(qfs, [36, 37, 40, 41, 46, 47, 48, 49]);
+    qf[6] = row_of(qfs, [38, 39, 50, 51, 56, 57, 58, 59]);
+    qf[7] = row_of(qfs, [52, 53, 54, 55, 60, 61, 62, 63]);
+}
+
+// All 64 places by the alternate vertical scan, with a level at the DC's, into a block of zeros.
+fn by_vertical(qfs: &[i32], level: i32, qf: &mut [[i32; 8]; 8])
+    requires { ⌜ (64 ≤ length (now qfs)) × (now qf ≡ zeros) ⌝ }
+    ensures { λ _. ⌜ now (qf .exit) ≡ placedBy level 64 (now (qfs .entry)) AlternateVertical ⌝ }
+{
+    let mut first = row_of(qfs, [0, 4, 6, 20, 22, 36, 38, 52]);
+    first[0] = level;
+    qf[0] = first;
+    qf[1] = row_of(qfs, [1, 5, 7, 21, 23, 37, 39, 53]);
+    qf[2] = row_of(qfs, [2, 8, 19, 24, 34, 40, 50, 54]);
+    qf[3] = row_of(qfs, [3, 9, 18, 25, 35, 41, 51, 55]);
+    qf[4] = row_of(qfs, [10, 17, 26, 30, 42, 46, 56, 60]);
+    qf[5] = row_of(qfs, [11, 16, 27, 31, 43, 47, 57, 61]);
+    qf[6] = row_of(qfs, [12, 15, 28, 32, 44, 48, 58, 62]);
+    qf[7] = row_of(qfs, [13, 14, 29, 33, 45, 49, 59, 63]);
+}
+
+// All 64 places by the zigzag scan, with a level at the DC's, into a block of zeros.
+fn by_zigzag(qfs: &[i32], level: i32, qf: &mut [[i32; 8]; 8])
+    requires { ⌜ (64 ≤ length (now qfs)) × (now qf ≡ zeros) ⌝ }
+    ensures { λ _. ⌜ now (qf .exit) ≡ placedBy level 64 (now (qfs .entry)) Zigzag ⌝ }
+{
+    let mut first = row_of(qfs, [0, 1, 5, 6, 14, 15, 27, 28]);
+    first[0] = level;
+    qf[0] = first;
+    qf[1] = row_of(qfs, [2, 4, 7, 13, 16, 26, 29, 42]);
+    qf[2] = row_of(qfs, [3, 8, 12, 17, 25, 30, 41, 43]);
+    qf[3] = row_of(qfs, [9, 11, 18, 24, 31, 40, 44, 53]);
+    qf[4] = row_of(qfs, [10, 19, 23, 32, 39, 45, 52, 54]);
+    qf[5] = row_of(qfs, [20, 22, 33, 38, 46, 51, 55, 60]);
+    qf[6] = row_of(qfs, [21, 34, 37, 47, 50, 56, 59, 61]);
+    qf[7] = row_of(qfs, [35, 36, 48, 49, 57, 58, 62, 63]);
+}
+
+// The places below `end` by a scan, with a level at the DC's, into a block of zeros. All 64 are taken row by row, so that no value
+// is stored by itself; fewer are put one by one.
+fn put_scanned(qfs: &[i32], end: usize, level: i32, scan_type: ScanType, qf: &mut [[i32; 8]; 8])
+    requires { ⌜ (end ≤ 64) × (end ≤ length (now qfs)) × (now qf ≡ zeros) ⌝ }
+    ensures { λ _. ⌜ now (qf .exit) ≡ placedBy level end (now (qfs .entry)) «scan_type» ⌝ }
+{
+    if end == 64 {
+        match scan_type {
+            ScanType::AlternateHorizontal => {
+                by_horizontal(qfs, level, qf);
+                return;
+            }
+            ScanType::AlternateVertical => {
+                by_vertical(qfs, level, qf);
+                return;
+            }
+            ScanType::Zigzag => {
+                by_zigzag(qfs, level, qf);
+                return;
+            }
+        }
+    }
+    scatter(qfs, end, scan_type, qf);
+    qf[0][0] = level;
+}
+
 // The place of the DC.
 fn first_place(qfs: &[i32], end: usize) -> i32
     requires { ⌜ end ≤ length (now qfs) ⌝ }
@@ -387,11 +478,10 @@ fn put_levels(
     let scan_type = crate::level::intra_scan(alternate_vertical_scan, ac_pred_flag, direction);
     let scaler = crate::predictor::scaler_of(component, quantiser_scale);
     let dc = crate::predictor::dc_prediction(direction, n[0], n[2], scaler);
-    let first = first_place(qfs, end);
+    let level = crate::level::saturate_qf(first_place(qfs, end) + dc);
     *qf = [[0i32; 8]; 8];
-    scatter(qfs, end, scan_type, qf);
+    put_scanned(qfs, end, level, scan_type, qf);
     predict(ac_pred_flag, direction, n, quantiser_scale, qf);
-    qf[0][0] = crate::level::saturate_qf(first + dc);
 }
 
 // The levels QF of an intra block out of its places below `end`, the others taken as 0, into `qf`; or 12 or 13, and `qf` as it was.

@@ -1,20 +1,25 @@
--- `coefficients::short::put_levels` meets its contract: the places by the scan of the direction, with the predictions beside the DC, and then the DC. Assumes nothing.
+-- `coefficients::short::put_levels` meets its contract: the places by the scan of the direction, with the level of the DC, and the predictions beside it. Assumes nothing.
 use mathlib.Core.Path.{_≡_, refl, sym, ap, subst, _∙_}
 use Prim.Native.Nat.{_≤_}
 use lib.IntN.{ℤ, natAbs, pos, _+ℤ_}
 use lib.ListN.{getD}
 use mir.Syntax.{w32}
+use mir.Val.{ofZ, toZ}
 use borrow.Author.Needs.{needs}
 use Rattle.numbers.specs.Grid.{build}
 use Rattle.numbers.proofs.Expressions.{Sx, loc, _⊞_, fits, back}
 use Rattle.numbers.proofs.Words.{held}
+use Rattle.ranges.specs.Range.{levelFine}
 use Rattle.coefficients.specs.Level.{saturated}
 use Rattle.coefficients.specs.Needed.{numbered}
 use Rattle.coefficients.specs.Prediction.{dcPrediction, dcScaler, directionBy, directionOf}
 use Rattle.coefficients.specs.Short.{Levelled, acPredicted}
 use Rattle.coefficients.specs.UpTo.{upTo}
+use Rattle.coefficients.specs.declared.scan.DcPredictionDirection.{DcPredictionDirection}
+use Rattle.coefficients.specs.declared.scan.ScanType.{ScanType}
+use Rattle.coefficients.proofs.LevelLaws.{saturated-fine}
 use Rattle.coefficients.proofs.RefusalLaws.{places-good}
-use Rattle.coefficients.proofs.ShortLaws.{levels-stored, scanned-levelled}
+use Rattle.coefficients.proofs.ShortLaws.{levels-placed, placed-levelled}
 use Rattle.coefficients.proofs.short.put_levels.Statement.{statement}
 use Rattle.coefficients.proofs.short.put_levels.Tie as tie
 
@@ -75,18 +80,11 @@ first-place-requires c κs = search needs
 abbrev start : tie.After-first-place → tie.Start
 start c = start-of (c .before)
 
-scatter-requires : tie.Need-scatter-requires
-unfolding build
-scatter-requires c κs =
-    let s = start (c .before .before) in
-    (s .pre .0, s .pre .1, refl)
+abbrev direction : tie.After-first-place → DcPredictionDirection
+direction c = c .before .before .before .before .before .before .direction-of .result
 
-predict-requires : tie.Need-predict-requires
-predict-requires c κs =
-    let f = c .before .before .before .before in
-    let s = start f in
-    let scan = f .before .before .before .before .before .intra-scan .result in
-    (s .pre .2, s .pre .4, subst Levelled (sym (c .before .scatter .ensures)) (scanned-levelled (s .args .end) (s .args .qfs .now) scan (s .pre .5)))
+abbrev scan-of : tie.After-first-place → ScanType
+scan-of c = c .before .before .before .before .before .intra-scan .result
 
 -- the place of the DC, and its prediction
 abbrev sum : tie.After-first-place → Sx w32
@@ -97,30 +95,53 @@ sum c =
     loc (c .first-place .result) 4095 small ⊞ loc (d .result) 65536 (d .ensures .1)
 
 add-saturate-qf : tie.Need-add-saturate-qf
-add-saturate-qf c = fits (sum (c .before .before .before .before .before)) tt
+add-saturate-qf c = fits (sum c) tt
 
 saturate-qf-requires : tie.Need-saturate-qf-requires
 saturate-qf-requires c κs = search needs
 
-index-1-qf : tie.Need-index-1-qf
-index-1-qf c = search needs
+-- the level of the DC is their sum, limited
+abbrev unlimited : tie.After-first-place → ℤ
+unlimited c =
+    let a = start c .args in
+    getD (upTo (a .end) (a .qfs .now)) 0 (pos 0) +ℤ dcPrediction (direction c) (getD (a .n .now) 0 (pos 0)) (getD (a .n .now) 2 (pos 0)) (dcScaler (a .component) (a .quantiser-scale))
 
-index-2-qf : tie.Need-index-2-qf
-index-2-qf c = search needs
+level-is : (c : tie.After-saturate-qf) → toZ w32 (ofZ w32 (c .saturate-qf .result)) ≡ saturated (unlimited (c .before))
+level-is c =
+    let f = c .before in
+    held (c .saturate-qf .result) (c .saturate-qf .ok)
+    ∙ c .saturate-qf .ensures
+    ∙ ap saturated (back (sum f) tt ∙ (λ i. f .first-place .ensures i +ℤ dc-is (f .before) i))
+
+put-scanned-requires : tie.Need-put-scanned-requires
+unfolding build
+put-scanned-requires c κs =
+    let s = start (c .before .before .before) in
+    (s .pre .0, s .pre .1, refl)
+
+predict-requires : tie.Need-predict-requires
+predict-requires c κs =
+    let l = c .before .before .before .before in
+    let s = start (l .before) in (
+      s .pre .2,
+      s .pre .4,
+      subst Levelled (sym (c .before .put-scanned .ensures))
+          (placed-levelled (s .args .end) (s .args .qfs .now) _ (scan-of (l .before)) (ap levelFine (level-is l) ∙ saturated-fine (unlimited (l .before))) (s .pre .5)),
+    )
 
 returns : tie.Need-returns
 returns c =
-    let f = c .before .before .before .before .before .before in
-    let n = f .before .before .before .before .before in
+    let p = c .before .before in
+    let l = p .before .before .before in
+    let f = l .before in
     let a = start f .args in
-    let dir = n .before .direction-of .result in
-    levels-stored (a .end) (a .qfs .now) (a .component) (a .quantiser-scale) (a .ac-pred-flag) (a .alternate-vertical-scan) (numbered (a .n .now)) dir (n .intra-scan .result) _ _
+    let n = f .before .before .before .before .before in
+    c .predict .ensures
+    ∙ ap (acPredicted (a .ac-pred-flag) (direction f) (numbered (a .n .now)) (a .quantiser-scale)) (p .put-scanned .ensures)
+    ∙ levels-placed (a .end) (a .qfs .now) (a .component) (a .quantiser-scale) (a .ac-pred-flag) (a .alternate-vertical-scan) (numbered (a .n .now)) (direction f) (scan-of f) _
     (direction-is (n .before))
     (n .intra-scan .ensures)
-    (c .before .predict .ensures ∙ ap (acPredicted (a .ac-pred-flag) dir (numbered (a .n .now)) (a .quantiser-scale)) (c .before .before .before .scatter .ensures))
-    (held (c .saturate-qf .result) (c .saturate-qf .ok)
-    ∙ c .saturate-qf .ensures
-    ∙ ap saturated (back (sum f) tt ∙ (λ i. f .first-place .ensures i +ℤ dc-is (f .before) i)))
+    (level-is l)
 
 pub put-levels-spec : {M : Type 1} → statement M
 put-levels-spec =
@@ -136,10 +157,8 @@ put-levels-spec =
     element-copy-out-dc-prediction-2
     dc-prediction-requires
     first-place-requires
-    scatter-requires
-    predict-requires
     add-saturate-qf
     saturate-qf-requires
-    index-1-qf
-    index-2-qf
+    put-scanned-requires
+    predict-requires
     returns)
