@@ -2,9 +2,9 @@
 
 # The library, in target/ of the repository; the Rust crate over it, in $work; and in `with` the flag by which a program takes it.
 bound() {
-    (cd "$top" && rt staticlib c_interface >"$work/say" 2>&1) || { tail -n 40 "$work/say" >&2; exit 1; }
+    (cd "$top" && rt staticlib vaxembro >"$work/say" 2>&1) || { tail -n 40 "$work/say" >&2; exit 1; }
     archive=$top/target/staticlib
-    library=$archive/libc_interface.a
+    library=$archive/libvaxembro.a
     rustc -O --edition 2021 -D warnings --crate-type rlib -L "$archive" -o "$work/libvaxembro.rlib" "$top/bindings/rust/vaxembro.rs"
     with="--extern vaxembro=$work/libvaxembro.rlib"
 }

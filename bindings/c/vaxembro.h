@@ -1,7 +1,7 @@
 /* The decoder for C and C++: numbers and lent memory only.
  *
  * Lent memory is a pointer and then a length in numbers. It is read and written only within that length; nothing is kept after a call and
- * nothing is allocated. Parts that a call may write must not overlap the others. Link with libc_interface.a.
+ * nothing is allocated. Parts that a call may write must not overlap the others. Link with libvaxembro.a.
  *
  * Every function ends for every input. Where `state`, `matrix`, `neighbours` or `answer` is shorter than it has to be, the function
  * gives VAXEMBRO_TOO_SHORT and writes nothing.

@@ -1,5 +1,5 @@
 // The decoder from Rust: a crate of one file with safe types over its C interface, without std and without allocation. The folder of
-// libc_interface.a goes by -L. docs/REFUSALS.md says when each number of a refusal is given, with which figure, and in which order.
+// libvaxembro.a goes by -L. docs/REFUSALS.md says when each number of a refusal is given, with which figure, and in which order.
 #![no_std]
 
 use core::fmt;
@@ -7,7 +7,7 @@ use core::fmt;
 // The C interface as it is; bindings/c/vaxembro.h says what each function takes and gives.
 #[rustfmt::skip]
 pub mod ffi {
-    #[link(name = "c_interface", kind = "static")]
+    #[link(name = "vaxembro", kind = "static")]
     unsafe extern "C" {
         pub fn vaxembro_open(width: u32, height: u32, bits_per_pixel: u32, quant_type: u32, state: *mut u32, state_len: usize) -> u32;
         pub fn vaxembro_decode_macroblock(

@@ -1,0 +1,30 @@
+-- What the tests of lent memory tell. Assumes nothing.
+use mathlib.Core.Bool.{Bool, cond, false, true}
+use mathlib.Core.Path.{_≡_, ap, sym, _∙_}
+use Prim.Native.Nat.{ℕ, _<_, _≤_}
+use borrow.Author.Tests.{le-leb, lt-leb}
+use Rattle.vaxembro.specs.Calls.{allLong}
+
+-- what is picked where memory is long enough, and where it is not
+pub long-is : {A : Type 0} {b : Bool} {x z : A} (y : A) → b ≡ true → z ≡ x → z ≡ cond b x y
+long-is {A} {b} {x} {z} y e h = h ∙ sym (ap (λ (t : Bool). cond t x y) e)
+
+pub short-is : {A : Type 0} {b : Bool} {y : A} (x : A) → b ≡ false → y ≡ cond b x y
+short-is {A} {b} {y} x e = sym (ap (λ (t : Bool). cond t x y) e)
+
+module _ (least n w a : ℕ) where
+  pub all-long : least ≤ n → 64 ≤ w → 4 ≤ a → allLong least n w a ≡ true
+  unfolding allLong
+  all-long p q r = rw (le-leb least n p, le-leb 64 w q, le-leb 4 a r)
+
+  pub first-short : n < least → allLong least n w a ≡ false
+  unfolding allLong
+  first-short p = rw (lt-leb least n p)
+
+  pub matrix-short : least ≤ n → w < 64 → allLong least n w a ≡ false
+  unfolding allLong
+  matrix-short p q = rw (le-leb least n p, lt-leb 64 w q)
+
+  pub answer-short : least ≤ n → 64 ≤ w → a < 4 → allLong least n w a ≡ false
+  unfolding allLong
+  answer-short p q r = rw (le-leb least n p, le-leb 64 w q, lt-leb 4 a r)

@@ -1,0 +1,52 @@
+-- `vaxembro::answer::tell` meets its contract: four stores. Assumes nothing.
+use mathlib.Core.List.{[], _∷_}
+use mathlib.Core.Path.{refl}
+use native.Mathlib.Omega.{arith}
+use borrow.Author.Needs.{needs}
+use denote.Ref.{now}
+use lib.ListN.{length-set}
+use lib.Seq.{sets-eq}
+use Rattle.vaxembro.specs.Answer.{answerAfter}
+use Rattle.vaxembro.proofs.answer.tell.Statement.{statement}
+use Rattle.vaxembro.proofs.answer.tell.Tie as tie
+
+cast-answer : tie.Need-cast-answer
+cast-answer c = search needs
+
+slice-write-answer : tie.Need-slice-write-answer
+slice-write-answer c = search needs
+
+cast-answer-2 : tie.Need-cast-answer-2
+cast-answer-2 c = search needs
+
+slice-write-answer-2 : tie.Need-slice-write-answer-2
+slice-write-answer-2 c = simp length-set (omega arith)
+
+slice-write-answer-3 : tie.Need-slice-write-answer-3
+slice-write-answer-3 c = simp length-set (omega arith)
+
+slice-write-answer-4 : tie.Need-slice-write-answer-4
+slice-write-answer-4 c = search needs
+
+same-length : tie.Need-same-length
+same-length c = search needs
+
+returns : tie.Need-returns
+unfolding answerAfter
+returns c =
+    let a = c .before .before .args in
+    let t = a .t in
+    (refl, sets-eq (t .number ∷ t .figure ∷ t .bits ∷ t .position ∷ []) (now (a .answer)) 0 (omega arith))
+
+pub tell-spec : {M : Type 1} → statement M
+tell-spec =
+    tie.close
+    (tie.spec
+    cast-answer
+    slice-write-answer
+    cast-answer-2
+    slice-write-answer-2
+    slice-write-answer-3
+    slice-write-answer-4
+    same-length
+    returns)

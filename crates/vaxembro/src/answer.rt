@@ -1,0 +1,116 @@
+// An answer as four numbers: the refusal's number or 0, its figure, the bits taken and the position after them.
+ghost use mathlib.Core.Path.{_≡_};
+ghost use Prim.Native.Nat.{_≤_};
+ghost use lib.ListN.{length};
+ghost use Rattle.block.specs.Answer.{figureOf, numberOf};
+ghost use Rattle.vaxembro.specs.Answer.{acceptedAs, answerAfter, low, refusedAs, toldAlone, toldAt, toldOf};
+use block::BlockAssemblyError;
+use macroblock::MacroblockDecoded;
+use picture::PictureDecoded;
+
+pub struct Told {
+    pub number: u32,
+    pub figure: u32,
+    pub bits: usize,
+    pub position: usize,
+}
+
+fn refused(e: BlockAssemblyError, at: usize) -> Told
+    ensures { λ r. ⌜ r ≡ refusedAs (numberOf e) (figureOf e) at ⌝ }
+{
+    Told {
+        number: e.number(),
+        figure: e.figure(),
+        bits: 0,
+        position: at,
+    }
+}
+
+fn accepted(bits: usize, position: usize) -> Told
+    ensures { λ r. ⌜ r ≡ acceptedAs bits position ⌝ }
+{
+    Told {
+        number: 0,
+        figure: 0,
+        bits,
+        position,
+    }
+}
+
+// Of a call in a picture that started at `at`.
+pub(crate) fn told_in_picture(d: PictureDecoded, at: usize) -> Told
+    ensures { λ r. ⌜ r ≡ toldOf d at ⌝ }
+{
+    match d {
+        PictureDecoded::Refused(e) => refused(e, at),
+        PictureDecoded::Decoded(bits, next, _) => accepted(bits, next.bit_pos),
+    }
+}
+
+// Of a macroblock read alone.
+pub(crate) fn told_alone(d: MacroblockDecoded, at: usize) -> Told
+    ensures { λ r. ⌜ r ≡ toldAlone d at ⌝ }
+{
+    match d {
+        MacroblockDecoded::Refused(e) => refused(e, at),
+        MacroblockDecoded::Decoded(bits, next) => accepted(bits, next.bit_pos),
+    }
+}
+
+// Into the lent answer; its number is handed on.
+pub(crate) fn tell(answer: &mut [usize], t: Told) -> u32
+    requires { ⌜ 4 ≤ length (now answer) ⌝ }
+    ensures { λ r. ⌜ (r ≡ t .number) × (now (answer .exit) ≡ answerAfter t (now (answer .entry))) ⌝ }
+{
+    answer[0] = t.number as usize;
+    answer[1] = t.figure as usize;
+    answer[2] = t.bits;
+    answer[3] = t.position;
+    t.number
+}
+
+// Number k of an answer; 0 where the answer is too short.
+fn told_at(answer: &[usize], k: usize) -> usize
+    requires { ⌜ k ≤ 3 ⌝ }
+    ensures { λ r. ⌜ r ≡ toldAt (now (answer .entry)) k ⌝ }
+{
+    if answer.len() < 4 {
+        return 0;
+    }
+    answer[k]
+}
+
+// The low 32 bits: an answer has no more in its number and its figure.
+fn low_bits(n: usize) -> u32
+    ensures { λ r. ⌜ r ≡ low n ⌝ }
+{
+    (n % 4294967296) as u32
+}
+
+#[no_mangle]
+pub extern "C" fn vaxembro_number(answer: &[usize]) -> u32
+    ensures { λ r. ⌜ r ≡ low (toldAt (now (answer .entry)) 0) ⌝ }
+{
+    low_bits(told_at(answer, 0))
+}
+
+#[no_mangle]
+pub extern "C" fn vaxembro_figure(answer: &[usize]) -> u32
+    ensures { λ r. ⌜ r ≡ low (toldAt (now (answer .entry)) 1) ⌝ }
+{
+    low_bits(told_at(answer, 1))
+}
+
+#[no_mangle]
+pub extern "C" fn vaxembro_bits(answer: &[usize]) -> usize
+    ensures { λ r. ⌜ r ≡ toldAt (now (answer .entry)) 2 ⌝ }
+{
+    told_at(answer, 2)
+}
+
+#[no_mangle]
+pub extern "C" fn vaxembro_position(answer: &[usize]) -> usize
+    ensures { λ r. ⌜ r ≡ toldAt (now (answer .entry)) 3 ⌝ }
+{
+    told_at(answer, 3)
+}
