@@ -1,8 +1,10 @@
 -- What the tests of lent memory tell. Assumes nothing.
-use mathlib.Core.Bool.{Bool, cond, false, true}
+use mathlib.Core.Bool.{Bool, cond, false, true, _&&_}
 use mathlib.Core.Path.{_≡_, ap, sym, _∙_}
 use Prim.Native.Nat.{ℕ, _<_, _≤_}
-use borrow.Author.Tests.{le-leb, lt-leb}
+use borrow.Author.Tests.{le-leb, leb-true, lt-leb}
+use lib.Dec.{leb}
+use Rattle.numbers.proofs.Tests.{both-true}
 use Rattle.vaxembro.specs.Calls.{allLong}
 
 -- what is picked where memory is long enough, and where it is not
@@ -13,9 +15,9 @@ pub short-is : {A : Type 0} {b : Bool} {y : A} (x : A) → b ≡ false → y ≡
 short-is {A} {b} {y} x e = sym (ap (λ (t : Bool). cond t x y) e)
 
 module _ (least n w a : ℕ) where
-  pub all-long : least ≤ n → 64 ≤ w → 4 ≤ a → allLong least n w a ≡ true
+  pub all-long : least ≤ n → 64 ≤ w → allLong least n w a ≡ leb 4 a
   unfolding allLong
-  all-long p q r = rw (le-leb least n p, le-leb 64 w q, le-leb 4 a r)
+  all-long p q = rw (le-leb least n p, le-leb 64 w q)
 
   pub first-short : n < least → allLong least n w a ≡ false
   unfolding allLong
@@ -25,6 +27,11 @@ module _ (least n w a : ℕ) where
   unfolding allLong
   matrix-short p q = rw (le-leb least n p, lt-leb 64 w q)
 
-  pub answer-short : least ≤ n → 64 ≤ w → a < 4 → allLong least n w a ≡ false
-  unfolding allLong
-  answer-short p q r = rw (le-leb least n p, le-leb 64 w q, lt-leb 4 a r)
+-- what is long enough where all is
+pub first-long : (least n w a : ℕ) → allLong least n w a ≡ true → least ≤ n
+unfolding allLong
+first-long least n w a e = leb-true least n (both-true (leb least n) (leb 64 w && leb 4 a) e .0)
+
+pub matrix-long : (least n w a : ℕ) → allLong least n w a ≡ true → 64 ≤ w
+unfolding allLong
+matrix-long least n w a e = leb-true 64 w (both-true (leb 64 w) (leb 4 a) (both-true (leb least n) (leb 64 w && leb 4 a) e .1) .0)

@@ -37,9 +37,9 @@ abbrev pub numberIn : {A : Type 0} → Outcome A → ℕ
 numberIn (accepted a) = 0
 numberIn (refused number figure) = number
 
--- the first four numbers are the answer, the rest is as before
+-- the first four numbers are the answer, the rest is as before; fewer than four stay as they were
 unfoldable pub answerAfter : Told → List ℕ → List ℕ
-answerAfter t old = (t .number ∷ t .figure ∷ t .bits ∷ t .position ∷ []) ++ drop 4 old
+answerAfter t old = cond (leb 4 (length old)) ((t .number ∷ t .figure ∷ t .bits ∷ t .position ∷ []) ++ drop 4 old) old
 
 -- number k of an answer; 0 where the answer is too short
 unfoldable pub toldAt : List ℕ → ℕ → ℕ

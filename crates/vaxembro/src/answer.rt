@@ -1,12 +1,25 @@
 // An answer as four numbers: the refusal's number or 0, its figure, the bits taken and the position after them.
 ghost use mathlib.Core.Path.{_≡_};
 ghost use Prim.Native.Nat.{_≤_};
-ghost use lib.ListN.{length};
 ghost use Rattle.block.specs.Answer.{figureOf, numberOf};
 ghost use Rattle.vaxembro.specs.Answer.{acceptedAs, answerAfter, low, refusedAs, toldAlone, toldAt, toldOf};
+ghost use Rattle.vaxembro.specs.Calls.{allLong};
 use block::BlockAssemblyError;
 use macroblock::MacroblockDecoded;
 use picture::PictureDecoded;
+
+// Whether state or neighbours have `least` numbers, the matrix 64 and the answer 4.
+pub(crate) fn long_enough(least: usize, n: usize, w: usize, a: usize) -> bool
+    ensures { λ r. ⌜ r ≡ allLong least n w a ⌝ }
+{
+    if n < least {
+        return false;
+    }
+    if w < 64 {
+        return false;
+    }
+    4 <= a
+}
 
 pub struct Told {
     pub number: u32,
@@ -15,7 +28,7 @@ pub struct Told {
     pub position: usize,
 }
 
-fn refused(e: BlockAssemblyError, at: usize) -> Told
+pub(crate) fn refused(e: BlockAssemblyError, at: usize) -> Told
     ensures { λ r. ⌜ r ≡ refusedAs (numberOf e) (figureOf e) at ⌝ }
 {
     Told {
@@ -57,11 +70,13 @@ pub(crate) fn told_alone(d: MacroblockDecoded, at: usize) -> Told
     }
 }
 
-// Into the lent answer; its number is handed on.
+// Into the lent answer, where it is long enough; its number is handed on.
 pub(crate) fn tell(answer: &mut [usize], t: Told) -> u32
-    requires { ⌜ 4 ≤ length (now answer) ⌝ }
     ensures { λ r. ⌜ (r ≡ t .number) × (now (answer .exit) ≡ answerAfter t (now (answer .entry))) ⌝ }
 {
+    if answer.len() < 4 {
+        return t.number;
+    }
     answer[0] = t.number as usize;
     answer[1] = t.figure as usize;
     answer[2] = t.bits;

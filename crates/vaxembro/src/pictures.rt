@@ -3,11 +3,9 @@ ghost use mathlib.Core.Bool.{cond};
 ghost use mathlib.Core.Path.{_≡_};
 ghost use Prim.Native.Nat.{_≤_};
 ghost use lib.ListN.{length};
-ghost use Rattle.picture.specs.Call.{answerOut, samplesOut, storeOut};
-ghost use Rattle.vaxembro.specs.Answer.{answerAfter, toldOf};
-ghost use Rattle.vaxembro.specs.Calls.{inputBy, longEnough, openedBy, openedNumber, openedState, stateLong, stateOut};
-ghost use Rattle.vaxembro.specs.Lent.{pictureOf};
+ghost use Rattle.vaxembro.specs.Calls.{left, leftIn, lent, openedBy, openedNumber, openedState, stateLong, stateOut};
 use bits::Cursor;
+use block::BlockAssemblyError;
 use picture::Picture;
 use picture::PictureDecoded;
 use picture::PictureOpened;
@@ -56,7 +54,7 @@ fn onward(state: &mut [u32], d: PictureDecoded)
     }
 }
 
-// The macroblock that is due. 14 where state, matrix or answer is too short: then nothing is written.
+// The macroblock that is due. 14 where state, matrix or answer is too short: then nothing is written but the answer.
 #[no_mangle]
 pub extern "C" fn vaxembro_decode_macroblock(
     state: &mut [u32],
@@ -72,20 +70,11 @@ pub extern "C" fn vaxembro_decode_macroblock(
     store: &mut [i32],
     answer: &mut [usize],
 ) -> u32
-    ensures { λ r. ⌜ r ≡ cond (longEnough (now (state .entry)) (now (matrix .entry)) (now (answer .entry))) (toldOf (answerOut (pictureOf (now (state .entry))) (inputBy (now («data» .entry)) at «mb_type» cbpy cbpc «quantiser_scale» flags (now (matrix .entry)) (now (samples .entry))) (now (store .entry))) at .number) 14 ⌝ }
-    ensures state { λ r. ⌜ now (state .exit) ≡ cond (longEnough (now (state .entry)) (now (matrix .entry)) (now (answer .entry))) (stateOut (answerOut (pictureOf (now (state .entry))) (inputBy (now («data» .entry)) at «mb_type» cbpy cbpc «quantiser_scale» flags (now (matrix .entry)) (now (samples .entry))) (now (store .entry))) (now (state .entry))) (now (state .entry)) ⌝ }
-    ensures samples { λ r. ⌜ now (samples .exit) ≡ cond (longEnough (now (state .entry)) (now (matrix .entry)) (now (answer .entry))) (samplesOut (pictureOf (now (state .entry))) (inputBy (now («data» .entry)) at «mb_type» cbpy cbpc «quantiser_scale» flags (now (matrix .entry)) (now (samples .entry))) (now (store .entry))) (now (samples .entry)) ⌝ }
-    ensures store { λ r. ⌜ now (store .exit) ≡ cond (longEnough (now (state .entry)) (now (matrix .entry)) (now (answer .entry))) (storeOut (pictureOf (now (state .entry))) (inputBy (now («data» .entry)) at «mb_type» cbpy cbpc «quantiser_scale» flags (now (matrix .entry)) (now (samples .entry))) (now (store .entry))) (now (store .entry)) ⌝ }
-    ensures answer { λ r. ⌜ now (answer .exit) ≡ cond (longEnough (now (state .entry)) (now (matrix .entry)) (now (answer .entry))) (answerAfter (toldOf (answerOut (pictureOf (now (state .entry))) (inputBy (now («data» .entry)) at «mb_type» cbpy cbpc «quantiser_scale» flags (now (matrix .entry)) (now (samples .entry))) (now (store .entry))) at) (now (answer .entry))) (now (answer .entry)) ⌝ }
+    ensures { λ r. ⌜ left r (now (state .exit)) (now (samples .exit)) (now (store .exit)) (now (answer .exit)) ≡ leftIn (lent (now (state .entry)) (now («data» .entry)) at «mb_type» cbpy cbpc «quantiser_scale» flags (now (matrix .entry)) (now (samples .entry)) (now (store .entry)) (now (answer .entry))) ⌝ }
 {
-    if state.len() < 5 {
-        return 14;
-    }
-    if matrix.len() < 64 {
-        return 14;
-    }
-    if answer.len() < 4 {
-        return 14;
+    if !crate::answer::long_enough(5, state.len(), matrix.len(), answer.len()) {
+        let short = crate::answer::refused(BlockAssemblyError::TooShort, at);
+        return crate::answer::tell(answer, short);
     }
     let p = crate::lent::picture_of(&*state);
     let header = crate::lent::header_of(mb_type, cbpy, cbpc, flags);

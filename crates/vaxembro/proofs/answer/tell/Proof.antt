@@ -1,14 +1,20 @@
--- `vaxembro::answer::tell` meets its contract: four stores. Assumes nothing.
+-- `vaxembro::answer::tell` meets its contract: four stores, or none. Assumes nothing.
 use mathlib.Core.List.{[], _∷_}
-use mathlib.Core.Path.{refl}
+use mathlib.Core.Path.{refl, sym, _∙_}
 use native.Mathlib.Omega.{arith}
 use borrow.Author.Needs.{needs}
+use borrow.Author.Tests.{le-leb, lt-leb}
 use denote.Ref.{now}
 use lib.ListN.{length-set}
 use lib.Seq.{sets-eq}
 use Rattle.vaxembro.specs.Answer.{answerAfter}
+use Rattle.vaxembro.proofs.RoomLaws.{long-is, short-is}
 use Rattle.vaxembro.proofs.answer.tell.Statement.{statement}
 use Rattle.vaxembro.proofs.answer.tell.Tie as tie
+
+returns : tie.Need-returns
+unfolding answerAfter
+returns c = (refl, short-is _ (lt-leb 4 _ (c .if1 .taken)))
 
 cast-answer : tie.Need-cast-answer
 cast-answer c = search needs
@@ -31,17 +37,19 @@ slice-write-answer-4 c = search needs
 same-length : tie.Need-same-length
 same-length c = search needs
 
-returns : tie.Need-returns
+returns-2 : tie.Need-returns-2
 unfolding answerAfter
-returns c =
-    let a = c .before .before .args in
+returns-2 c =
+    let e = c .before .before in
+    let a = e .before .args in
     let t = a .t in
-    (refl, sets-eq (t .number ∷ t .figure ∷ t .bits ∷ t .position ∷ []) (now (a .answer)) 0 (omega arith))
+    (refl, long-is _ (le-leb 4 _ (e .if1 .left)) (sets-eq (t .number ∷ t .figure ∷ t .bits ∷ t .position ∷ []) (now (a .answer)) 0 (omega arith)))
 
 pub tell-spec : {M : Type 1} → statement M
 tell-spec =
     tie.close
     (tie.spec
+    returns
     cast-answer
     slice-write-answer
     cast-answer-2
@@ -49,4 +57,4 @@ tell-spec =
     slice-write-answer-3
     slice-write-answer-4
     same-length
-    returns)
+    returns-2)
