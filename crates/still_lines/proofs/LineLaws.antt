@@ -1,23 +1,16 @@
--- One byte of a line, and the end of the input, test by test. Assumes nothing.
+-- The lent line, test by test, and that a line that ended is inside it. Assumes nothing.
 use mathlib.Core.Bool.{Bool, cond, false, true}
 use mathlib.Core.List.{List}
 use mathlib.Core.Path.{_≡_, ap₂, refl}
-use Prim.Native.Nat.{ℕ, _+_, _≤_}
+use Prim.Native.Nat.{ℕ, _≤_}
 use native.Mathlib.Omega.{arith}
 use lib.Dec.{eqb, leb, ltb}
 use lib.ListN.{length, length-set, set}
 use borrow.Author.Tests.{leb-true}
 use Rattle.forms.specs.Forms.{longest}
-use Rattle.still_lines.specs.Steps.{Inside, fedOf, lineAfter, longer, restOf}
-use Rattle.still_lines.specs.declared.lines.Fed.the-variants.{Ended, Kept, Skipped}
-
-pub fed-by : (n b : ℕ) (s t : Bool) → eqb b 10 ≡ s → leb n longest ≡ t → fedOf n b ≡ cond s (cond t (Ended n) Skipped) (Kept (cond t (n + 1) n))
-unfolding fedOf
-fed-by n b s t e f = ap₂ (λ (y z : Bool). cond y (cond z (Ended n) Skipped) (Kept (cond z (n + 1) n))) e f
-
-pub rest-by : (n : ℕ) (s t : Bool) → eqb n 0 ≡ s → leb n longest ≡ t → restOf n ≡ cond s (Kept 0) (cond t (Ended n) Skipped)
-unfolding restOf
-rest-by n s t e f = ap₂ (λ (y z : Bool). cond y (Kept 0) (cond z (Ended n) Skipped)) e f
+use Rattle.still_lines.specs.Steps.{Inside, lineAfter}
+use Rattle.lines.specs.Fed.{fedOf, longer, restOf}
+use Rattle.lines.specs.declared.fed.Fed.the-variants.{Ended, Kept, Skipped}
 
 module _ (l : List ℕ) (n b : ℕ) where
   pub line-by : (s t : Bool) → eqb b 10 ≡ s → ltb n longest ≡ t → lineAfter l n b ≡ cond s l (cond t (set l n b) l)

@@ -9,9 +9,10 @@ use lib.ListN.{drop, length, length-append}
 use Rattle.forms.specs.Forms.{longest}
 use Rattle.still_lines.proofs.LineLaws.{fed-inside, line-long, rest-inside}
 use Rattle.still_lines.proofs.RoomLaws.{done, undone}
-use Rattle.still_lines.specs.Steps.{Inside, countFed, dataFed, fedOf, lineAfter, restOf, saidInto, samplesFed, stillFed, storeFed, textFed, went}
-use Rattle.still_lines.specs.declared.lines.Fed.{Fed}
-use Rattle.still_lines.specs.declared.lines.Fed.the-variants.{Ended, Kept, Skipped}
+use Rattle.lines.specs.Fed.{fedOf, restOf}
+use Rattle.still_lines.specs.Steps.{Inside, countFed, dataFed, lineAfter, saidInto, samplesFed, stillFed, storeFed, textFed, went}
+use Rattle.lines.specs.declared.fed.Fed.{Fed}
+use Rattle.lines.specs.declared.fed.Fed.the-variants.{Ended, Kept, Skipped}
 use Rattle.still_lines.specs.declared.steps.Reading.{Reading}
 use Rattle.still_lines.specs.declared.steps.Stepped.the-variants.{TooShort, Went}
 use Rattle.still_lines.specs.declared.still.Still.{Still}

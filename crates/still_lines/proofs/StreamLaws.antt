@@ -15,14 +15,16 @@ use Rattle.numbers.proofs.Fill.{lt-or-le}
 use Rattle.forms.proofs.FormLaws.{line-long}
 use Rattle.forms.specs.Forms.{longest, malformed}
 use Rattle.still_lines.proofs.AnswerLaws.{Left, left-by}
-use Rattle.still_lines.proofs.LineLaws.{fed-by, line-by, rest-by}
+use Rattle.lines.proofs.FedLaws.{fed-by, rest-by}
+use Rattle.still_lines.proofs.LineLaws.{line-by}
 use Rattle.still_lines.proofs.LineLaws as Lines
 use Rattle.still_lines.specs.Lines.{linesAfter, unended}
-use Rattle.still_lines.specs.Steps.{countFed, fedOf, lineAfter, restOf, samplesFed, stepped, stillFed, storeFed, textEnded, textFed}
+use Rattle.lines.specs.Fed.{fedOf, restOf}
+use Rattle.still_lines.specs.Steps.{countFed, lineAfter, samplesFed, stepped, stillFed, storeFed, textEnded, textFed}
 use Rattle.still_lines.specs.Still.{endSaid, samplesAfter, stillAfter, storeAfter, textAfter, unopened}
 use Rattle.still_lines.specs.Transcript.{transcript, writtenTo}
-use Rattle.still_lines.specs.declared.lines.Fed.{Fed}
-use Rattle.still_lines.specs.declared.lines.Fed.the-variants.{Ended, Kept, Skipped}
+use Rattle.lines.specs.declared.fed.Fed.{Fed}
+use Rattle.lines.specs.declared.fed.Fed.the-variants.{Ended, Kept, Skipped}
 use Rattle.still_lines.specs.declared.still.Still.{Still}
 
 -- ---- n bytes of a line came, and they are held; or too many came

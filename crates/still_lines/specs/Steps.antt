@@ -8,8 +8,9 @@ use lib.ListN.{drop, length, set, take}
 use Rattle.forms.specs.Forms.{longest}
 use Rattle.forms.specs.Reading.{dataAfter, roomForData}
 use Rattle.still_lines.specs.Still.{endSaid, samplesAfter, stillAfter, storeAfter, textAfter, unopened}
-use Rattle.still_lines.specs.declared.lines.Fed.{Fed}
-use Rattle.still_lines.specs.declared.lines.Fed.the-variants.{Ended, Kept, Skipped}
+use Rattle.lines.specs.Fed.{fedOf, restOf}
+use Rattle.lines.specs.declared.fed.Fed.{Fed}
+use Rattle.lines.specs.declared.fed.Fed.the-variants.{Ended, Kept, Skipped}
 use Rattle.still_lines.specs.declared.steps.Reading.{Reading}
 use Rattle.still_lines.specs.declared.steps.Stepped.{Stepped}
 use Rattle.still_lines.specs.declared.steps.Stepped.the-variants.{Went}
@@ -19,18 +20,7 @@ use Rattle.still_lines.specs.declared.still.Still.{Still}
 abbrev pub atStart : Reading
 atStart = record { still = unopened; n = 0 }
 
--- ---- a line that is being read: n bytes of it came; from 32,769 on no more are held or counted
-
-abbrev pub longer : ℕ → ℕ
-longer n = cond (leb n longest) (n + 1) n
-
--- a newline ends it; one that is too long is skipped
-unfoldable pub fedOf : ℕ → ℕ → Fed
-fedOf n b = cond (eqb b 10) (cond (leb n longest) (Ended n) Skipped) (Kept (longer n))
-
--- the end of the input: what came is a line too, if anything did
-unfoldable pub restOf : ℕ → Fed
-restOf n = cond (eqb n 0) (Kept 0) (cond (leb n longest) (Ended n) Skipped)
+-- ---- the lent line, of which n bytes came: a byte that is no newline is put where there is room
 
 unfoldable pub lineAfter : List ℕ → ℕ → ℕ → List ℕ
 lineAfter l n b = cond (eqb b 10) l (cond (ltb n longest) (set l n b) l)

@@ -1,7 +1,6 @@
 // The lines of `still`, proved; the program itself only reads, hands on and writes.
 //
 // No public function has a `requires`: any byte is a step, and where too little is lent that is the answer.
-mod lines;
 mod say;
 mod span;
 mod steps;

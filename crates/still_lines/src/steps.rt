@@ -3,12 +3,14 @@ ghost use mathlib.Core.Bool.{cond};
 ghost use mathlib.Core.Path.{_≡_};
 ghost use Prim.Native.Nat.{_≤_};
 ghost use lib.ListN.{length};
+ghost use Rattle.forms.specs.Forms.{longest};
 ghost use Rattle.forms.specs.Reading.{dataAfter, roomForData};
 ghost use Rattle.still_lines.specs.Still.{samplesAfter, stillAfter, storeAfter, textAfter};
-ghost use Rattle.still_lines.specs.Steps.{Inside, atStart, countFed, dataFed, fedOf, lineAfter, restOf, roomForText, roomy, saidInto, samplesFed, stillFed, storeFed, textEnded, textFed, went};
-use crate::lines::Fed;
+ghost use Rattle.lines.specs.Fed.{fedOf, restOf};
+ghost use Rattle.still_lines.specs.Steps.{Inside, atStart, countFed, dataFed, lineAfter, roomForText, roomy, saidInto, samplesFed, stillFed, storeFed, textEnded, textFed, went};
 use crate::still::Still;
 use forms::Line;
+use lines::Fed;
 
 // Between two bytes: the state, and how many bytes of a line came.
 pub struct Reading {
@@ -108,6 +110,19 @@ pub fn start() -> Reading
     Reading { still, n: 0 }
 }
 
+// A byte that is no newline into the lent line, where there is room.
+fn keep(line: &mut [u8], n: usize, b: u8)
+    requires { ⌜ longest ≤ length (now line) ⌝ }
+    ensures { λ _. ⌜ now (line .exit) ≡ lineAfter (now (line .entry)) n b ⌝ }
+{
+    if b == 10 {
+        return;
+    }
+    if n < Line::LONGEST {
+        line[n] = b;
+    }
+}
+
 // The next byte of the input.
 pub fn step(
     r: Reading,
@@ -129,7 +144,8 @@ pub fn step(
         return Stepped::TooShort;
     }
     let still = r.still;
-    let fed = crate::lines::feed(line, r.n, b);
+    let fed = lines::feed(r.n, b);
+    keep(line, r.n, b);
     let t = told(still, fed, &*line, data, samples, store, out);
     let next = t.still;
     Stepped::Went(
@@ -160,7 +176,7 @@ pub fn finish(
         return Stepped::TooShort;
     }
     let still = r.still;
-    let fed = crate::lines::rest(r.n);
+    let fed = lines::rest(r.n);
     let t = told(still, fed, line, data, samples, store, out);
     let next = t.still;
     let end = crate::still::ended(next);

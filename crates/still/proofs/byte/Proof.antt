@@ -4,7 +4,8 @@ use borrow.Author.Needs.{needs}
 use denote.Ref.{now}
 use lib.Seq.{length-take-le}
 use Rattle.still_lines.proofs.StepLaws.{said-fits}
-use Rattle.still_lines.specs.Steps.{fedOf, lineAfter, roomy, textFed}
+use Rattle.lines.specs.Fed.{fedOf}
+use Rattle.still_lines.specs.Steps.{lineAfter, roomy, textFed}
 use Rattle.still.proofs.byte.Statement.{statement}
 use Rattle.still.proofs.byte.Tie as tie
 

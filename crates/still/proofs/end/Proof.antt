@@ -4,7 +4,8 @@ use borrow.Author.Needs.{needs}
 use denote.Ref.{now}
 use lib.Seq.{length-take-le}
 use Rattle.still_lines.proofs.StepLaws.{said-fits}
-use Rattle.still_lines.specs.Steps.{restOf, roomy, textEnded}
+use Rattle.lines.specs.Fed.{restOf}
+use Rattle.still_lines.specs.Steps.{roomy, textEnded}
 use Rattle.still.proofs.end.Statement.{statement}
 use Rattle.still.proofs.end.Tie as tie
 

@@ -10,7 +10,8 @@ use Rattle.numbers.proofs.Tests.{flag-passes, flag-refuses}
 use Rattle.still_lines.proofs.RoomLaws.{done, room-data, room-line, room-text, undone}
 use Rattle.still_lines.proofs.StepLaws.{left-alone, left-done, moved, rest-fits}
 use Rattle.still_lines.proofs.TextLaws.{said-long, second-count, second-out}
-use Rattle.still_lines.specs.Steps.{restOf, roomy, textEnded, textFed}
+use Rattle.lines.specs.Fed.{restOf}
+use Rattle.still_lines.specs.Steps.{roomy, textEnded, textFed}
 use Rattle.still_lines.specs.Still.{endSaid}
 use Rattle.still_lines.specs.declared.steps.Stepped.the-variants.{Went}
 use Rattle.still_lines.proofs.steps.finish.Statement.{statement}

@@ -6,7 +6,8 @@ use denote.Ref.{now}
 use Rattle.numbers.proofs.Tests.{flag-passes, flag-refuses}
 use Rattle.still_lines.proofs.RoomLaws.{done, room-data, room-line, room-text, undone}
 use Rattle.still_lines.proofs.StepLaws.{fed-fits, left-alone, left-done, moved}
-use Rattle.still_lines.specs.Steps.{fedOf, lineAfter, roomy, textFed}
+use Rattle.lines.specs.Fed.{fedOf}
+use Rattle.still_lines.specs.Steps.{lineAfter, roomy, textFed}
 use Rattle.still_lines.specs.declared.steps.Stepped.the-variants.{Went}
 use Rattle.still_lines.proofs.steps.step.Statement.{statement}
 use Rattle.still_lines.proofs.steps.step.Tie as tie
@@ -43,17 +44,22 @@ returns c =
     )
 
 feed-requires : tie.Need-feed-requires
-feed-requires c κs =
-    let a = c .before .before .before .before .before .before .before .before .before .before .args in
-    room-line (now (a .line)) (now (a .«data»)) (now (a .out)) (room (c .before .before))
+feed-requires c κs = search needs
+
+keep-requires : tie.Need-keep-requires
+keep-requires c κs =
+    let k = c .before .before .before in
+    let a = k .before .before .before .before .before .before .before .before .args in
+    room-line (now (a .line)) (now (a .«data»)) (now (a .out)) (room k)
 
 told-requires : tie.Need-told-requires
 told-requires c κs =
-    let f = c .before .before .before .before .before .before .before in
-    let k = f .before .before .before in
+    let w = c .before .before .before .before .before .before .before in
+    let f = w .before .before in
+    let k = f .before .before in
     let a = k .before .before .before .before .before .before .before .before .args in
     let l = room-line (now (a .line)) (now (a .«data»)) (now (a .out)) (room k) in (
-      fed-fits (now (a .line)) (a .r .n) (a .b) l (f .feed .ensures .0) (f .feed .ensures .1),
+      fed-fits (now (a .line)) (a .r .n) (a .b) l (f .feed .ensures) (w .keep .ensures),
       (room-data (now (a .line)) (now (a .«data»)) (now (a .out)) (room k), room-text (now (a .line)) (now (a .«data»)) (now (a .out)) (room k)),
     )
 
@@ -75,18 +81,18 @@ same-length-8 c = search needs
 returns-2 : tie.Need-returns-2
 returns-2 c =
     let t = c .before .before .before .before .before .before .before in
-    let f = t .before .before .before .before .before .before .before .before in
-    let k = f .before .before .before in
+    let y = t .before .before .before .before .before .before .before .before in
+    let f = y .before .before in
+    let k = f .before .before in
     let a = k .before .before .before .before .before .before .before .before .args in
     let e = room k in
-    let n = f .feed .ensures in
     let l = lineAfter (now (a .line)) (a .r .n) (a .b) in
     let g = fedOf (a .r .n) (a .b) in
-    let o = moved (a .r .still) (now (a .samples)) (now (a .store)) (now (a .«data»)) (now (a .out)) (n .1) (n .0) (t .told .ensures) in
+    let o = moved (a .r .still) (now (a .samples)) (now (a .store)) (now (a .«data»)) (now (a .out)) (y .keep .ensures) (f .feed .ensures) (t .told .ensures) in
     let w = o .0 in (
       done _ _ e (λ i. Went (record { still = w .0 i; n = w .1 .0 i }) (w .1 .1 .0 i)),
       (
-        done _ _ e (n .1),
+        done _ _ e (y .keep .ensures),
         left-done _ (a .r .still) l (now (a .samples)) (now (a .store)) g (now (a .«data»)) (now (a .out))
             (textFed (a .r .still) l (now (a .samples)) (now (a .store)) g) e (o .1 .0) (o .1 .1 .0) (o .1 .1 .1 .0) (o .1 .1 .1 .1),
       ),
@@ -102,6 +108,7 @@ step-spec =
     same-length-3
     returns
     feed-requires
+    keep-requires
     told-requires
     same-length-4
     same-length-5

@@ -1,11 +1,11 @@
--- `still_lines::lines::rest` meets its contract: no byte, room, too many. Assumes nothing.
+-- `lines::fed::rest` meets its contract: no byte, room, too many. Assumes nothing.
 use mathlib.Core.Bool.{false, true}
 use mathlib.Core.Path.{refl, sym}
 use borrow.Author.Tests.{eq-eqb, le-leb, lt-leb, ne-eqb}
 use Rattle.forms.specs.Forms.{longest}
-use Rattle.still_lines.proofs.LineLaws.{rest-by}
-use Rattle.still_lines.proofs.lines.rest.Statement.{statement}
-use Rattle.still_lines.proofs.lines.rest.Tie as tie
+use Rattle.lines.proofs.FedLaws.{rest-by}
+use Rattle.lines.proofs.fed.rest.Statement.{statement}
+use Rattle.lines.proofs.fed.rest.Tie as tie
 
 returns : tie.Need-returns
 returns c =

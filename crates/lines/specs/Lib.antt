@@ -1,0 +1,2 @@
+-- A line that is being read.
+pub mod Fed
