@@ -7,7 +7,7 @@ use lib.IntN.{ℤ}
 use lib.ListN.{length}
 use Rattle.bits.specs.Bits.{bitsFrom}
 use Rattle.coefficients.specs.declared.predictor.BlockPredictors.{BlockPredictors}
-use Rattle.samples.specs.Samples.{samplesAfter}
+use Rattle.samples.specs.Samples.{macroblockSamples, samplesAfter}
 use Rattle.texture.specs.Answer.{after}
 use Rattle.texture.specs.Macroblock.{Parts}
 use Rattle.texture.specs.MacroblockReader.{readMacroblock}
@@ -27,7 +27,7 @@ use Rattle.macroblock.specs.declared.header.MacroblockHeader.{Macroblock
 -- the state, before any bit: 11, 12, 13 as of a block, then 14, 9, 10
 unfoldable pub stateOf : List ℕ → ℕ → MacroblockHeader → MacroblockTextureContext → BlockPredictors → List (List ℕ) → ℕ → Checked
 stateOf d at h x p w room =
-    firstBad (testsOf d at x p w ++ ((leb 384 room, TooShort) ∷ headerTests h))
+    firstBad (testsOf d at x p w ++ ((leb macroblockSamples room, TooShort) ∷ headerTests h))
 
 -- what the reader makes of the bits from the start to the end of the data
 unfoldable pub sentenceOf : List ℕ → ℕ → MacroblockHeader → Bool → Bool → Res (List Parts)

@@ -11,7 +11,7 @@ use Rattle.bits.specs.Bits.{bitsFrom}
 use Rattle.idct.specs.Exact.{Near, exact}
 use Rattle.ranges.specs.Range.{highest}
 use Rattle.idct.specs.Transform.{whole}
-use Rattle.samples.specs.Samples.{placeOf}
+use Rattle.samples.specs.Samples.{macroblockSamples, placeOf}
 use Rattle.texture.specs.Compose.{Begins}
 use Rattle.texture.specs.Macroblock.{GoodMacroblock, Parts, macroblockBits}
 use Rattle.block.specs.declared.context.MacroblockTextureContext.{MacroblockTextureContext}
@@ -37,4 +37,4 @@ pub record Demand3 (d : List ℕ) (at : ℕ) (dcCoded rev : Bool) (pattern : Lis
   -- each of the 384 samples
   pub samples : (s : List Parts) → BeginsAt d at dcCoded rev pattern s → (i y u : ℕ) → i < 6 → y < 8 → u < 8 → Sample x (blockAt (values s) i) after i y u
   -- a longer slice keeps its rest
-  pub rest : (s : List Parts) → BeginsAt d at dcCoded rev pattern s → drop 384 after ≡ drop 384 before
+  pub rest : (s : List Parts) → BeginsAt d at dcCoded rev pattern s → drop macroblockSamples after ≡ drop macroblockSamples before

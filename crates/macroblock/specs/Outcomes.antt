@@ -8,6 +8,7 @@ use Rattle.numbers.specs.Outcome.{Outcome, accepted, checked, done, refused}
 use Rattle.bits.specs.Cursor.{inData}
 use Rattle.coefficients.specs.Level.{predictorsFine}
 use Rattle.coefficients.specs.declared.predictor.BlockPredictors.{BlockPredictors}
+use Rattle.samples.specs.Samples.{macroblockSamples}
 use Rattle.texture.specs.Macroblock.{Parts}
 use Rattle.texture.specs.Outcomes.{readAs}
 use Rattle.block.specs.Answer.{figureOf, numberOf}
@@ -38,5 +39,5 @@ bitsSaid at s position = (position - at, position)
 -- 11, 12, 13, 14, 9, 10, then what is read
 abbrev pub macroblockDue : List ℕ → ℕ → MacroblockHeader → Bool → Bool → MacroblockTextureContext → BlockPredictors → List (List ℕ) → ℕ → Outcome (ℕ × ℕ)
 macroblockDue d at h dcCoded rev x p w room =
-    checked ((inData (length d) at, 11) ∷ (contextFine x w, 12) ∷ (predictorsFine p, 13) ∷ (leb 384 room, 14) ∷ headerNumbers h)
+    checked ((inData (length d) at, 11) ∷ (contextFine x w, 12) ∷ (predictorsFine p, 13) ∷ (leb macroblockSamples room, 14) ∷ headerNumbers h)
     (readAs (bitsSaid at) d (sentenceOf d at h dcCoded rev))

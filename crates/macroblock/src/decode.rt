@@ -35,7 +35,7 @@ fn check_state(
     match checked {
         Checked::Bad(e) => Checked::Bad(e),
         Checked::Fine => {
-            if room < 384 {
+            if room < samples::SAMPLES {
                 return Checked::Bad(BlockAssemblyError::TooShort);
             }
             crate::header::check_header(header)

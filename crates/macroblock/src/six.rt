@@ -11,7 +11,7 @@ ghost use Rattle.coefficients.specs.UpTo.{upTo};
 ghost use Rattle.block.specs.Rebuilt.{valuesHere};
 ghost use Rattle.block.specs.Values.{contextFine, samplesOf};
 ghost use Rattle.block.specs.declared.error.Checked.the-variants.{Fine};
-ghost use Rattle.samples.specs.Samples.{blockAfter, samplesAfter};
+ghost use Rattle.samples.specs.Samples.{blockAfter, macroblockSamples, samplesAfter};
 ghost use Rattle.window_reader.specs.Ends.{endsOf};
 ghost use Rattle.macroblock.specs.Six.{samplesOfSix, valuesOfSix};
 use block::BlockAssemblyError;
@@ -32,7 +32,7 @@ fn block_into(
     w: [[u8; 8]; 8],
     samples: &mut [i32],
 ) -> Checked
-    requires { ⌜ (i < 6) × (384 ≤ length (now samples)) × (contextFine ctx w ≡ true) × (predictorsFine (numbered (now n)) ≡ true) × (placesFine (now qfs) ≡ true) × (upTo end (now qfs) ≡ now qfs) ⌝ }
+    requires { ⌜ (i < 6) × (macroblockSamples ≤ length (now samples)) × (contextFine ctx w ≡ true) × (predictorsFine (numbered (now n)) ≡ true) × (placesFine (now qfs) ≡ true) × (upTo end (now qfs) ≡ now qfs) ⌝ }
     ensures { λ r. ⌜ (r ≡ Fine) × (now (samples .exit) ≡ blockAfter i (samplesOf ctx (valuesHere (componentAt i) ctx (numbered (now (n .entry))) w (now (qfs .entry)))) (now (samples .entry))) ⌝ }
 {
     let mut spatial = [[0i32; 8]; 8];
@@ -60,7 +60,7 @@ pub(crate) fn samples_of_six(
     w: [[u8; 8]; 8],
     samples: &mut [i32],
 ) -> Checked
-    requires { ⌜ (384 ≤ length (now samples)) × (contextFine ctx w ≡ true) × (predictorsFine predictors ≡ true) × (ends ≡ endsOf (now rows)) × ((i : ℕ) → i < 6 → (placesFine (getD (now rows) i []) ≡ true) × (length (getD (now rows) i []) ≡ 64)) ⌝ }
+    requires { ⌜ (macroblockSamples ≤ length (now samples)) × (contextFine ctx w ≡ true) × (predictorsFine predictors ≡ true) × (ends ≡ endsOf (now rows)) × ((i : ℕ) → i < 6 → (placesFine (getD (now rows) i []) ≡ true) × (length (getD (now rows) i []) ≡ 64)) ⌝ }
     ensures { λ r. ⌜ (r ≡ Fine) × (now (samples .exit) ≡ samplesAfter (samplesOfSix ctx (valuesOfSix ctx predictors w (now (rows .entry)))) (now (samples .entry))) ⌝ }
 {
     let mut n = [0i32; 11];

@@ -12,6 +12,10 @@ use Rattle.samples.specs.declared.BlockWritten.the-variants as one
 use Rattle.samples.specs.declared.Written.{Written}
 use Rattle.samples.specs.declared.Written.the-variants.{Done, TooShort}
 
+-- 256 of luma, 64 of Cb and 64 of Cr
+abbrev pub macroblockSamples : ℕ
+macroblockSamples = 384
+
 -- where row y, column x of block i stands among the 384
 abbrev pub placeOf : ℕ → ℕ → ℕ → ℕ
 placeOf i y x = cond (ltb i 4) ((8 * (i / 2) + y) * 16 + 8 * (i % 2) + x) (256 + 64 * (i - 4) + 8 * y + x)
@@ -28,22 +32,22 @@ colOf k = k % 8
 
 -- the 384 samples of six blocks
 unfoldable pub mbSamples : List (List (List ℤ)) → List ℤ
-mbSamples blocks = build 384 (λ (k : ℕ). cell (getD blocks (blockOf k) []) (rowOf k) (colOf k))
+mbSamples blocks = build macroblockSamples (λ (k : ℕ). cell (getD blocks (blockOf k) []) (rowOf k) (colOf k))
 
 -- what samples s hold after a macroblock: its 384 from the front, or s where they are fewer
 abbrev pub samplesAfter : List (List (List ℤ)) → List ℤ → List ℤ
-samplesAfter blocks s = cond (leb 384 (length s)) (mbSamples blocks ++ drop 384 s) s
+samplesAfter blocks s = cond (leb macroblockSamples (length s)) (mbSamples blocks ++ drop macroblockSamples s) s
 
 -- 14 where they are fewer
 abbrev pub writtenBy : List ℤ → Written
-writtenBy s = cond (leb 384 (length s)) Done TooShort
+writtenBy s = cond (leb macroblockSamples (length s)) Done TooShort
 
 abbrev pub writtenOutcome : Written → Outcome (Unit {0})
 writtenOutcome Done = done
 writtenOutcome TooShort = refused 14 0
 
 abbrev pub writtenDue : List ℤ → Outcome (Unit {0})
-writtenDue s = checked ((leb 384 (length s), 14) ∷ []) done
+writtenDue s = checked ((leb macroblockSamples (length s), 14) ∷ []) done
 
 -- what a part of them holds after block b, its rows w apart: at k the cell at row k / w, column k % w, or what stood there
 unfoldable pub written : List ℤ → ℕ → List (List ℤ) → List ℤ
@@ -54,13 +58,13 @@ written s w b = build (length s) (λ (k : ℕ). cond (ltb (k / w) 8 && ltb (k % 
 -- what samples s hold after block i alone: its 64 among the first 384; or s where there is no such block or they are fewer
 unfoldable pub blockAfter : ℕ → List (List ℤ) → List ℤ → List ℤ
 blockAfter i b s =
-    cond (ltb i 6 && leb 384 (length s))
-    (build (length s) (λ (k : ℕ). cond (ltb k 384 && eqb (blockOf k) i) (cell b (rowOf k) (colOf k)) (getD s k (pos 0))))
+    cond (ltb i 6 && leb macroblockSamples (length s))
+    (build (length s) (λ (k : ℕ). cond (ltb k macroblockSamples && eqb (blockOf k) i) (cell b (rowOf k) (colOf k)) (getD s k (pos 0))))
     s
 
 -- 11, then 14
 abbrev pub blockWritten : ℕ → List ℤ → BlockWritten
-blockWritten i s = cond (ltb i 6) (cond (leb 384 (length s)) one.Done one.TooShort) one.OutOfRange
+blockWritten i s = cond (ltb i 6) (cond (leb macroblockSamples (length s)) one.Done one.TooShort) one.OutOfRange
 
 abbrev pub blockOutcome : BlockWritten → Outcome (Unit {0})
 blockOutcome one.Done = done
@@ -68,10 +72,10 @@ blockOutcome one.OutOfRange = refused 11 0
 blockOutcome one.TooShort = refused 14 0
 
 abbrev pub blockDue : ℕ → List ℤ → Outcome (Unit {0})
-blockDue i s = checked ((ltb i 6, 11) ∷ (leb 384 (length s), 14) ∷ []) done
+blockDue i s = checked ((ltb i 6, 11) ∷ (leb macroblockSamples (length s), 14) ∷ []) done
 
 -- ---- for laws of writing in turn
 
 -- what samples s hold once the blocks below n are written, one after the other
 unfoldable pub blocksAfter : ℕ → List (List (List ℤ)) → List ℤ → List ℤ
-blocksAfter n blocks s = build (length s) (λ (k : ℕ). cond (ltb k 384 && ltb (blockOf k) n) (cell (getD blocks (blockOf k) []) (rowOf k) (colOf k)) (getD s k (pos 0)))
+blocksAfter n blocks s = build (length s) (λ (k : ℕ). cond (ltb k macroblockSamples && ltb (blockOf k) n) (cell (getD blocks (blockOf k) []) (rowOf k) (colOf k)) (getD s k (pos 0)))

@@ -4,7 +4,10 @@ ghost use mathlib.Core.Path.{_≡_};
 ghost use Prim.Native.Nat.{_≤_, _<_, _+_, _*_};
 ghost use lib.Dec.{ltb};
 ghost use lib.ListN.{length};
-ghost use Rattle.samples.specs.Samples.{blockAfter, blockDue, blockOutcome, blockWritten, mbSamples, placeOf, samplesAfter, written, writtenBy, writtenDue, writtenOutcome};
+ghost use Rattle.samples.specs.Samples.{blockAfter, blockDue, blockOutcome, blockWritten, macroblockSamples, mbSamples, placeOf, samplesAfter, written, writtenBy, writtenDue, writtenOutcome};
+
+// The samples of a macroblock: 256 of luma, 64 of Cb and 64 of Cr.
+pub const SAMPLES: usize = 384;
 
 // The eight rows of a block, `row_length` apart, from the start of `part`.
 fn write_block(part: &mut [i32], row_length: usize, block: [[i32; 8]; 8])
@@ -20,7 +23,7 @@ fn write_block(part: &mut [i32], row_length: usize, block: [[i32; 8]; 8])
 
 // The six blocks, each into its part.
 fn write_all(samples: &mut [i32], blocks: [[[i32; 8]; 8]; 6])
-    requires { ⌜ length (now samples) ≡ 384 ⌝ }
+    requires { ⌜ length (now samples) ≡ macroblockSamples ⌝ }
     ensures { λ r. ⌜ now (samples .exit) ≡ mbSamples blocks ⌝ }
 {
     write_block(&mut samples[0..256], 16, blocks[0]);
@@ -28,7 +31,7 @@ fn write_all(samples: &mut [i32], blocks: [[[i32; 8]; 8]; 6])
     write_block(&mut samples[128..256], 16, blocks[2]);
     write_block(&mut samples[136..256], 16, blocks[3]);
     write_block(&mut samples[256..320], 8, blocks[4]);
-    write_block(&mut samples[320..384], 8, blocks[5]);
+    write_block(&mut samples[320..SAMPLES], 8, blocks[5]);
 }
 
 // Whether a macroblock was written; 14 where fewer than 384 samples are lent.
@@ -42,10 +45,10 @@ pub fn write_macroblock(samples: &mut [i32], blocks: [[[i32; 8]; 8]; 6]) -> Writ
     ensures { λ r. ⌜ (r ≡ writtenBy (now (samples .entry))) × (now (samples .exit) ≡ samplesAfter blocks (now (samples .entry))) ⌝ }
     ensures outcome { λ r. ⌜ writtenOutcome r ≡ writtenDue (now (samples .entry)) ⌝ }
 {
-    if samples.len() < 384 {
+    if samples.len() < SAMPLES {
         return Written::TooShort;
     }
-    write_all(&mut samples[0..384], blocks);
+    write_all(&mut samples[0..SAMPLES], blocks);
     Written::Done
 }
 
@@ -89,10 +92,10 @@ pub fn write_one(samples: &mut [i32], i: usize, block: [[i32; 8]; 8]) -> BlockWr
     if 6 <= i {
         return BlockWritten::OutOfRange;
     }
-    if samples.len() < 384 {
+    if samples.len() < SAMPLES {
         return BlockWritten::TooShort;
     }
     let begin = begin_of(i);
-    write_block(&mut samples[begin..384], row_length(i), block);
+    write_block(&mut samples[begin..SAMPLES], row_length(i), block);
     BlockWritten::Done
 }

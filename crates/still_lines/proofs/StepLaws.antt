@@ -8,9 +8,8 @@ use lib.IntN.{ℤ}
 use lib.ListN.{drop, length, length-append}
 use Rattle.forms.specs.Forms.{longest}
 use Rattle.still_lines.proofs.LineLaws.{fed-inside, line-long, rest-inside}
-use Rattle.still_lines.proofs.RoomLaws.{done, undone}
 use Rattle.lines.specs.Fed.{fedOf, restOf}
-use Rattle.still_lines.specs.Steps.{Inside, countFed, dataFed, lineAfter, saidInto, samplesFed, stillFed, storeFed, textFed, went}
+use Rattle.still_lines.specs.Steps.{Inside, Left, Memory, countFed, dataFed, fedTo, left, lineAfter, roomy, saidInto, samplesFed, stillFed, storeFed, textFed, went, withRoom}
 use Rattle.lines.specs.declared.fed.Fed.{Fed}
 use Rattle.lines.specs.declared.fed.Fed.the-variants.{Ended, Kept, Skipped}
 use Rattle.still_lines.specs.declared.steps.Reading.{Reading}
@@ -53,27 +52,15 @@ module _ (s : Still) (samples store : List ℤ) (old out : List ℕ) where
     pub moved : {line new : List ℕ} {f g : Fed} → line ≡ new → f ≡ g → Tells line f still n said bytes ss st text → Tells new g still n said bytes ss st text
     moved {new = new} {f} p q t = subst (λ (h : Fed). Tells new h still n said bytes ss st text) q (subst (λ (l : List ℕ). Tells l f still n said bytes ss st text) p t)
 
--- ---- what is left of the lent memory, with room and without
-
-module _ (room : Bool) (s : Still) (line : List ℕ) (samples store : List ℤ) (f : Fed) (old out said : List ℕ) where
-  abbrev pub Left : List ℕ → List ℤ → List ℤ → List ℕ → Type 0
-  Left bytes ss st text =
-      (bytes ≡ cond room (dataFed line old f) old) ×
-      ((ss ≡ cond room (samplesFed s line samples store f) samples) ×
-      ((st ≡ cond room (storeFed s line samples store f) store) × (text ≡ cond room (saidInto said out) out)))
-
-  pub left-alone : room ≡ false → Left old samples store out
-  left-alone e = (undone _ _ e, (undone _ _ e, (undone _ _ e, undone _ _ e)))
-
-  pub left-done : {bytes : List ℕ} {ss st : List ℤ} {text : List ℕ} → room ≡ true
-      → bytes ≡ dataFed line old f → ss ≡ samplesFed s line samples store f → st ≡ storeFed s line samples store f → text ≡ saidInto said out → Left bytes ss st text
-  left-done e a b c d = (done _ _ e a, (done _ _ e b, (done _ _ e c, done _ _ e d)))
-
 -- ---- what is said lies within the lent bytes
 
-pub said-fits : (room : Bool) (s : Still) (m : ℕ) (text out : List ℕ) {r : Reading} {n : ℕ} {new : List ℕ}
-    → Went r n ≡ cond room (went s m text) TooShort → new ≡ cond room (saidInto text out) out → n ≤ length new
-said-fits true s m text out {n = n} e f =
-    let k : n ≡ length text = cc in
-    omega (arith, ap length f, length-append text (drop (length text) out))
-said-fits false s m text out e f = absurd (let z : _≡_ {A = ℕ} 0 1 = cc in omega arith)
+pub said-fits : (x y : Memory) (s : Still) (f : Fed) (m : ℕ) (text : List ℕ) {r : Reading} {n : ℕ} {new : Memory}
+    → left (Went r n) new ≡ withRoom x (fedTo s y f m text) → n ≤ length (new .out)
+said-fits x y s f m text {r} {n} {new} = by (roomy (x .line) (x .bytes) (x .out))
+  where
+    by : (t : Bool) → left (Went r n) new ≡ cond t (fedTo s y f m text) (left TooShort x) → n ≤ length (new .out)
+    by true e =
+        let g : Went r n ≡ went (stillFed s (y .line) (y .samples) (y .store) f) m text = ap (λ (l : Left). l .answer) e in
+        let k : n ≡ length text = cc in
+        omega (arith, ap (λ (l : Left). length (l .memory .out)) e, length-append text (drop (length text) (y .out)))
+    by false e = absurd (let g : Went r n ≡ TooShort = ap (λ (l : Left). l .answer) e in let z : _≡_ {A = ℕ} 0 1 = cc in omega arith)

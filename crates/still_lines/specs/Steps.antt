@@ -13,7 +13,7 @@ use Rattle.lines.specs.declared.fed.Fed.{Fed}
 use Rattle.lines.specs.declared.fed.Fed.the-variants.{Ended, Kept, Skipped}
 use Rattle.still_lines.specs.declared.steps.Reading.{Reading}
 use Rattle.still_lines.specs.declared.steps.Stepped.{Stepped}
-use Rattle.still_lines.specs.declared.steps.Stepped.the-variants.{Went}
+use Rattle.still_lines.specs.declared.steps.Stepped.the-variants.{TooShort, Went}
 use Rattle.still_lines.specs.declared.still.Still.{Still}
 
 -- before the first byte
@@ -78,6 +78,50 @@ went s n text = Went (record { still = s; n = n }) (length text)
 -- they are the first of the lent ones, the rest is as before
 abbrev pub saidInto : List ℕ → List ℕ → List ℕ
 saidInto text out = text ++ drop (length text) out
+
+-- ---- a step over lent memory
+
+-- a line, its data, samples, store, and bytes for what is said
+pub record Memory : Type 0 where
+  pub line : List ℕ
+  pub bytes : List ℕ
+  pub samples : List ℤ
+  pub store : List ℤ
+  pub out : List ℕ
+
+-- an answer, and the memory after it
+pub record Left : Type 0 where
+  pub answer : Stepped
+  pub memory : Memory
+
+abbrev pub lent : List ℕ → List ℕ → List ℤ → List ℤ → List ℕ → Memory
+lent l b xs st o = record { line = l; bytes = b; samples = xs; store = st; out = o }
+
+abbrev pub left : Stepped → Memory → Left
+left a m = record { answer = a; memory = m }
+
+-- what follows of what was fed: n bytes of a line are there then, and `text` is said
+abbrev pub fedTo : Still → Memory → Fed → ℕ → List ℕ → Left
+fedTo s x f n text =
+    left (went (stillFed s (x .line) (x .samples) (x .store) f) n text)
+    (lent (x .line) (dataFed (x .line) (x .bytes) f) (samplesFed s (x .line) (x .samples) (x .store) f) (storeFed s (x .line) (x .samples) (x .store) f) (saidInto text (x .out)))
+
+abbrev pub byteTo : Still → Memory → Fed → Left
+byteTo s x f = fedTo s x f (countFed f) (textFed s (x .line) (x .samples) (x .store) f)
+
+abbrev pub endTo : Still → Memory → Fed → Left
+endTo s x f = fedTo s x f 0 (textEnded s (x .line) (x .samples) (x .store) f)
+
+-- where there is room; else 14, and all is as before
+abbrev pub withRoom : Memory → Left → Left
+withRoom x a = cond (roomy (x .line) (x .bytes) (x .out)) a (left TooShort x)
+
+-- the next byte, and the end of the input
+unfoldable pub stepBy : Reading → ℕ → Memory → Left
+stepBy r b x = withRoom x (byteTo (r .still) (lent (lineAfter (x .line) (r .n) b) (x .bytes) (x .samples) (x .store) (x .out)) (fedOf (r .n) b))
+
+unfoldable pub finishBy : Reading → Memory → Left
+finishBy r x = withRoom x (endTo (r .still) x (restOf (r .n)))
 
 -- ---- a run of steps, one for each byte and one for the end: what is written
 

@@ -21,6 +21,7 @@ use Rattle.picture.specs.declared.picture.MacroblockContext.{MacroblockContext}
 use Rattle.picture.specs.declared.picture.Picture.{Picture}
 use Rattle.picture.specs.declared.picture.PictureOpened.{PictureOpened}
 use Rattle.picture.specs.declared.picture.PictureOpened.the-variants.{Opened, Refused as Unopened}
+use Rattle.samples.specs.Samples.{macroblockSamples}
 use Rattle.still_lines.specs.Spans.{part, spanOf}
 use Rattle.still_lines.specs.Text.{endText, mbRefusedText, mbText, pictureRefusedText, pictureText}
 use Rattle.still_lines.specs.declared.still.Still.{Still}
@@ -99,7 +100,7 @@ stillDecoded s (Refused e) = s
 abbrev pub textDecoded : Picture → List ℤ → PictureDecoded → List ℕ
 textDecoded p after (Decoded n c q) =
     mbText (columnOf p) (rowOf p) n (spanOf (part after 0 256) .least) (spanOf (part after 0 256) .greatest) (spanOf (part after 256 320) .least) (spanOf (part after 256 320) .greatest)
-    (spanOf (part after 320 384) .least) (spanOf (part after 320 384) .greatest)
+    (spanOf (part after 320 macroblockSamples) .least) (spanOf (part after 320 macroblockSamples) .greatest)
 textDecoded p after (Refused e) = mbRefusedText (columnOf p) (rowOf p) (numberOf e)
 
 -- ---- a line, with the samples and the store

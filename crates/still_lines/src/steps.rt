@@ -1,13 +1,11 @@
 // One step of reading: a byte of the input, or its end. What is said goes into lent bytes.
-ghost use mathlib.Core.Bool.{cond};
 ghost use mathlib.Core.Path.{_≡_};
 ghost use Prim.Native.Nat.{_≤_};
 ghost use lib.ListN.{length};
 ghost use Rattle.forms.specs.Forms.{longest};
 ghost use Rattle.forms.specs.Reading.{dataAfter, roomForData};
 ghost use Rattle.still_lines.specs.Still.{samplesAfter, stillAfter, storeAfter, textAfter};
-ghost use Rattle.lines.specs.Fed.{fedOf, restOf};
-ghost use Rattle.still_lines.specs.Steps.{Inside, atStart, countFed, dataFed, lineAfter, roomForText, roomy, saidInto, samplesFed, stillFed, storeFed, textEnded, textFed, went};
+ghost use Rattle.still_lines.specs.Steps.{Inside, atStart, countFed, dataFed, finishBy, left, lent, lineAfter, roomForText, roomy, saidInto, samplesFed, stepBy, stillFed, storeFed, textFed};
 use crate::still::Still;
 use forms::Line;
 use lines::Fed;
@@ -133,12 +131,7 @@ pub fn step(
     store: &mut [i32],
     out: &mut [u8],
 ) -> Stepped
-    ensures { λ a. ⌜ a ≡ cond (roomy (now (line .entry)) (now («data» .entry)) (now (out .entry))) (went (stillFed (r .still) (lineAfter (now (line .entry)) (r .n) b) (now (samples .entry)) (now (store .entry)) (fedOf (r .n) b)) (countFed (fedOf (r .n) b)) (textFed (r .still) (lineAfter (now (line .entry)) (r .n) b) (now (samples .entry)) (now (store .entry)) (fedOf (r .n) b))) Stepped.TooShort ⌝ }
-    ensures line { λ a. ⌜ now (line .exit) ≡ cond (roomy (now (line .entry)) (now («data» .entry)) (now (out .entry))) (lineAfter (now (line .entry)) (r .n) b) (now (line .entry)) ⌝ }
-    ensures bytes { λ a. ⌜ now («data» .exit) ≡ cond (roomy (now (line .entry)) (now («data» .entry)) (now (out .entry))) (dataFed (lineAfter (now (line .entry)) (r .n) b) (now («data» .entry)) (fedOf (r .n) b)) (now («data» .entry)) ⌝ }
-    ensures samples { λ a. ⌜ now (samples .exit) ≡ cond (roomy (now (line .entry)) (now («data» .entry)) (now (out .entry))) (samplesFed (r .still) (lineAfter (now (line .entry)) (r .n) b) (now (samples .entry)) (now (store .entry)) (fedOf (r .n) b)) (now (samples .entry)) ⌝ }
-    ensures store { λ a. ⌜ now (store .exit) ≡ cond (roomy (now (line .entry)) (now («data» .entry)) (now (out .entry))) (storeFed (r .still) (lineAfter (now (line .entry)) (r .n) b) (now (samples .entry)) (now (store .entry)) (fedOf (r .n) b)) (now (store .entry)) ⌝ }
-    ensures out { λ a. ⌜ now (out .exit) ≡ cond (roomy (now (line .entry)) (now («data» .entry)) (now (out .entry))) (saidInto (textFed (r .still) (lineAfter (now (line .entry)) (r .n) b) (now (samples .entry)) (now (store .entry)) (fedOf (r .n) b)) (now (out .entry))) (now (out .entry)) ⌝ }
+    ensures { λ a. ⌜ left a (lent (now (line .exit)) (now («data» .exit)) (now (samples .exit)) (now (store .exit)) (now (out .exit))) ≡ stepBy r b (lent (now (line .entry)) (now («data» .entry)) (now (samples .entry)) (now (store .entry)) (now (out .entry))) ⌝ }
 {
     if !has_room(&*line, &*data, &*out) {
         return Stepped::TooShort;
@@ -166,11 +159,7 @@ pub fn finish(
     store: &mut [i32],
     out: &mut [u8],
 ) -> Stepped
-    ensures { λ a. ⌜ a ≡ cond (roomy (now (line .entry)) (now («data» .entry)) (now (out .entry))) (went (stillFed (r .still) (now (line .entry)) (now (samples .entry)) (now (store .entry)) (restOf (r .n))) 0 (textEnded (r .still) (now (line .entry)) (now (samples .entry)) (now (store .entry)) (restOf (r .n)))) Stepped.TooShort ⌝ }
-    ensures bytes { λ a. ⌜ now («data» .exit) ≡ cond (roomy (now (line .entry)) (now («data» .entry)) (now (out .entry))) (dataFed (now (line .entry)) (now («data» .entry)) (restOf (r .n))) (now («data» .entry)) ⌝ }
-    ensures samples { λ a. ⌜ now (samples .exit) ≡ cond (roomy (now (line .entry)) (now («data» .entry)) (now (out .entry))) (samplesFed (r .still) (now (line .entry)) (now (samples .entry)) (now (store .entry)) (restOf (r .n))) (now (samples .entry)) ⌝ }
-    ensures store { λ a. ⌜ now (store .exit) ≡ cond (roomy (now (line .entry)) (now («data» .entry)) (now (out .entry))) (storeFed (r .still) (now (line .entry)) (now (samples .entry)) (now (store .entry)) (restOf (r .n))) (now (store .entry)) ⌝ }
-    ensures out { λ a. ⌜ now (out .exit) ≡ cond (roomy (now (line .entry)) (now («data» .entry)) (now (out .entry))) (saidInto (textEnded (r .still) (now (line .entry)) (now (samples .entry)) (now (store .entry)) (restOf (r .n))) (now (out .entry))) (now (out .entry)) ⌝ }
+    ensures { λ a. ⌜ left a (lent (now (line .entry)) (now («data» .exit)) (now (samples .exit)) (now (store .exit)) (now (out .exit))) ≡ finishBy r (lent (now (line .entry)) (now («data» .entry)) (now (samples .entry)) (now (store .entry)) (now (out .entry))) ⌝ }
 {
     if !has_room(line, &*data, &*out) {
         return Stepped::TooShort;

@@ -183,7 +183,7 @@ fn decoded(
         PictureDecoded::Decoded(bits, _, next) => {
             let luma = crate::span::span_of(&*samples, 0, 256);
             let cb = crate::span::span_of(&*samples, 256, 320);
-            let cr = crate::span::span_of(&*samples, 320, 384);
+            let cr = crate::span::span_of(&*samples, 320, samples::SAMPLES);
             let text = crate::say::mb_line(column, row, bits, luma, cb, cr);
             let still = Still {
                 has_picture: s.has_picture,

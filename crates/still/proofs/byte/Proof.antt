@@ -1,11 +1,10 @@
 -- `still::byte`: what is said lies within the lent bytes. Assumes nothing.
-use mathlib.Core.Path.{sym, _∙_}
+use mathlib.Core.Path.{ap, sym, _∙_}
 use borrow.Author.Needs.{needs}
-use denote.Ref.{now}
 use lib.Seq.{length-take-le}
 use Rattle.still_lines.proofs.StepLaws.{said-fits}
-use Rattle.lines.specs.Fed.{fedOf}
-use Rattle.still_lines.specs.Steps.{lineAfter, roomy, textFed}
+use Rattle.still_lines.specs.Steps.{left, stepBy}
+use Rattle.still_lines.specs.declared.steps.Stepped.{Stepped}
 use Rattle.still.proofs.byte.Statement.{statement}
 use Rattle.still.proofs.byte.Tie as tie
 
@@ -19,21 +18,16 @@ enum-known-s : tie.Need-enum-known-s
 enum-known-s c = search needs
 
 slice-reshare-prefix-write-all : tie.Need-slice-reshare-prefix-write-all
+unfolding stepBy
 slice-reshare-prefix-write-all c =
     let k = c .before .before .before .before .before .before .before .before .before .before .before in
-    let a = k .before .before .before .before .before .before .before .before .before .args in
-    let l = lineAfter (now (a .line)) (a .r .n) (a .b) in
-    said-fits (roomy (now (a .line)) (now (a .«data»)) (now (a .out))) _ _ (textFed (a .r .still) l (now (a .samples)) (now (a .store)) (fedOf (a .r .n) (a .b)))
-    (now (a .out)) (sym (c .before .s .given .1) ∙ k .step .ensures .0) (k .step .ensures .1 .1 .1 .1 .1)
+    said-fits _ _ _ _ _ _ (ap (λ (s : Stepped). left s _) (sym (c .before .s .given .1)) ∙ k .step .ensures)
 
 slice-aggregate-write-all : tie.Need-slice-aggregate-write-all
+unfolding stepBy
 slice-aggregate-write-all c =
     let k = c .before .before .before .before .before .before .before .before .before .before .before .before in
-    let a = k .before .before .before .before .before .before .before .before .before .args in
-    let l = lineAfter (now (a .line)) (a .r .n) (a .b) in
-    sym (length-take-le _ _ (said-fits (roomy (now (a .line)) (now (a .«data»)) (now (a .out))) _ _
-    (textFed (a .r .still) l (now (a .samples)) (now (a .store)) (fedOf (a .r .n) (a .b))) (now (a .out)) (sym (c .before .before .s .given .1) ∙ k .step .ensures .0)
-    (k .step .ensures .1 .1 .1 .1 .1)))
+    sym (length-take-le _ _ (said-fits _ _ _ _ _ _ (ap (λ (s : Stepped). left s _) (sym (c .before .before .s .given .1)) ∙ k .step .ensures)))
 
 write-all-requires : tie.Need-write-all-requires
 write-all-requires c κs = search needs

@@ -8,10 +8,10 @@ use denote.Ref.{now}
 use lib.ListN.{length}
 use Rattle.numbers.proofs.Tests.{flag-passes, flag-refuses}
 use Rattle.still_lines.proofs.RoomLaws.{done, room-data, room-line, room-text, undone}
-use Rattle.still_lines.proofs.StepLaws.{left-alone, left-done, moved, rest-fits}
+use Rattle.still_lines.proofs.StepLaws.{moved, rest-fits}
 use Rattle.still_lines.proofs.TextLaws.{said-long, second-count, second-out}
 use Rattle.lines.specs.Fed.{restOf}
-use Rattle.still_lines.specs.Steps.{roomy, textEnded, textFed}
+use Rattle.still_lines.specs.Steps.{finishBy, left, lent, roomy, textFed}
 use Rattle.still_lines.specs.Still.{endSaid}
 use Rattle.still_lines.specs.declared.steps.Stepped.the-variants.{Went}
 use Rattle.still_lines.proofs.steps.finish.Statement.{statement}
@@ -31,14 +31,8 @@ same-length-2 : tie.Need-same-length-2
 same-length-2 c = search needs
 
 returns : tie.Need-returns
-returns c =
-    let h = c .before in
-    let a = h .before .before .before .before .before .before .args in
-    let e = flag-refuses (h .has-room .ensures) (c .if1 .taken) in (
-      undone _ _ e,
-      left-alone _ (a .r .still) (now (a .line)) (now (a .samples)) (now (a .store)) (restOf (a .r .n)) (now (a .«data»)) (now (a .out))
-          (textEnded (a .r .still) (now (a .line)) (now (a .samples)) (now (a .store)) (restOf (a .r .n))) e,
-    )
+unfolding finishBy
+returns c = undone _ _ (flag-refuses (c .before .has-room .ensures) (c .if1 .taken))
 
 rest-requires : tie.Need-rest-requires
 rest-requires c κs = search needs
@@ -81,23 +75,20 @@ same-length-6 : tie.Need-same-length-6
 same-length-6 c = search needs
 
 returns-2 : tie.Need-returns-2
+unfolding finishBy
 returns-2 c =
     let p = c .before .before in
     let t = p .before .before .before .before .before .before .before .before .before .before in
     let f = t .before .before .before .before .before in
     let k = f .before .before in
     let a = k .before .before .before .before .before .before .before .args in
-    let e = room k in
     let o = moved (a .r .still) (now (a .samples)) (now (a .store)) (now (a .«data»)) (now (a .out)) (λ i. (now (a .line))) (f .rest .ensures) (t .told .ensures) in
     let w = o .0 in
     let end = p .before .before .ended .ensures .0 ∙ ap endSaid (w .0) in
     let text = textFed (a .r .still) (now (a .line)) (now (a .samples)) (now (a .store)) (restOf (a .r .n)) in
     let count = second-count end text (w .1 .1 .0) (p .put .ensures .0 .0) in
-    let out = second-out end text (w .1 .1 .0) (now (a .out)) (o .1 .1 .1 .1) (p .put .ensures .1) in (
-      done _ _ e (λ i. Went (record { still = w .0 i; n = 0 }) (count i)),
-      left-done _ (a .r .still) (now (a .line)) (now (a .samples)) (now (a .store)) (restOf (a .r .n)) (now (a .«data»)) (now (a .out))
-          (textEnded (a .r .still) (now (a .line)) (now (a .samples)) (now (a .store)) (restOf (a .r .n))) e (o .1 .0) (o .1 .1 .0) (o .1 .1 .1 .0) out,
-    )
+    let out = second-out end text (w .1 .1 .0) (now (a .out)) (o .1 .1 .1 .1) (p .put .ensures .1) in
+    done _ _ (room k) (λ i. left (Went (record { still = w .0 i; n = 0 }) (count i)) (lent (now (a .line)) (o .1 .0 i) (o .1 .1 .0 i) (o .1 .1 .1 .0 i) (out i)))
 
 pub finish-spec : {M : Type 1} → statement M
 finish-spec =

@@ -5,9 +5,8 @@ use borrow.Author.Needs.{needs}
 use denote.Ref.{now}
 use Rattle.numbers.proofs.Tests.{flag-passes, flag-refuses}
 use Rattle.still_lines.proofs.RoomLaws.{done, room-data, room-line, room-text, undone}
-use Rattle.still_lines.proofs.StepLaws.{fed-fits, left-alone, left-done, moved}
-use Rattle.lines.specs.Fed.{fedOf}
-use Rattle.still_lines.specs.Steps.{lineAfter, roomy, textFed}
+use Rattle.still_lines.proofs.StepLaws.{fed-fits, moved}
+use Rattle.still_lines.specs.Steps.{left, lent, roomy, stepBy}
 use Rattle.still_lines.specs.declared.steps.Stepped.the-variants.{Went}
 use Rattle.still_lines.proofs.steps.step.Statement.{statement}
 use Rattle.still_lines.proofs.steps.step.Tie as tie
@@ -29,19 +28,8 @@ same-length-3 : tie.Need-same-length-3
 same-length-3 c = search needs
 
 returns : tie.Need-returns
-returns c =
-    let h = c .before in
-    let a = h .before .before .before .before .before .before .before .args in
-    let e = flag-refuses (h .has-room .ensures) (c .if1 .taken) in
-    let l = lineAfter (now (a .line)) (a .r .n) (a .b) in
-    let f = fedOf (a .r .n) (a .b) in (
-      undone _ _ e,
-      (
-        undone _ _ e,
-        left-alone _ (a .r .still) l (now (a .samples)) (now (a .store)) f (now (a .«data»)) (now (a .out))
-            (textFed (a .r .still) l (now (a .samples)) (now (a .store)) f) e,
-      ),
-    )
+unfolding stepBy
+returns c = undone _ _ (flag-refuses (c .before .has-room .ensures) (c .if1 .taken))
 
 feed-requires : tie.Need-feed-requires
 feed-requires c κs = search needs
@@ -79,24 +67,17 @@ same-length-8 : tie.Need-same-length-8
 same-length-8 c = search needs
 
 returns-2 : tie.Need-returns-2
+unfolding stepBy
 returns-2 c =
     let t = c .before .before .before .before .before .before .before in
     let y = t .before .before .before .before .before .before .before .before in
     let f = y .before .before in
     let k = f .before .before in
     let a = k .before .before .before .before .before .before .before .before .args in
-    let e = room k in
-    let l = lineAfter (now (a .line)) (a .r .n) (a .b) in
-    let g = fedOf (a .r .n) (a .b) in
     let o = moved (a .r .still) (now (a .samples)) (now (a .store)) (now (a .«data»)) (now (a .out)) (y .keep .ensures) (f .feed .ensures) (t .told .ensures) in
-    let w = o .0 in (
-      done _ _ e (λ i. Went (record { still = w .0 i; n = w .1 .0 i }) (w .1 .1 .0 i)),
-      (
-        done _ _ e (y .keep .ensures),
-        left-done _ (a .r .still) l (now (a .samples)) (now (a .store)) g (now (a .«data»)) (now (a .out))
-            (textFed (a .r .still) l (now (a .samples)) (now (a .store)) g) e (o .1 .0) (o .1 .1 .0) (o .1 .1 .1 .0) (o .1 .1 .1 .1),
-      ),
-    )
+    let w = o .0 in
+    done _ _ (room k)
+    (λ i. left (Went (record { still = w .0 i; n = w .1 .0 i }) (w .1 .1 .0 i)) (lent (y .keep .ensures i) (o .1 .0 i) (o .1 .1 .0 i) (o .1 .1 .1 .0 i) (o .1 .1 .1 .1 i)))
 
 pub step-spec : {M : Type 1} → statement M
 step-spec =
