@@ -5,6 +5,7 @@ bound() {
     (cd "$top" && rt staticlib vaxembro >"$work/say" 2>&1) || { tail -n 40 "$work/say" >&2; exit 1; }
     archive=$top/target/staticlib
     library=$archive/libvaxembro.a
-    rustc -O --edition 2021 -D warnings --crate-type rlib -L "$archive" -o "$work/libvaxembro.rlib" "$top/bindings/rust/vaxembro.rs"
+    rustc -O --edition 2021 -D warnings --crate-name vaxembro --crate-type rlib -L "$archive" -o "$work/libvaxembro.rlib" \
+        "$top/bindings/rust/src/lib.rs"
     with="--extern vaxembro=$work/libvaxembro.rlib"
 }

@@ -87,8 +87,7 @@ impl Slot {
         self.answer = [991, 992, 993, 994, 995, 996];
         let lent = &mut self.lent;
         let given = call.make_in_picture(&mut lent.state, &mut lent.samples, &mut lent.store, &mut self.answer);
-        let short = call.state_len < 5 || call.matrix_len < 64 || call.answer_len < 4;
-        self.answered("in a picture", call, given, due, short);
+        self.answered("in a picture", call, given, due);
         if given == 0 {
             self.kept.state[4] += 1;
             self.accepted(call, self.kept.state[2]);
@@ -101,8 +100,7 @@ impl Slot {
         let due = call.alone_due();
         self.answer = [991, 992, 993, 994, 995, 996];
         let given = call.make_alone(&mut self.lent.samples, &mut self.answer);
-        let short = call.neighbours_len < 21 || call.matrix_len < 64 || call.answer_len < 4;
-        self.answered("alone", call, given, due, short);
+        self.answered("alone", call, given, due);
         if given == 0 {
             if self.lent.samples[..384] != call.alone {
                 differs("samples of a macroblock alone", call);
@@ -115,8 +113,8 @@ impl Slot {
         given
     }
 
-    // The number, and the answer: where lent memory is too short it is not written.
-    fn answered(&self, what: &str, call: &Call, given: u32, due: Outcome, short: bool) {
+    // The number, and the answer: one that is too short is not written.
+    fn answered(&self, what: &str, call: &Call, given: u32, due: Outcome) {
         let told = [
             due.number as usize,
             due.figure as usize,
@@ -125,7 +123,7 @@ impl Slot {
             995,
             996,
         ];
-        let answer = if short { [991, 992, 993, 994, 995, 996] } else { told };
+        let answer = if call.answer_len < 4 { [991, 992, 993, 994, 995, 996] } else { told };
         if given != due.number || self.answer != answer {
             println!("given {given} {:?}, due {due:?}", self.answer);
             differs(what, call);

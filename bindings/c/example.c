@@ -1,7 +1,7 @@
 /* Decodes the specification's worked case: one macroblock of a picture of 1 by 1. */
 #include <stdio.h>
 
-#include "vaxembro.h"
+#include <vaxembro.h>
 
 /* The default matrix for intra blocks. */
 static const uint8_t matrix[VAXEMBRO_MATRIX] = {

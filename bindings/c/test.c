@@ -3,9 +3,12 @@
 #include <stdio.h>
 #include <string.h>
 
-#include "vaxembro.h"
+#include <vaxembro.h>
 
 enum { BYTES = 32, DC = VAXEMBRO_USE_INTRA_DC_VLC, MOST = 1048576 };
+
+/* What is lent: no pointer where the length is 0. */
+#define LENT(pointer, length) ((length) == 0 ? NULL : (pointer)), (length)
 
 static const uint8_t default_matrix[VAXEMBRO_MATRIX] = {
     8,  17, 18, 19, 21, 23, 25, 27, 17, 18, 19, 21, 23, 25, 27, 28, 20, 21, 22, 23, 24, 26, 28, 30, 21, 22, 23, 24, 26, 28, 30, 32,
@@ -100,16 +103,17 @@ static void lend(const struct call *c, struct lent *l)
 
 static uint32_t in_picture(const struct call *c, struct lent *l)
 {
-    return vaxembro_decode_macroblock(l->state, c->state_len, c->data, c->data_len, c->at, c->mb_type, c->cbpy, c->cbpc, c->quantiser_scale,
-                                      c->flags, c->matrix, c->matrix_len, l->samples, c->samples_len, l->store, c->store_len, l->answer,
-                                      c->answer_len);
+    return vaxembro_decode_macroblock(LENT(l->state, c->state_len), LENT(c->data, c->data_len), c->at, c->mb_type, c->cbpy, c->cbpc,
+                                      c->quantiser_scale, c->flags, LENT(c->matrix, c->matrix_len), LENT(l->samples, c->samples_len),
+                                      LENT(l->store, c->store_len), LENT(l->answer, c->answer_len));
 }
 
 static uint32_t alone(const struct call *c, struct lent *l)
 {
-    return vaxembro_decode_intra_macroblock(c->data, c->data_len, c->at, c->mb_type, c->cbpy, c->cbpc, c->quantiser_scale,
-                                            c->bits_per_pixel, c->flags, c->neighbours, c->neighbours_len, c->matrix, c->matrix_len,
-                                            l->samples, c->samples_len, l->answer, c->answer_len);
+    return vaxembro_decode_intra_macroblock(LENT(c->data, c->data_len), c->at, c->mb_type, c->cbpy, c->cbpc, c->quantiser_scale,
+                                            c->bits_per_pixel, c->flags, LENT(c->neighbours, c->neighbours_len),
+                                            LENT(c->matrix, c->matrix_len), LENT(l->samples, c->samples_len),
+                                            LENT(l->answer, c->answer_len));
 }
 
 typedef uint32_t decode(const struct call *, struct lent *);
@@ -138,8 +142,8 @@ static void refused(const char *what, decode *with, const struct call *c, uint32
     check(memcmp(&l, &before, sizeof l) == 0, "%s: lent memory was written", what);
 }
 
-/* Lent memory too short: nothing at all is written. */
-static void too_short(const char *what, decode *with, const struct call *c)
+/* The answer is too short: nothing at all is written. */
+static void unanswered(const char *what, decode *with, const struct call *c)
 {
     struct lent before, l;
     lend(c, &before);
@@ -461,10 +465,36 @@ static void bad_state(decode *with)
     refused("383 samples", with, &c, VAXEMBRO_TOO_SHORT, 0);
     worked(&c);
     c.matrix_len = VAXEMBRO_MATRIX - 1;
-    too_short("63 numbers of matrix", with, &c);
+    c.at = (size_t)-1;
+    refused("63 numbers of matrix", with, &c, VAXEMBRO_TOO_SHORT, 0);
     worked(&c);
     c.answer_len = VAXEMBRO_ANSWER - 1;
-    too_short("3 numbers of answer", with, &c);
+    unanswered("3 numbers of answer", with, &c);
+    c.matrix_len = VAXEMBRO_MATRIX - 1;
+    unanswered("3 numbers of answer, 63 of matrix", with, &c);
+}
+
+/* Each pointer by itself NULL with length 0; then all of them. */
+static void nothing_lent(decode *with)
+{
+    struct call c;
+    worked(&c);
+    c.data_len = 0;
+    refused("no data", with, &c, VAXEMBRO_TRUNCATED, 0);
+    worked(&c);
+    c.matrix_len = 0;
+    refused("no matrix", with, &c, VAXEMBRO_TOO_SHORT, 0);
+    worked(&c);
+    c.samples_len = 0;
+    refused("no samples", with, &c, VAXEMBRO_TOO_SHORT, 0);
+    worked(&c);
+    c.answer_len = 0;
+    unanswered("no answer", with, &c);
+    worked(&c);
+    c.state_len = c.store_len = c.neighbours_len = c.data_len = c.matrix_len = c.samples_len = 0;
+    refused("nothing but an answer", with, &c, VAXEMBRO_TOO_SHORT, 0);
+    c.answer_len = 0;
+    unanswered("nothing", with, &c);
 }
 
 /* Positions, lengths, and the context. */
@@ -529,7 +559,13 @@ static void bad_picture(void)
     refused("a store from elsewhere", in_picture, &c, VAXEMBRO_PREDICTOR, 0);
     worked(&c);
     c.state_len = VAXEMBRO_STATE - 1;
-    too_short("4 numbers of state", in_picture, &c);
+    c.at = 3;
+    refused("4 numbers of state", in_picture, &c, VAXEMBRO_TOO_SHORT, 0);
+    c.state_len = 0;
+    refused("no state", in_picture, &c, VAXEMBRO_TOO_SHORT, 0);
+    worked(&c);
+    c.store_len = 0;
+    refused("no store", in_picture, &c, VAXEMBRO_TOO_SHORT, 0);
 }
 
 static void bad_neighbours(void)
@@ -553,7 +589,10 @@ static void bad_neighbours(void)
     }
     worked(&c);
     c.neighbours_len = VAXEMBRO_NEIGHBOURS - 1;
-    too_short("20 numbers of neighbours", alone, &c);
+    c.at = 3;
+    refused("20 numbers of neighbours", alone, &c, VAXEMBRO_TOO_SHORT, 0);
+    c.neighbours_len = 0;
+    refused("no neighbours", alone, &c, VAXEMBRO_TOO_SHORT, 0);
 }
 
 static void openings(void)
@@ -566,7 +605,7 @@ static void openings(void)
         const uint32_t before[6] = {90, 91, 92, 93, 94, 95};
         uint32_t state[6];
         memcpy(state, before, sizeof state);
-        uint32_t number = vaxembro_open(all[k].width, all[k].height, all[k].depth, 1, state, all[k].state_len);
+        uint32_t number = vaxembro_open(all[k].width, all[k].height, all[k].depth, 1, LENT(state, all[k].state_len));
         check(number == all[k].number, "opening %zu: %u given", k, (unsigned)number);
         if (all[k].number == 0) {
             const uint32_t due[6] = {all[k].width, all[k].height, all[k].depth, 1, 0, 95};
@@ -584,6 +623,8 @@ static void short_answers(void)
     check(vaxembro_bits(answer, 4) == 3 && vaxembro_position(answer, 4) == 4, "an answer's bits and position");
     check(vaxembro_number(answer, 0) == 0 && vaxembro_figure(answer, 1) == 0, "a short answer's number and figure");
     check(vaxembro_bits(answer, 2) == 0 && vaxembro_position(answer, 3) == 0, "a short answer's bits and position");
+    check(vaxembro_number(NULL, 0) == 0 && vaxembro_figure(NULL, 0) == 0, "no answer's number and figure");
+    check(vaxembro_bits(NULL, 0) == 0 && vaxembro_position(NULL, 0) == 0, "no answer's bits and position");
 }
 
 int main(void)
@@ -599,6 +640,8 @@ int main(void)
     bad_bits();
     bad_state(in_picture);
     bad_state(alone);
+    nothing_lent(in_picture);
+    nothing_lent(alone);
     bad_ranges(in_picture);
     bad_ranges(alone);
     bad_picture();

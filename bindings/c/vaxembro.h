@@ -1,10 +1,13 @@
-/* The decoder for C and C++: numbers and lent memory only.
+/* The decoder for C and C++: numbers and lent memory only. Link with -lvaxembro.
  *
  * Lent memory is a pointer and then a length in numbers. It is read and written only within that length; nothing is kept after a call and
- * nothing is allocated. Parts that a call may write must not overlap the others. Link with libvaxembro.a.
+ * nothing is allocated. A pointer may be NULL where its length is 0. Parts that a call may write must not overlap the others.
  *
- * Every function ends for every input. Where `state`, `matrix`, `neighbours` or `answer` is shorter than it has to be, the function
- * gives VAXEMBRO_TOO_SHORT and writes nothing.
+ * Every function ends for every input. Where `state`, `matrix`, `neighbours` or `answer` is shorter than it has to be, opening and
+ * decoding give VAXEMBRO_TOO_SHORT before any other number, and nothing but `answer` is written.
+ *
+ * Decoding writes an `answer` of VAXEMBRO_ANSWER numbers or more in each case, also where other memory is too short: on a refusal the
+ * number, its figure, 0 bits and the position before the call.
  *
  * docs/REFUSALS.md says when each number is given, with which figure, and in which order the tests are asked.
  */
@@ -67,9 +70,8 @@ enum {
  * Gives 0, 11, 12 or 14; on a refusal the state is as it was. The store need not be cleared. */
 uint32_t vaxembro_open(uint32_t width, uint32_t height, uint32_t bits_per_pixel, uint32_t quant_type, uint32_t *state, size_t state_len);
 
-/* Decodes the macroblock that is due in the picture of `state`, from bit `at` of `data` on. Gives 0 or the number of the refusal. `answer`
- * is written in each case, on a refusal with the number, its figure, 0 bits and the position before the call; state, samples and store
- * only when it gives 0. Of cbpy the low four bits count, of cbpc the low two. */
+/* Decodes the macroblock that is due in the picture of `state`, from bit `at` of `data` on. Gives 0 or the number of the refusal; state,
+ * samples and store are written only when it gives 0. Of cbpy the low four bits count, of cbpc the low two. */
 uint32_t vaxembro_decode_macroblock(uint32_t *state, size_t state_len, const uint8_t *data, size_t data_len, size_t at, uint32_t mb_type,
                                     uint8_t cbpy, uint8_t cbpc, uint32_t quantiser_scale, uint32_t flags, const uint8_t *matrix,
                                     size_t matrix_len, int32_t *samples, size_t samples_len, int32_t *store, size_t store_len,
@@ -77,7 +79,7 @@ uint32_t vaxembro_decode_macroblock(uint32_t *state, size_t state_len, const uin
 
 /* Decodes one macroblock alone, its six blocks with the same neighbours: the DCs of A (left), B (above left) and C (above); the quantisers
  * of A and C; whether A's column and C's row are there (0 or not); A's first column and C's first row, 7 numbers each. A missing neighbour
- * has DC 2^(depth+2) and the present quantiser. */
+ * has DC 2^(depth+2) and the present quantiser. The samples are written only when it gives 0. */
 uint32_t vaxembro_decode_intra_macroblock(const uint8_t *data, size_t data_len, size_t at, uint32_t mb_type, uint8_t cbpy, uint8_t cbpc,
                                           uint32_t quantiser_scale, uint32_t bits_per_pixel, uint32_t flags, const int32_t *neighbours,
                                           size_t neighbours_len, const uint8_t *matrix, size_t matrix_len, int32_t *samples,
