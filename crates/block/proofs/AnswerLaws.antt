@@ -1,14 +1,13 @@
--- What a block's reading tells of its sentence, and that nothing after it can go wrong. Assumes nothing.
+-- That nothing after a block's reading can go wrong: its places may be handed in, and its values lie within the depth's limits. Assumes nothing.
 use mathlib.Core.Bool.{Bool, cond, false, not, true}
 use mathlib.Core.List.{List}
-use mathlib.Core.Path.{_≡_, ap, refl, subst⁻¹, sym, _∙_}
+use mathlib.Core.Path.{_≡_, ap, _∙_}
 use Prim.Native.Nat.{ℕ, _+_, _≤_}
-use native.Mathlib.Omega.{arith}
 use lib.IntN.{natAbs, pos, ℤ}
-use Rattle.bits.specs.Bits.{Bits, bitsFrom}
 use Rattle.bits.specs.declared.cursor.Cursor.{Cursor}
 use Rattle.codes.specs.declared.dc_size.DcComponent.{DcComponent}
 use Rattle.coefficients.proofs.BlockTests.{test-all}
+use Rattle.coefficients.proofs.RefusalLaws.{places-fine}
 use Rattle.inverse_quant.proofs.LimitLaws.{Limited, dequantised1-limited, dequantised1-small, dequantised1-square, dequantised2-limited, dequantised2-small, dequantised2-square}
 use Rattle.inverse_quant.specs.Dequantised.{dequantised1, dequantised2}
 use Rattle.coefficients.specs.Level.{placesFine}
@@ -16,61 +15,20 @@ use Rattle.idct.specs.Limits.{inBounds, valuesFine}
 use Rattle.numbers.specs.Grid.{cell}
 use Rattle.ranges.proofs.RangeLaws.{depth-range, within-of}
 use Rattle.ranges.specs.Range.{depthFine, highest, lowest}
-use Rattle.texture.proofs.Sentences.{block-sentences}
-use Rattle.texture.specs.Answer.{after}
-use Rattle.texture.specs.Macroblock.{Parts}
-use Rattle.texture.specs.MacroblockReader.{readBlock}
-use Rattle.texture.specs.Reader.{Res, ok, no}
-use Rattle.texture.specs.declared.error.TextureParseError.{TextureParseError}
-use Rattle.texture.specs.declared.list.EventsRead.the-variants.{Read as EventsAre, Refused as EventsRefused}
-use Rattle.block.proofs.PlaceLaws.{good-places}
-use Rattle.block.specs.Reading.{partsAt, partsRead, qfsOf}
-use Rattle.block.specs.Values.{quantOf, valuesOf}
-use Rattle.block.specs.declared.context.MacroblockTextureContext.{MacroblockTextureContext}
-use Rattle.block.specs.declared.read.PlacesRead.{PlacesRead}
+use Rattle.sentences.specs.Macroblock.{GoodBlock, Parts, Place}
+use Rattle.block_reader.proofs.PlaceLaws.{good-places as in-range}
+use Rattle.block_reader.proofs.SentenceLaws.{Sentence}
+use Rattle.block_reader.specs.Reading.{qfsOf}
+use Rattle.assembly.specs.Values.{quantOf, valuesOf}
+use Rattle.assembly.specs.declared.context.MacroblockTextureContext.{MacroblockTextureContext}
 
--- ---- the sentence behind a reading
+-- ---- the places of a good block may be handed in
 
-pub record Sentence (d : List ℕ) (at : ℕ) (m : DcComponent) (coded dcCoded rev : Bool) (qfs : List ℤ) (next : Cursor) : Type 0 where
-  pub parts : Parts
-  pub rest : Bits
-  pub read : readBlock dcCoded rev (m, coded) (bitsFrom d at) ≡ ok parts rest
-  pub place : next ≡ after d rest
-  pub qfs-is : qfs ≡ qfsOf m dcCoded parts
-  pub fine : placesFine qfs ≡ true
+pub good-places : (rev dcCoded : Bool) (s : Place) (p : Parts) → GoodBlock dcCoded rev s p → placesFine (qfsOf (s .0) dcCoded p) ≡ true
+good-places rev dcCoded s p g = let r = in-range rev dcCoded s p g in places-fine (qfsOf (s .0) dcCoded p) (r .long) (r .first) (λ k a b. r .later k a)
 
-module _ (d : List ℕ) (at : ℕ) (m : DcComponent) (coded dcCoded rev : Bool) (one : PlacesRead) (q : one ≡ partsAt d at m coded dcCoded rev) where
-  pub sentence : {next : Cursor} → one .answer ≡ EventsAre next → Sentence d at m coded dcCoded rev (one .qfs) next
-  sentence {next} f = go (readBlock dcCoded rev (m, coded) (bitsFrom d at)) refl q
-    where
-      go : (y : Res Parts) → readBlock dcCoded rev (m, coded) (bitsFrom d at) ≡ y → one ≡ partsRead d m dcCoded y → Sentence d at m coded dcCoded rev (one .qfs) next
-      go (ok s r) e g =
-          let a : EventsAre next ≡ EventsAre (after d r) = sym f ∙ ap (λ (x : PlacesRead). x .answer) g in
-          let k : one .qfs ≡ qfsOf m dcCoded s = ap (λ (x : PlacesRead). x .qfs) g in
-          let p : next ≡ after d r = cc in
-          record {
-            parts = s;
-            rest = r;
-            read = e;
-            place = p;
-            qfs-is = k;
-            fine = subst⁻¹ (λ (xs : List ℤ). placesFine xs ≡ true) k (good-places rev dcCoded (m, coded) s (block-sentences dcCoded rev (m, coded) .begins (bitsFrom d at) s r e .0));
-          }
-      go (no n) e g =
-          let a : EventsAre next ≡ EventsRefused n = sym f ∙ ap (λ (x : PlacesRead). x .answer) g in
-          absurd (let z : _≡_ {A = ℕ} 0 1 = cc in omega arith)
-
-  pub none : {e : TextureParseError} → one .answer ≡ EventsRefused e → readBlock dcCoded rev (m, coded) (bitsFrom d at) ≡ no e
-  none {e} f = go (readBlock dcCoded rev (m, coded) (bitsFrom d at)) q
-    where
-      go : (y : Res Parts) → one ≡ partsRead d m dcCoded y → y ≡ no e
-      go (ok s r) g =
-          let a : EventsRefused e ≡ EventsAre (after d r) = sym f ∙ ap (λ (x : PlacesRead). x .answer) g in
-          absurd (let z : _≡_ {A = ℕ} 0 1 = cc in omega arith)
-      go (no n) g =
-          let a : EventsRefused e ≡ EventsRefused n = sym f ∙ ap (λ (x : PlacesRead). x .answer) g in
-          let k : n ≡ e = cc in
-          ap no k
+pub sentence-fine : {d : List ℕ} {at : ℕ} {m : DcComponent} {coded dcCoded rev : Bool} {qfs : List ℤ} {next : Cursor} → Sentence d at m coded dcCoded rev qfs next → placesFine qfs ≡ true
+sentence-fine {m = m} {coded = coded} {dcCoded = dcCoded} {rev = rev} s = ap placesFine (s .qfs-is) ∙ good-places rev dcCoded (m, coded) (s .parts) (s .good)
 
 -- ---- the values lie within the depth's limits
 

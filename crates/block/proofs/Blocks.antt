@@ -9,20 +9,20 @@ use lib.IntN.{ℤ}
 use Rattle.bits.specs.Bits.{Bits, bitsFrom}
 use Rattle.bits.specs.declared.cursor.Cursor.{Cursor}
 use Rattle.codes.specs.declared.dc_size.DcComponent.{DcComponent}
-use Rattle.coefficients.specs.declared.predictor.BlockPredictors.{BlockPredictors}
+use Rattle.prediction.specs.declared.predictor.BlockPredictors.{BlockPredictors}
 use Rattle.idct.proofs.Refusals.{taken-near}
-use Rattle.idct.specs.Exact.{Near, exact}
-use Rattle.idct.specs.Transform.{whole}
-use Rattle.texture.proofs.Sentences.{block-sentences}
-use Rattle.texture.specs.Event.{_▸_}
-use Rattle.texture.specs.Macroblock.{GoodBlock, Parts, blockBits}
-use Rattle.texture.specs.MacroblockReader.{readBlock}
-use Rattle.texture.specs.Reader.{Res, ok, no}
+use Rattle.exact_transform.specs.Exact.{Near, exact}
+use Rattle.exact_transform.specs.Transform.{whole}
+use Rattle.sentences.proofs.Sentences.{block-sentences}
+use Rattle.events.specs.Event.{_▸_}
+use Rattle.sentences.specs.Macroblock.{GoodBlock, Parts, blockBits}
+use Rattle.sentences.specs.MacroblockReader.{readBlock}
+use Rattle.fields.specs.Reader.{Res, ok, no}
 use Rattle.block.proofs.AnswerLaws.{values-fine}
-use Rattle.block.proofs.ValueLaws.{depth-fine}
-use Rattle.block.specs.Answer.{levelsIn, told, valuesIn}
-use Rattle.block.specs.Values.{contextFine}
-use Rattle.block.specs.declared.context.MacroblockTextureContext.{MacroblockTextureContext}
+use Rattle.assembly.proofs.ContextLaws.{depth-fine}
+use Rattle.block.specs.Decoded.{levelsIn, told, valuesIn}
+use Rattle.assembly.specs.Values.{contextFine}
+use Rattle.assembly.specs.declared.context.MacroblockTextureContext.{MacroblockTextureContext}
 use Rattle.block.specs.declared.intra.BlockDecoded.the-variants.{Decoded}
 
 module _ (d : List ℕ) (at : ℕ) (c : DcComponent) (coded dcCoded rev : Bool) (x : MacroblockTextureContext) (p : BlockPredictors) (w : List (List ℕ)) where

@@ -14,20 +14,20 @@ use Rattle.codes.specs.declared.dc_size.BlockComponent.{BlockComponent}
 use Rattle.codes.specs.declared.dc_size.BlockComponent.the-variants.{Component, OutOfRange as NoComponent}
 use Rattle.codes.specs.declared.dc_size.DcComponent.{DcComponent}
 use Rattle.coefficients.specs.Level.{levelsAnswer, placesFine, predictorsFine}
-use Rattle.coefficients.specs.Refusal.{firstBad as firstStage}
-use Rattle.coefficients.specs.declared.predictor.BlockPredictors.{BlockPredictors}
-use Rattle.coefficients.specs.declared.refusal.CoefficientError.{CoefficientError}
-use Rattle.coefficients.specs.declared.refusal.Stage.{Stage}
-use Rattle.coefficients.specs.declared.refusal.Stage.the-variants.{Done, Refused as StageRefused}
-use Rattle.block.proofs.OutcomeLaws.{answered}
-use Rattle.block.proofs.ValueLaws.{quantiser-fine}
-use Rattle.block.specs.Answer.{firstBad}
+use Rattle.prediction.specs.Refusal.{firstBad as firstStage}
+use Rattle.prediction.specs.declared.predictor.BlockPredictors.{BlockPredictors}
+use Rattle.prediction.specs.declared.refusal.CoefficientError.{CoefficientError}
+use Rattle.prediction.specs.declared.refusal.Stage.{Stage}
+use Rattle.prediction.specs.declared.refusal.Stage.the-variants.{Done, Refused as StageRefused}
+use Rattle.assembly.proofs.ContextLaws.{quantiser-fine}
+use Rattle.assembly.proofs.OutcomeLaws.{answered}
+use Rattle.assembly.specs.Answer.{firstBad}
 use Rattle.block.specs.Rebuilt.{dcHere, handedTests, keptBy, levelsHere, rebuildTests, rebuiltAnswer, rebuiltBy, rebuiltDue, rebuiltLevels, rebuiltOutcome, rebuiltSamples, valuesHere}
-use Rattle.block.specs.Values.{contextFine, samplesOf}
-use Rattle.block.specs.declared.context.MacroblockTextureContext.{MacroblockTextureContext}
-use Rattle.block.specs.declared.error.BlockAssemblyError.the-variants.{Context, OutOfRange, Predictor}
-use Rattle.block.specs.declared.error.Checked.{Checked}
-use Rattle.block.specs.declared.error.Checked.the-variants.{Bad, Fine}
+use Rattle.assembly.specs.Values.{contextFine, samplesOf}
+use Rattle.assembly.specs.declared.context.MacroblockTextureContext.{MacroblockTextureContext}
+use Rattle.assembly.specs.declared.error.BlockAssemblyError.the-variants.{Context, OutOfRange, Predictor}
+use Rattle.assembly.specs.declared.error.Checked.{Checked}
+use Rattle.assembly.specs.declared.error.Checked.the-variants.{Bad, Fine}
 use Rattle.block.specs.declared.reconstruct.BlockRebuilt.{BlockRebuilt}
 use Rattle.block.specs.declared.reconstruct.BlockRebuilt.the-variants.{Rebuilt, Refused}
 
@@ -70,17 +70,12 @@ module _ (c : DcComponent) (x : MacroblockTextureContext) (p : BlockPredictors) 
   thirteen a b e = let s = state false e in
       (sym (ap (λ (k : Checked). rebuiltBy k (dcHere c x p w qfs)) s), (sym (ap (λ (k : Checked). keptBy k (samplesOf x (valuesHere c x p w qfs)) a) s), sym (ap (λ (k : Checked). keptBy k (levelsHere c x p w qfs) b) s)))
 
-  pub rebuilt : (oldSamples oldLevels samples levels : List (List ℤ)) (dc : ℤ) → handed ≡ true → dc ≡ dcHere c x p w qfs → samples ≡ samplesOf x (valuesHere c x p w qfs) → levels ≡ levelsHere c x p w qfs
-      → Given (firstBad (handedTests c x p w qfs)) (Rebuilt dc) samples oldSamples levels oldLevels
-  rebuilt a b samples levels dc e d f l = let s = state true e in (
-    ap Rebuilt d ∙ sym (ap (λ (k : Checked). rebuiltBy k (dcHere c x p w qfs)) s),
+  pub rebuilt : (oldSamples oldLevels samples levels : List (List ℤ)) (r : BlockRebuilt) → handed ≡ true → r ≡ Rebuilt (dcHere c x p w qfs) → samples ≡ samplesOf x (valuesHere c x p w qfs) → levels ≡ levelsHere c x p w qfs
+      → Given (firstBad (handedTests c x p w qfs)) r samples oldSamples levels oldLevels
+  rebuilt a b samples levels r e d f l = let s = state true e in (
+    d ∙ sym (ap (λ (k : Checked). rebuiltBy k (dcHere c x p w qfs)) s),
     (f ∙ sym (ap (λ (k : Checked). keptBy k (samplesOf x (valuesHere c x p w qfs)) a) s), l ∙ sym (ap (λ (k : Checked). keptBy k (levelsHere c x p w qfs) b) s)),
   )
-
-  -- the same of an answer that is so
-  pub rebuilt-as : (oldSamples oldLevels samples levels : List (List ℤ)) (r : BlockRebuilt) → handed ≡ true → r ≡ Rebuilt (dcHere c x p w qfs) → samples ≡ samplesOf x (valuesHere c x p w qfs) → levels ≡ levelsHere c x p w qfs
-      → Given (firstBad (handedTests c x p w qfs)) r samples oldSamples levels oldLevels
-  rebuilt-as a b samples levels r e d f l = let g = rebuilt a b samples levels (dcHere c x p w qfs) e refl f l in (d ∙ g .0, g .1)
 
   -- where 13 does not arise
   pub handed-over : (r : BlockRebuilt) (samples oldSamples levels oldLevels : List (List ℤ)) → predictorsFine p ≡ true → placesFine qfs ≡ true
@@ -114,7 +109,7 @@ module _ (i : ℕ) (x : MacroblockTextureContext) (p : BlockPredictors) (w : Lis
       (r ≡ rebuiltAnswer i x p w qfs)
       × ((samples ≡ rebuiltSamples i x p w qfs oldSamples) × ((levels ≡ rebuiltLevels i x p w qfs oldLevels) × (rebuiltOutcome r ≡ rebuiltDue i x p w qfs)))
 
-  by-number : {r : BlockRebuilt} → r ≡ rebuiltAnswer i x p w qfs → rebuiltOutcome r ≡ rebuiltDue i x p w qfs
+  pub by-number : {r : BlockRebuilt} → r ≡ rebuiltAnswer i x p w qfs → rebuiltOutcome r ≡ rebuiltDue i x p w qfs
   by-number e = ap rebuiltOutcome e ∙ answered rebuiltOutcome (λ (k : Checked). rebuiltBy k (dcHere (componentAt i) x p w qfs)) (λ e. refl) (rebuildTests i x p w qfs) (refl, (refl, (refl, tt)))
 
   met : (k : Checked) {r : BlockRebuilt} {samples levels : List (List ℤ)} (oldSamples oldLevels : List (List ℤ)) → firstBad (rebuildTests i x p w qfs) ≡ k

@@ -13,39 +13,40 @@ use Rattle.numbers.specs.Grid.{cell}
 use Rattle.numbers.specs.Outcome.{accepted, checked}
 use Rattle.ranges.specs.Range.{dcFine, depthFine, differenceFine, levelFine, quantiserFine}
 use Rattle.codes.specs.declared.dc_size.DcComponent.{DcComponent}
-use Rattle.coefficients.proofs.UpToLaws.{up-to-dc}
+use Rattle.scan_rows.proofs.UpToLaws.{up-to-dc}
 use Rattle.coefficients.specs.Level.{levels, placesFine, predictorsFine}
 use Rattle.coefficients.specs.Needed.{numbered}
-use Rattle.coefficients.specs.Prediction.{dcPrediction, dcScaler, directionBy}
-use Rattle.coefficients.specs.Stages.{dcAnswer, directionAnswer, scalerAnswer, valueUnless}
-use Rattle.coefficients.specs.UpTo.{upTo}
-use Rattle.coefficients.specs.declared.predictor.BlockPredictors.{BlockPredictors}
-use Rattle.coefficients.specs.declared.refusal.CoefficientError.{CoefficientError}
-use Rattle.coefficients.specs.declared.refusal.CoefficientError.the-variants.{Context, HandedIn}
-use Rattle.coefficients.specs.declared.refusal.Direction.{Direction}
-use Rattle.coefficients.specs.declared.refusal.Direction.the-variants.{Is as DirectionIs, Refused as DirectionRefused}
-use Rattle.coefficients.specs.declared.refusal.Scaler.{Scaler}
-use Rattle.coefficients.specs.declared.refusal.Scaler.the-variants.{Is as ScalerIs, Refused as ScalerRefused}
-use Rattle.coefficients.specs.declared.refusal.Value.{Value}
-use Rattle.coefficients.specs.declared.refusal.Value.the-variants.{Is as ValueIs, Refused as ValueRefused}
-use Rattle.coefficients.specs.declared.scan.DcPredictionDirection.{DcPredictionDirection}
+use Rattle.prediction.specs.Prediction.{dcPrediction, dcScaler, directionBy}
+use Rattle.prediction.specs.Stages.{dcAnswer, directionAnswer, scalerAnswer, valueUnless}
+use Rattle.scan_rows.specs.UpTo.{upTo}
+use Rattle.prediction.specs.declared.predictor.BlockPredictors.{BlockPredictors}
+use Rattle.prediction.specs.declared.refusal.CoefficientError.{CoefficientError}
+use Rattle.prediction.specs.declared.refusal.CoefficientError.the-variants.{Context, HandedIn}
+use Rattle.prediction.specs.declared.refusal.Direction.{Direction}
+use Rattle.prediction.specs.declared.refusal.Direction.the-variants.{Is as DirectionIs, Refused as DirectionRefused}
+use Rattle.prediction.specs.declared.refusal.Scaler.{Scaler}
+use Rattle.prediction.specs.declared.refusal.Scaler.the-variants.{Is as ScalerIs, Refused as ScalerRefused}
+use Rattle.prediction.specs.declared.refusal.Value.{Value}
+use Rattle.prediction.specs.declared.refusal.Value.the-variants.{Is as ValueIs, Refused as ValueRefused}
+use Rattle.scan.specs.declared.DcPredictionDirection.{DcPredictionDirection}
 use Rattle.idct.proofs.Apart.{answers-apart}
 use Rattle.idct.specs.Clipped.{clipped, dcAndLast, dcBlock}
 use Rattle.idct.specs.Limits.{blockAfter, idctOutcome, inBounds}
 use Rattle.idct.specs.declared.limits.IdctAnswer.{IdctAnswer}
 use Rattle.idct.specs.declared.limits.IdctAnswer.the-variants.{Transformed}
-use Rattle.inverse_quant.specs.Dequantised.{even, intraDc}
-use Rattle.inverse_quant.specs.Stages.{intraDcAnswer}
+use Rattle.mismatch.specs.Mismatch.{even}
+use Rattle.dequantise.specs.Methods.{intraDc}
+use Rattle.dequantise.specs.Stages.{intraDcAnswer}
 use Rattle.block.proofs.RebuildLaws.{Given}
 use Rattle.block.proofs.ShortLaws.{beside-true, dc-first, dc-levels, dc-places, dc-values}
-use Rattle.block.specs.Answer.{firstBad}
+use Rattle.assembly.specs.Answer.{firstBad}
 use Rattle.block.specs.Rebuilt.{dcHere, handedTests, keptBy, levelsHere, rebuiltBy, valuesHere}
 use Rattle.block.specs.Short.{adds, dcLevel, dcValue, dcValues}
-use Rattle.block.specs.Values.{samplesOf, valuesOf}
-use Rattle.block.specs.declared.context.MacroblockTextureContext.{MacroblockTextureContext}
-use Rattle.block.specs.declared.error.BlockAssemblyError.the-variants.{Predictor}
-use Rattle.block.specs.declared.error.Checked.{Checked}
-use Rattle.block.specs.declared.error.Checked.the-variants.{Bad, Fine}
+use Rattle.assembly.specs.Values.{samplesOf, valuesOf}
+use Rattle.assembly.specs.declared.context.MacroblockTextureContext.{MacroblockTextureContext}
+use Rattle.assembly.specs.declared.error.BlockAssemblyError.the-variants.{Predictor}
+use Rattle.assembly.specs.declared.error.Checked.{Checked}
+use Rattle.assembly.specs.declared.error.Checked.the-variants.{Bad, Fine}
 use Rattle.block.specs.declared.reconstruct.BlockRebuilt.{BlockRebuilt}
 use Rattle.block.specs.declared.reconstruct.BlockRebuilt.the-variants.{Rebuilt, Refused}
 

@@ -18,25 +18,28 @@ use Rattle.numbers.specs.Sum.{sumZ}
 use Rattle.ranges.proofs.RangeLaws.{highest-not-negative, lowest-negative}
 use Rattle.ranges.specs.Range.{differenceFine, highest, lowest}
 use Rattle.codes.specs.declared.dc_size.DcComponent.{DcComponent}
-use Rattle.coefficients.proofs.BlockLaws.{square-block}
+use Rattle.scan.proofs.BlockLaws.{square-block}
 use Rattle.coefficients.proofs.NeededLaws.{zero-predicts}
-use Rattle.coefficients.proofs.ScanLaws.{grid-first, grid-later}
-use Rattle.coefficients.proofs.UpToLaws.{up-to-dc, up-to-rest}
+use Rattle.scan.proofs.ScanLaws.{grid-first, grid-later}
+use Rattle.scan_rows.proofs.UpToLaws.{up-to-dc, up-to-rest}
 use Rattle.coefficients.specs.Level.{intraScan, levels, placesFine, saturated}
 use Rattle.coefficients.specs.Needed.{numbered, sevenIn, someValue}
-use Rattle.coefficients.specs.Prediction.{acPrediction, columnPrediction, dcPrediction, dcScaler, directionBy, predicted, rowPrediction}
-use Rattle.coefficients.specs.Scan.{gridOf}
-use Rattle.coefficients.specs.UpTo.{upTo}
-use Rattle.coefficients.specs.declared.predictor.BlockPredictors.{BlockPredictors}
-use Rattle.coefficients.specs.declared.scan.DcPredictionDirection.{DcPredictionDirection}
-use Rattle.coefficients.specs.declared.scan.DcPredictionDirection.the-variants.{FromAbove, FromLeft}
-use Rattle.coefficients.specs.declared.scan.ScanType.{ScanType}
+use Rattle.prediction.specs.Prediction.{acPrediction, columnPrediction, dcPrediction, dcScaler, directionBy, predicted, rowPrediction}
+use Rattle.scan.specs.Scan.{gridOf}
+use Rattle.scan_rows.specs.UpTo.{upTo}
+use Rattle.prediction.specs.declared.predictor.BlockPredictors.{BlockPredictors}
+use Rattle.scan.specs.declared.DcPredictionDirection.{DcPredictionDirection}
+use Rattle.scan.specs.declared.DcPredictionDirection.the-variants.{FromAbove, FromLeft}
+use Rattle.scan.specs.declared.ScanType.{ScanType}
 use Rattle.idct.specs.Clipped.{dcAndLast, dcBlock}
 use Rattle.inverse_quant.proofs.MismatchLaws.{mismatched-even, mismatched-odd}
-use Rattle.inverse_quant.specs.Dequantised.{dequantised1, dequantised2, even, fPrime1, intraDc, isDc, limitedF, method1, method2, mismatched, sumOf, valueOf1, valueOf2}
+use Rattle.dequantise.specs.Methods.{limitedF}
+use Rattle.inverse_quant.specs.Dequantised.{dequantised1, dequantised2, fPrime1, isDc, valueOf1, valueOf2}
+use Rattle.mismatch.specs.Mismatch.{even, mismatched, sumOf}
+use Rattle.dequantise.specs.Methods.{intraDc, method1, method2}
 use Rattle.block.specs.Short.{adds, dcLevel, dcValue, dcValues}
-use Rattle.block.specs.Values.{quantOf, valuesOf}
-use Rattle.block.specs.declared.context.MacroblockTextureContext.{MacroblockTextureContext}
+use Rattle.assembly.specs.Values.{quantOf, valuesOf}
+use Rattle.assembly.specs.declared.context.MacroblockTextureContext.{MacroblockTextureContext}
 
 -- ---- where no neighbour adds
 

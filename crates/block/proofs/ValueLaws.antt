@@ -1,23 +1,24 @@
--- A context that is fine, and the values of levels under it: no method refuses. Assumes nothing.
+-- The values of levels under a context that is fine: neither method refuses. Assumes nothing.
 use mathlib.Core.Bool.{Bool, cond, false, not, true, _&&_}
 use mathlib.Core.List.{List}
 use mathlib.Core.Path.{_≡_, ap, ap₂, refl, sym, _∙_}
 use Prim.Native.Nat.{ℕ}
 use lib.IntN.{ℤ}
 use Rattle.codes.specs.declared.dc_size.DcComponent.{DcComponent}
-use Rattle.inverse_quant.specs.Dequantised.{answer1, answer2, dequantised1, dequantised2, nonZero}
+use Rattle.dequantise.specs.Methods.{nonZero}
 use Rattle.inverse_quant.specs.Either.{answerBy, dequantisedBy}
-use Rattle.inverse_quant.specs.declared.context.InverseQuantContext.{InverseQuantContext}
+use Rattle.dequantise.specs.declared.context.InverseQuantContext.{InverseQuantContext}
 use Rattle.coefficients.specs.Level.{blockFine}
-use Rattle.coefficients.specs.Refusal.{after, firstBad}
-use Rattle.coefficients.specs.declared.refusal.CoefficientError.{CoefficientError}
-use Rattle.coefficients.specs.declared.refusal.Stage.{Stage}
-use Rattle.coefficients.specs.declared.refusal.Stage.the-variants.{Done, Refused}
-use Rattle.numbers.proofs.Tests.{both-true, true-both}
+use Rattle.prediction.specs.Refusal.{after, firstBad}
+use Rattle.prediction.specs.declared.refusal.CoefficientError.{CoefficientError}
+use Rattle.prediction.specs.declared.refusal.Stage.{Stage}
+use Rattle.prediction.specs.declared.refusal.Stage.the-variants.{Done, Refused}
+use Rattle.numbers.proofs.Tests.{true-both}
 use Rattle.numbers.specs.Every.{every}
 use Rattle.ranges.specs.Range.{depthFine, quantiserFine}
-use Rattle.block.specs.Values.{contextFine, quantOf, valuesOf}
-use Rattle.block.specs.declared.context.MacroblockTextureContext.{MacroblockTextureContext}
+use Rattle.assembly.proofs.ContextLaws.{depth-fine, matrix-fine, quantiser-fine}
+use Rattle.assembly.specs.Values.{contextFine, quantOf, valuesOf}
+use Rattle.assembly.specs.declared.context.MacroblockTextureContext.{MacroblockTextureContext}
 
 -- a stage that is done leaves its block
 pub done-leaves : {A : Type 0} (s : Stage) (new old : A) → s ≡ Done → after s new old ≡ new
@@ -28,40 +29,16 @@ pub refused-leaves : {A : Type 0} (s : Stage) (n : CoefficientError) (new old : 
 refused-leaves s n new old e = ap (λ (x : Stage). after x new old) e
 
 module _ (x : MacroblockTextureContext) (w : List (List ℕ)) (h : contextFine x w ≡ true) where
-  pub quantiser-fine : quantiserFine (x .«quantiser_scale») ≡ true
-  quantiser-fine = both-true _ _ h .0
-
-  pub depth-fine : depthFine (x .«bits_per_pixel») ≡ true
-  depth-fine = both-true _ _ (both-true (quantiserFine (x .«quantiser_scale»)) _ h .1) .0
-
-  matrix-fine : cond (x .«quant_type») (every (every nonZero) w) true ≡ true
-  matrix-fine = both-true (depthFine (x .«bits_per_pixel»)) _ (both-true (quantiserFine (x .«quantiser_scale»)) _ h .1) .1
-
   both : (quantiserFine (x .«quantiser_scale») && depthFine (x .«bits_per_pixel»)) ≡ true
-  both = true-both quantiser-fine depth-fine
+  both = true-both (quantiser-fine x w h) (depth-fine x w h)
 
-  -- one case for each method
   module _ (c : DcComponent) (qf : List (List ℤ)) (g : blockFine qf ≡ true) where
-    abbrev byMethod : Bool → Bool → List (List ℤ)
-    byMethod t control = cond t (dequantised1 control (quantOf c x) w qf) (dequantised2 (quantOf c x) qf)
-
     -- the matrix, by the method that is asked for
     matrix-by : (t : Bool) → x .«quant_type» ≡ t → cond t (every (every nonZero) w) true ≡ true
-    matrix-by t e = sym (ap (λ (s : Bool). cond s (every (every nonZero) w) true) e) ∙ matrix-fine
+    matrix-by t e = sym (ap (λ (s : Bool). cond s (every (every nonZero) w) true) e) ∙ matrix-fine x w h
 
     module _ (k : InverseQuantContext) (is : k ≡ quantOf c x) where
-      pub by-method2 : (r old : List (List ℤ)) → x .«quant_type» ≡ false → r ≡ after (answer2 k qf) (dequantised2 k qf) old → r ≡ valuesOf c x w qf
-      by-method2 r old e q =
-          q ∙ ap (λ (y : InverseQuantContext). after (answer2 y qf) (dequantised2 y qf) old) is
-          ∙ done-leaves (answer2 (quantOf c x) qf) _ old (ap₂ firstBad both g) ∙ sym (ap (λ (t : Bool). byMethod t (not (x .«intra_mismatch_exempt»))) e)
-
-      pub by-method1 : (r old : List (List ℤ)) (control : Bool) → x .«quant_type» ≡ true → not (x .«intra_mismatch_exempt») ≡ control
-          → r ≡ after (answer1 k w qf) (dequantised1 control k w qf) old → r ≡ valuesOf c x w qf
-      by-method1 r old control e f q =
-          q ∙ ap (λ (y : InverseQuantContext). after (answer1 y w qf) (dequantised1 control y w qf) old) is
-          ∙ done-leaves (answer1 (quantOf c x) w qf) _ old (ap₂ firstBad (true-both both (matrix-by true e)) g) ∙ sym (ap₂ byMethod e f)
-
-      -- by either method at once: it is done
+      -- by either method it is done
       pub rows-done : (s : Stage) → s ≡ answerBy (x .«quant_type») k w qf → s ≡ Done
       rows-done s e = e ∙ ap (λ (y : InverseQuantContext). answerBy (x .«quant_type») y w qf) is ∙ go (x .«quant_type») refl
         where

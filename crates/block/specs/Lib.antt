@@ -1,10 +1,5 @@
--- One intra block: its values, its samples, and what is answered of it.
-pub mod Values
-pub mod Reading
-pub mod Rows
-pub mod Answer
+-- One intra block: what is answered of it, from its bits and from its places.
+pub mod Decoded
 pub mod Rebuilt
 pub mod Outcomes
-pub mod Pattern
-pub mod Matrix
 pub mod Short

@@ -9,14 +9,14 @@ use Rattle.numbers.specs.Outcome.{Outcome, accepted, checked, refused}
 use Rattle.codes.specs.Component.{componentAt}
 use Rattle.codes.specs.declared.dc_size.DcComponent.{DcComponent}
 use Rattle.coefficients.specs.Level.{placesFine, predictorsFine}
-use Rattle.coefficients.specs.declared.predictor.BlockPredictors.{BlockPredictors}
-use Rattle.block.specs.Answer.{figureOf, firstBad, numberOf}
-use Rattle.block.specs.Values.{contextFine, levelsOf, samplesOf, valuesOf}
-use Rattle.block.specs.declared.context.MacroblockTextureContext.{MacroblockTextureContext}
-use Rattle.block.specs.declared.error.BlockAssemblyError.{BlockAssemblyError}
-use Rattle.block.specs.declared.error.BlockAssemblyError.the-variants.{Context, OutOfRange, Predictor}
-use Rattle.block.specs.declared.error.Checked.{Checked}
-use Rattle.block.specs.declared.error.Checked.the-variants.{Bad, Fine}
+use Rattle.prediction.specs.declared.predictor.BlockPredictors.{BlockPredictors}
+use Rattle.assembly.specs.Answer.{figureOf, firstBad, numberOf}
+use Rattle.assembly.specs.Values.{contextFine, levelsOf, samplesOf, valuesOf}
+use Rattle.assembly.specs.declared.context.MacroblockTextureContext.{MacroblockTextureContext}
+use Rattle.assembly.specs.declared.error.BlockAssemblyError.{BlockAssemblyError}
+use Rattle.assembly.specs.declared.error.BlockAssemblyError.the-variants.{Context, OutOfRange, Predictor}
+use Rattle.assembly.specs.declared.error.Checked.{Checked}
+use Rattle.assembly.specs.declared.error.Checked.the-variants.{Bad, Fine}
 use Rattle.block.specs.declared.reconstruct.BlockRebuilt.{BlockRebuilt}
 use Rattle.block.specs.declared.reconstruct.BlockRebuilt.the-variants.{Rebuilt, Refused}
 

@@ -1,16 +1,23 @@
--- Inside the crate: a block with a DC alone, as its level, its value and its values. Definitions only.
+-- Inside the crate: what is handed over of predictors, and a block with a DC alone, as its level, its value and its values. Definitions only.
 use mathlib.Core.Bool.{Bool, cond, false, not, _&&_}
 use mathlib.Core.List.{List}
 use Prim.Native.Nat.{ℕ}
-use lib.IntN.{ℤ, _+ℤ_}
+use lib.IntN.{ℤ, pos, _+ℤ_}
+use lib.ListN.{replicate}
 use Rattle.codes.specs.declared.dc_size.DcComponent.{DcComponent}
-use Rattle.coefficients.specs.Level.{saturated}
-use Rattle.coefficients.specs.Needed.{sevenIn, someValue}
-use Rattle.coefficients.specs.Prediction.{dcPrediction, dcScaler, directionBy}
-use Rattle.coefficients.specs.declared.predictor.BlockPredictors.{BlockPredictors}
+use Rattle.coefficients.specs.Level.{predictorsFine, saturated}
+use Rattle.coefficients.specs.Needed.{neededOf, sevenIn, someValue}
+use Rattle.prediction.specs.Prediction.{dcPrediction, dcScaler, directionBy}
+use Rattle.prediction.specs.declared.predictor.BlockPredictors.{BlockPredictors}
 use Rattle.idct.specs.Clipped.{dcAndLast, dcBlock}
-use Rattle.inverse_quant.specs.Dequantised.{even, intraDc, limitedF}
-use Rattle.block.specs.declared.context.MacroblockTextureContext.{MacroblockTextureContext}
+use Rattle.mismatch.specs.Mismatch.{even}
+use Rattle.dequantise.specs.Methods.{intraDc}
+use Rattle.dequantise.specs.Methods.{limitedF}
+use Rattle.assembly.specs.declared.context.MacroblockTextureContext.{MacroblockTextureContext}
+
+-- what the levels need of fine predictors; of others zeros, which 13 refuses too
+abbrev pub handedOf : MacroblockTextureContext → BlockPredictors → List ℤ
+handedOf x p = cond (predictorsFine p) (neededOf (x .«quantiser_scale») (x .«ac_pred_flag») p) (replicate 11 (pos 0))
 
 -- AC values of a neighbour are added: AC prediction is set, and of the values that are needed some is not 0
 abbrev pub adds : Bool → List ℤ → Bool

@@ -3,15 +3,15 @@ ghost use mathlib.Core.Path.{_≡_};
 ghost use mathlib.Core.Bool.{true};
 ghost use Rattle.bits.specs.Bits.{bitsFrom};
 ghost use Rattle.coefficients.specs.Level.{predictorsFine};
-ghost use Rattle.texture.specs.Inside.{Readable};
-ghost use Rattle.texture.specs.MacroblockReader.{readBlock};
-ghost use Rattle.block.specs.Answer.{blockAnswer, levelsAfter, levelsTold, samplesAfter, samplesTold, told};
+ghost use Rattle.fields.specs.Inside.{Readable};
+ghost use Rattle.sentences.specs.MacroblockReader.{readBlock};
+ghost use Rattle.block.specs.Decoded.{blockAnswer, decodedBy, levelsAfter, levelsTold, samplesAfter, samplesTold, told};
 ghost use Rattle.block.specs.Outcomes.{blockDue, blockOutcome};
-ghost use Rattle.block.specs.Values.{contextFine};
-use crate::context::MacroblockTextureContext;
-use crate::error::BlockAssemblyError;
-use crate::error::Checked;
+ghost use Rattle.assembly.specs.Values.{contextFine};
 use crate::reconstruct::BlockRebuilt;
+use assembly::BlockAssemblyError;
+use assembly::Checked;
+use assembly::MacroblockTextureContext;
 use bits::Cursor;
 use codes::BlockComponent;
 use codes::DcComponent;
@@ -22,6 +22,16 @@ use texture::EventsRead;
 pub enum BlockDecoded {
     Decoded(i32, Cursor),
     Refused(BlockAssemblyError),
+}
+
+// A block that was rebuilt, with the cursor after it.
+fn decoded(rebuilt: BlockRebuilt, next: Cursor) -> BlockDecoded
+    ensures { λ r. ⌜ r ≡ decodedBy rebuilt next ⌝ }
+{
+    match rebuilt {
+        BlockRebuilt::Refused(e) => BlockDecoded::Refused(e),
+        BlockRebuilt::Rebuilt(dc) => BlockDecoded::Decoded(dc, next),
+    }
 }
 
 // A block of a component, once the state is checked.
@@ -43,25 +53,30 @@ fn decode_checked(
     ensures samples { λ r. ⌜ now (spatial .exit) ≡ samplesTold (now («data» .entry)) component «dc_coded» ctx predictors w (readBlock «dc_coded» reversible (component, coded) (bitsFrom (now («data» .entry)) (c .«bit_pos»))) (now (spatial .entry)) ⌝ }
     ensures levels { λ r. ⌜ now (qf .exit) ≡ levelsTold (now («data» .entry)) component «dc_coded» ctx predictors w (readBlock «dc_coded» reversible (component, coded) (bitsFrom (now («data» .entry)) (c .«bit_pos»))) (now (qf .entry)) ⌝ }
 {
-    let one = crate::read::read_block(data, c, component, coded, dc_coded, reversible);
+    let one = block_reader::read_block(data, c, component, coded, dc_coded, reversible);
     let answer = one.answer;
     match answer {
         EventsRead::Refused(e) => BlockDecoded::Refused(BlockAssemblyError::Texture(e)),
         EventsRead::Read(next) => {
             let places = one.qfs;
-            let rebuilt = crate::reconstruct::rebuild(
-                component,
-                places,
-                ctx,
+            let mut numbers = [0i32; 11];
+            coefficients::needed(
                 predictors,
+                ctx.quantiser_scale,
+                ctx.ac_pred_flag,
+                &mut numbers,
+            );
+            let rebuilt = crate::short::rebuild_up_to(
+                component,
+                &places,
+                64,
+                ctx,
+                &numbers,
                 w,
                 spatial,
                 qf,
             );
-            match rebuilt {
-                BlockRebuilt::Refused(e) => BlockDecoded::Refused(e),
-                BlockRebuilt::Rebuilt(dc) => BlockDecoded::Decoded(dc, next),
-            }
+            decoded(rebuilt, next)
         }
     }
 }
@@ -89,7 +104,7 @@ pub fn decode_intra_block_full(
     match component {
         BlockComponent::OutOfRange => BlockDecoded::Refused(BlockAssemblyError::OutOfRange),
         BlockComponent::Component(m) => {
-            let checked = crate::error::check(data, c, ctx, predictors, quant_matrix);
+            let checked = assembly::check(data, c, ctx, predictors, quant_matrix);
             match checked {
                 Checked::Bad(e) => BlockDecoded::Refused(e),
                 Checked::Fine => decode_checked(

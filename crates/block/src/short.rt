@@ -8,20 +8,21 @@ ghost use Rattle.numbers.specs.Grid.{cell};
 ghost use Rattle.ranges.specs.Range.{depthFine, differenceFine, levelFine, quantiserFine};
 ghost use Rattle.coefficients.specs.Level.{blockFine, predictorsFine};
 ghost use Rattle.coefficients.specs.Needed.{numbered};
-ghost use Rattle.coefficients.specs.Prediction.{directionBy};
-ghost use Rattle.coefficients.specs.UpTo.{upTo};
+ghost use Rattle.prediction.specs.Prediction.{directionBy};
+ghost use Rattle.scan_rows.specs.UpTo.{upTo};
 ghost use Rattle.idct.specs.Clipped.{dcBlock};
 ghost use Rattle.idct.specs.Limits.{inBounds};
 ghost use Rattle.idct.specs.declared.limits.IdctAnswer.the-variants.{Transformed};
-ghost use Rattle.inverse_quant.specs.Dequantised.{even, limitedF};
-ghost use Rattle.block.specs.Answer.{firstBad};
+ghost use Rattle.mismatch.specs.Mismatch.{even};
+ghost use Rattle.dequantise.specs.Methods.{limitedF};
+ghost use Rattle.assembly.specs.Answer.{firstBad};
 ghost use Rattle.block.specs.Rebuilt.{dcHere, handedTests, keptBy, levelsHere, rebuiltAnswer, rebuiltBy, rebuiltDue, rebuiltLevels, rebuiltOutcome, rebuiltSamples, valuesHere};
 ghost use Rattle.block.specs.Short.{adds, dcLevel, dcValue, dcValues};
-ghost use Rattle.block.specs.Values.{contextFine, samplesOf, valuesOf};
-ghost use Rattle.block.specs.declared.error.BlockAssemblyError.the-variants.{Predictor};
-use crate::context::MacroblockTextureContext;
-use crate::error::BlockAssemblyError;
+ghost use Rattle.assembly.specs.Values.{contextFine, samplesOf, valuesOf};
+ghost use Rattle.assembly.specs.declared.error.BlockAssemblyError.the-variants.{Predictor};
 use crate::reconstruct::BlockRebuilt;
+use assembly::BlockAssemblyError;
+use assembly::MacroblockTextureContext;
 use codes::BlockComponent;
 use codes::DcComponent;
 use coefficients::DcPredictionDirection;
@@ -212,8 +213,8 @@ fn coded(
     }
 }
 
-// Once the context is fine: as `rebuild`, of the places below `end`.
-fn rebuild_up_to(
+// Once the context is fine, of the places below `end`: levels into `qf`, samples into `spatial`; or 13, and both as they were.
+pub(crate) fn rebuild_up_to(
     component: DcComponent,
     qfs: &[i32],
     end: usize,
@@ -263,7 +264,7 @@ pub fn reconstruct_up_to(
     match component {
         BlockComponent::OutOfRange => BlockRebuilt::Refused(BlockAssemblyError::OutOfRange),
         BlockComponent::Component(m) => {
-            if !crate::error::context_fine(ctx, w) {
+            if !assembly::context_fine(ctx, w) {
                 return BlockRebuilt::Refused(BlockAssemblyError::Context);
             }
             rebuild_up_to(m, qfs, end, ctx, n, w, spatial, qf)

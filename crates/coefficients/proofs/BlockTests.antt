@@ -10,7 +10,7 @@ use Rattle.numbers.specs.Grid.{block}
 use Rattle.numbers.proofs.Fill.{cell-block}
 use Rattle.numbers.specs.Every.{every}
 use Rattle.numbers.proofs.Every.{every-in, every-get}
-use Rattle.coefficients.proofs.BlockLaws.{Square, square-block, wide-most}
+use Rattle.scan.proofs.BlockLaws.{Square, square-block, wide-most}
 
 module _ {A : Type 0} (p : A → Bool) (d : A) (b : List (List A)) where
   pub test-all : Square b → ((v u : ℕ) → v < 8 → u < 8 → p (getD (getD b v []) u d) ≡ true) → every (every p) b ≡ true

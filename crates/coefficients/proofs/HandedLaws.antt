@@ -11,14 +11,14 @@ use borrow.Author.Tests.{ne-eqb}
 use Rattle.numbers.proofs.Words.{zero-abs}
 use Rattle.ranges.specs.Range.{dcFine}
 use Rattle.coefficients.specs.Needed.{dcsOnly, neededOf, withSide}
-use Rattle.coefficients.specs.Prediction.{directionBy}
-use Rattle.coefficients.specs.Stages.{directionAnswer}
-use Rattle.coefficients.specs.declared.predictor.BlockPredictors.{BlockPredictors}
-use Rattle.coefficients.specs.declared.refusal.CoefficientError.{CoefficientError}
-use Rattle.coefficients.specs.declared.refusal.CoefficientError.the-variants.{HandedIn}
-use Rattle.coefficients.specs.declared.refusal.Direction.{Direction}
-use Rattle.coefficients.specs.declared.refusal.Direction.the-variants.{Is, Refused}
-use Rattle.coefficients.specs.declared.scan.DcPredictionDirection.{DcPredictionDirection}
+use Rattle.prediction.specs.Prediction.{directionBy}
+use Rattle.prediction.specs.Stages.{directionAnswer}
+use Rattle.prediction.specs.declared.predictor.BlockPredictors.{BlockPredictors}
+use Rattle.prediction.specs.declared.refusal.CoefficientError.{CoefficientError}
+use Rattle.prediction.specs.declared.refusal.CoefficientError.the-variants.{HandedIn}
+use Rattle.prediction.specs.declared.refusal.Direction.{Direction}
+use Rattle.prediction.specs.declared.refusal.Direction.the-variants.{Is, Refused}
+use Rattle.scan.specs.declared.DcPredictionDirection.{DcPredictionDirection}
 
 pub zero-bits : (z : ℤ) → SFits w32 z → eqb (ofZ w32 z) 0 ≡ eqb (natAbs z) 0
 zero-bits (pos n) f = refl

@@ -1,7 +1,7 @@
 -- The levels of a block are those of what is needed of its predictors, which may be handed in where the predictors may. Assumes nothing.
 use mathlib.Core.Bool.{Bool, true, false, cond, _&&_}
 use mathlib.Core.List.{List}
-use mathlib.Core.Path.{_≡_, refl, ap, _∙_}
+use mathlib.Core.Path.{_≡_, refl, sym, ap, _∙_}
 use Prim.Native.Nat.{ℕ, zero, suc, _<_}
 use native.Mathlib.Omega.{arith}
 use lib.IntN.{ℤ, pos, natAbs, _*ℤ_}
@@ -14,14 +14,15 @@ use Rattle.numbers.proofs.Magnitudes.{abs-mul, zero-of-abs}
 use Rattle.numbers.proofs.Tests.{both-true, true-both}
 use Rattle.codes.specs.declared.dc_size.DcComponent.{DcComponent}
 use Rattle.ranges.specs.Range.{dcFine, levelFine, quantiserFine}
-use Rattle.coefficients.specs.Level.{intraScan, levels, limitedSum, predictorsFine, valuesFine}
+use Rattle.coefficients.specs.Level.{intraScan, levels, levelsAnswer, limitedSum, placesFine, predictorsFine}
 use Rattle.coefficients.specs.Needed.{dcsOnly, neededOf, numbered, numbersOf, sevenIn, told, withSide}
-use Rattle.coefficients.specs.Prediction.{acPrediction, directionBy, predicted}
-use Rattle.coefficients.specs.Scan.{scanned}
-use Rattle.coefficients.specs.declared.predictor.BlockPredictors.{BlockPredictors}
-use Rattle.coefficients.specs.declared.scan.DcPredictionDirection.{DcPredictionDirection}
-use Rattle.coefficients.specs.declared.scan.DcPredictionDirection.the-variants.{FromLeft, FromAbove}
-use Rattle.coefficients.proofs.PredictionLaws.{away-abs}
+use Rattle.prediction.specs.Prediction.{acPrediction, directionBy, predicted}
+use Rattle.prediction.specs.Refusal.{firstBad, valuesFine}
+use Rattle.scan.specs.Scan.{scanned}
+use Rattle.prediction.specs.declared.predictor.BlockPredictors.{BlockPredictors}
+use Rattle.scan.specs.declared.DcPredictionDirection.{DcPredictionDirection}
+use Rattle.scan.specs.declared.DcPredictionDirection.the-variants.{FromLeft, FromAbove}
+use Rattle.prediction.proofs.PredictionLaws.{away-abs}
 
 -- ---- the numbers
 
@@ -189,3 +190,7 @@ module _ (q : ℕ) (p : BlockPredictors) (h : quantiserFine q ≡ true) (e : pre
 pub needed-fine : (q : ℕ) (acPred : Bool) (p : BlockPredictors) → quantiserFine q ≡ true → predictorsFine p ≡ true → predictorsFine (numbered (neededOf q acPred p)) ≡ true
 unfolding neededOf
 needed-fine q acPred p h e = chosen-fine q p h e (acPred && (dcFine (p .«fa_dc») && (dcFine (p .«fb_dc») && dcFine (p .«fc_dc»))))
+
+-- and so the answer is that of the predictors
+pub needed-answer : (q : ℕ) (acPred : Bool) (p : BlockPredictors) (qfs : List ℤ) → quantiserFine q ≡ true → predictorsFine p ≡ true → levelsAnswer q (numbered (neededOf q acPred p)) qfs ≡ levelsAnswer q p qfs
+needed-answer q acPred p qfs h e = ap (λ (t : Bool). firstBad (quantiserFine q) (t && placesFine qfs)) (needed-fine q acPred p h e ∙ sym e)

@@ -1,37 +1,30 @@
--- What passes the tests of 12 and 13 is what the stages inside take, and values in range pass. Assumes nothing.
-use mathlib.Core.Bool.{Bool, true, false}
+-- What passes the tests of 13, and what it says of each part. Assumes nothing.
+use mathlib.Core.Bool.{true}
 use mathlib.Core.List.{List, [], _∷_}
 use mathlib.Core.Path.{_≡_, refl}
-use Prim.Native.Nat.{ℕ, zero, suc, _≤_, _<_}
+use Prim.Native.Nat.{ℕ, suc, _+_, _^_, min, _≤_, _<_}
 use native.Mathlib.Nat.{not-suc-le-zero}
 use native.Mathlib.Omega.{arith}
-use lib.Dec.{T}
 use lib.IntN.{ℤ, pos, natAbs}
 use lib.ListN.{length, getD}
-use Rattle.numbers.specs.Grid.{cell}
-use Rattle.ranges.specs.Range.{quantiserFine, levelFine, differenceFine, dcFine}
-use Rattle.coefficients.specs.declared.predictor.BlockPredictors.{BlockPredictors}
+use lib.Pow.{pow-mono}
 use Rattle.numbers.specs.Every.{every}
-use Rattle.coefficients.specs.Level.{valuesFine, predictorsFine, placesFine, blockFine}
-use Rattle.coefficients.specs.Stages.{PredictorsGood, PlacesGood, LevelsGood}
+use Rattle.numbers.specs.Grid.{cell}
+use Rattle.numbers.proofs.Every.{every-in}
 use Rattle.numbers.proofs.Tests.{both-true, true-both}
-use Rattle.numbers.proofs.Every.{every-in, every-get}
-use Rattle.ranges.proofs.RangeLaws.{level-abs, abs-level, difference-abs, abs-difference, dc-abs, quantiser-range}
+use Rattle.ranges.specs.Range.{dcFine, differenceFine, levelFine, quantiserFine}
+use Rattle.ranges.proofs.RangeLaws.{abs-dc, abs-difference, abs-level, level-abs, range-quantiser}
+use Rattle.prediction.specs.Prediction.{defaultDc, outsideOf}
+use Rattle.coefficients.specs.Level.{LevelsGood, blockFine, placesFine, predictorsFine}
+use Rattle.coefficients.specs.Needed.{numbered, sevenIn}
 use Rattle.coefficients.proofs.BlockTests.{test-at}
 
 -- ---- the places
 
-pub places-pass : (qfs : List ℤ) → differenceFine (getD qfs 0 (pos 0)) ≡ true → ((i : ℕ) → 1 ≤ i → i < length qfs → levelFine (getD qfs i (pos 0)) ≡ true) → placesFine qfs ≡ true
+places-pass : (qfs : List ℤ) → differenceFine (getD qfs 0 (pos 0)) ≡ true → ((i : ℕ) → 1 ≤ i → i < length qfs → levelFine (getD qfs i (pos 0)) ≡ true) → placesFine qfs ≡ true
 places-pass [] e h = true-both e (every-in levelFine (pos 0) [] (λ (i : ℕ) (p : i < 0). absurd (not-suc-le-zero p)))
 places-pass (z ∷ zs) e h =
     true-both e (every-in levelFine (pos 0) zs (λ (i : ℕ) (p : i < length zs). h (suc i) (omega arith) (omega arith)))
-
-pub places-good : (qfs : List ℤ) → placesFine qfs ≡ true → PlacesGood qfs
-places-good [] e k = omega arith
-places-good (z ∷ zs) e zero = difference-abs z (both-true (differenceFine z) (every levelFine zs) e .0)
-places-good (z ∷ zs) e (suc k) =
-    let t = every-get levelFine (pos 0) refl zs (both-true (differenceFine z) (every levelFine zs) e .1) k in
-    omega (arith, level-abs (getD zs k (pos 0)) t)
 
 pub places-fine : (qfs : List ℤ) → length qfs ≡ 64 → natAbs (getD qfs 0 (pos 0)) ≤ 4095 → ((k : ℕ) → 1 ≤ k → k < 64 → natAbs (getD qfs k (pos 0)) ≤ 2047) → placesFine qfs ≡ true
 places-fine qfs l h g =
@@ -40,28 +33,32 @@ places-fine qfs l h g =
 
 -- ---- the predictors
 
--- a neighbour's values, where it is there
-pub values-good : (has : Bool) (xs : List ℤ) → valuesFine has xs ≡ true → T has → (k : ℕ) → natAbs (getD xs k (pos 0)) ≤ 2048
-values-good true xs e t k = level-abs (getD xs k (pos 0)) (every-get levelFine (pos 0) refl xs e k)
-values-good false xs e t k = absurd t
+-- what `BlockPredictors::outside` gives may be handed in, at any depth
+pub outside-fine : (d q : ℕ) → 1 ≤ q → q ≤ 31 → predictorsFine (outsideOf d q) ≡ true
+outside-fine d q l h =
+    let z = defaultDc (min d 12) in
+    let b : 2 ^ (min d 12 + 2) ≤ 2 ^ 14 = pow-mono {i = min d 12 + 2} {j = 14} (omega arith) in
+    let e = abs-dc z (omega arith) in
+    let f = range-quantiser q l h in
+    true-both e (true-both e (true-both e (true-both f (true-both f refl))))
 
-pub predictors-good : (p : BlockPredictors) → predictorsFine p ≡ true → PredictorsGood p
-predictors-good p e =
-    let a = both-true (dcFine (p .«fa_dc»)) _ e in
-    let b = both-true (dcFine (p .«fb_dc»)) _ (a .1) in
-    let c = both-true (dcFine (p .«fc_dc»)) _ (b .1) in
-    let qa = both-true (quantiserFine (p .«qp_a»)) _ (c .1) in
-    let qc = both-true (quantiserFine (p .«qp_c»)) _ (qa .1) in
-    let v = both-true (valuesFine (p .«a_has_column») (p .«a_first_column»)) _ (qc .1) in
-    record {
-      a = dc-abs (p .«fa_dc») (a .0);
-      b = dc-abs (p .«fb_dc») (b .0);
-      c = dc-abs (p .«fc_dc») (c .0);
-      qp-a = omega (arith, quantiser-range (p .«qp_a») (qa .0));
-      qp-c = omega (arith, quantiser-range (p .«qp_c») (qc .0));
-      column = λ t k h. values-good (p .«a_has_column») (p .«a_first_column») (v .0) t k;
-      row = λ t k h. values-good (p .«c_has_row») (p .«c_first_row») (v .1) t k;
-    }
+-- eleven numbers that pass
+pub record Passing (ns : List ℤ) : Type 0 where
+  pub a : dcFine (getD ns 0 (pos 0)) ≡ true
+  pub b : dcFine (getD ns 1 (pos 0)) ≡ true
+  pub c : dcFine (getD ns 2 (pos 0)) ≡ true
+  pub quantiser : quantiserFine (natAbs (getD ns 3 (pos 0))) ≡ true
+  pub values : every levelFine (sevenIn ns) ≡ true
+
+pub numbers-passing : (ns : List ℤ) → predictorsFine (numbered ns) ≡ true → Passing ns
+numbers-passing ns e =
+    let fa = both-true (dcFine (getD ns 0 (pos 0))) _ e in
+    let fb = both-true (dcFine (getD ns 1 (pos 0))) _ (fa .1) in
+    let fc = both-true (dcFine (getD ns 2 (pos 0))) _ (fb .1) in
+    let qa = both-true (quantiserFine (natAbs (getD ns 3 (pos 0)))) _ (fc .1) in
+    let qc = both-true (quantiserFine (natAbs (getD ns 3 (pos 0)))) _ (qa .1) in
+    let v = both-true (every levelFine (sevenIn ns)) _ (qc .1) in
+    record { a = fa .0; b = fb .0; c = fc .0; quantiser = qa .0; values = v .0 }
 
 -- ---- a block of levels
 

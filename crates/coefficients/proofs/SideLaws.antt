@@ -6,32 +6,23 @@ use Prim.Native.Nat.{ℕ, zero, suc, _+_, _≤_, _<_}
 use native.Mathlib.Numerals.{add-one}
 use native.Mathlib.Omega.{arith}
 use lib.Dec.{ltb}
-use lib.IntN.{ℤ, pos, negsuc, natAbs, _+ℤ_, +ℤ-idr}
+use lib.IntN.{ℤ, pos, natAbs, _+ℤ_, +ℤ-idr}
 use lib.ListN.{getD, set}
-use lib.Signed.{leZ}
 use borrow.Author.Tests.{lt-ltb, le-ltb, ltb-true, ltb-false}
 use Rattle.numbers.specs.Grid.{block, build, cell}
 use Rattle.numbers.proofs.Fill.{block-eq, cell-block, getD-build}
-use Rattle.numbers.proofs.Integers.{le-true}
-use Rattle.numbers.proofs.Limits.{clamp-inside}
-use Rattle.numbers.proofs.Tests.{both-true}
-use Rattle.ranges.specs.Range.{levelFine}
 use Rattle.ranges.proofs.RangeLaws.{level-abs}
 use Rattle.coefficients.specs.Level.{limitedSum, saturated}
-use Rattle.coefficients.specs.Prediction.{columnPrediction, rowPrediction}
+use Rattle.prediction.specs.Prediction.{acPrediction, columnPrediction, rowPrediction}
 use Rattle.coefficients.specs.Short.{Levelled, acPredicted, beside, columnAdded, none, rowAdded, seven}
-use Rattle.coefficients.specs.declared.predictor.BlockPredictors.{BlockPredictors}
-use Rattle.coefficients.specs.declared.scan.DcPredictionDirection.{DcPredictionDirection}
-use Rattle.coefficients.specs.declared.scan.DcPredictionDirection.the-variants.{FromLeft, FromAbove}
-use Rattle.coefficients.proofs.BlockLaws.{cell-stored}
-use Rattle.coefficients.proofs.PredictionBlock.{aboveOf, leftOf}
+use Rattle.prediction.specs.Stages.{sevenPredicted}
+use Rattle.prediction.specs.declared.predictor.BlockPredictors.{BlockPredictors}
+use Rattle.scan.specs.declared.DcPredictionDirection.{DcPredictionDirection}
+use Rattle.scan.specs.declared.DcPredictionDirection.the-variants.{FromLeft, FromAbove}
+use Rattle.scan.proofs.BlockLaws.{cell-stored}
+use Rattle.coefficients.proofs.LevelLaws.{level-kept}
 
--- ---- a level is left by the limit
-
-pub level-kept : (z : ℤ) → levelFine z ≡ true → saturated z ≡ z
-level-kept z e =
-    let w = both-true (leZ (negsuc 2047) z) (leZ z (pos 2047)) e in
-    clamp-inside z (negsuc 2047) (pos 2047) (le-true (negsuc 2047) z (w .0)) (le-true z (pos 2047) (w .1))
+-- ---- a prediction of 0 leaves a level
 
 module _ (b : List (List ℤ)) (good : Levelled b) where
   abbrev sum : (ℕ → ℕ → ℤ) → ℕ → ℕ → ℤ
@@ -160,6 +151,13 @@ module _ (b : List (List ℤ)) (good : Levelled b) (more : List ℤ) where
 -- ---- what the predictors say
 
 module _ (b : List (List ℤ)) (good : Levelled b) (p : BlockPredictors) (q : ℕ) where
+  -- the AC predictions that a neighbour gives
+  abbrev leftOf : ℕ → ℤ
+  leftOf v = acPrediction (getD (p .«a_first_column») v (pos 0)) (p .«qp_a») q
+
+  abbrev aboveOf : ℕ → ℤ
+  aboveOf u = acPrediction (getD (p .«c_first_row») u (pos 0)) (p .«qp_c») q
+
   abbrev given : Bool → DcPredictionDirection → ℕ → ℕ → ℤ
   given acPred d = beside (λ (v : ℕ). cond acPred (columnPrediction p q d v) (pos 0)) (λ (u : ℕ). cond acPred (rowPrediction p q d u) (pos 0))
 
@@ -178,22 +176,22 @@ module _ (b : List (List ℤ)) (good : Levelled b) (p : BlockPredictors) (q : �
   seven-of : (f : ℕ → ℤ) (k : ℕ) → k < 7 → seven 7 (build 7 f) k ≡ f k
   seven-of f k h = rw (lt-ltb k 7 h) (getD-build 7 f k (pos 0) h)
 
-  left-same : p .«a_has_column» ≡ true → (v u : ℕ) → v < 8 → beside (seven 7 (build 7 (leftOf p q))) none v u ≡ given true FromLeft v u
+  left-same : p .«a_has_column» ≡ true → (v u : ℕ) → v < 8 → beside (seven 7 (build 7 leftOf)) none v u ≡ given true FromLeft v u
   unfolding beside
   left-same e zero zero h = refl
-  left-same e (suc v) zero h = seven-of (leftOf p q) v (omega arith) ∙ rw e
+  left-same e (suc v) zero h = seven-of leftOf v (omega arith) ∙ rw e
   left-same e zero (suc u) h = refl
   left-same e (suc v) (suc u) h = refl
 
-  above-same : p .«c_has_row» ≡ true → (v u : ℕ) → u < 8 → beside none (seven 7 (build 7 (aboveOf p q))) v u ≡ given true FromAbove v u
+  above-same : p .«c_has_row» ≡ true → (v u : ℕ) → u < 8 → beside none (seven 7 (build 7 aboveOf)) v u ≡ given true FromAbove v u
   unfolding beside
   above-same e zero zero h = refl
   above-same e (suc v) zero h = refl
-  above-same e zero (suc u) h = seven-of (aboveOf p q) u (omega arith) ∙ rw e
+  above-same e zero (suc u) h = seven-of aboveOf u (omega arith) ∙ rw e
   above-same e (suc v) (suc u) h = refl
 
-  pub left-added : p .«a_has_column» ≡ true → columnAdded 7 (build 7 (leftOf p q)) b ≡ acPredicted true FromLeft p q b
-  left-added e = ap (limitedSum b) (block-eq (beside (seven 7 (build 7 (leftOf p q))) none) (given true FromLeft) (λ v u h k. left-same e v u h))
+  pub left-added : p .«a_has_column» ≡ true → columnAdded 7 (sevenPredicted (p .«a_first_column») (p .«qp_a») q) b ≡ acPredicted true FromLeft p q b
+  left-added e = ap (limitedSum b) (block-eq (beside (seven 7 (build 7 leftOf)) none) (given true FromLeft) (λ v u h k. left-same e v u h))
 
-  pub above-added : p .«c_has_row» ≡ true → rowAdded 7 (build 7 (aboveOf p q)) b ≡ acPredicted true FromAbove p q b
-  above-added e = ap (limitedSum b) (block-eq (beside none (seven 7 (build 7 (aboveOf p q)))) (given true FromAbove) (λ v u h k. above-same e v u k))
+  pub above-added : p .«c_has_row» ≡ true → rowAdded 7 (sevenPredicted (p .«c_first_row») (p .«qp_c») q) b ≡ acPredicted true FromAbove p q b
+  above-added e = ap (limitedSum b) (block-eq (beside none (seven 7 (build 7 aboveOf))) (given true FromAbove) (λ v u h k. above-same e v u k))

@@ -1,22 +1,23 @@
 -- The levels QF of an intra block (7.4.3.2 to 7.4.3.4): what the bits gave, in the scan's order, with the prediction added and limited. Definitions only.
 use mathlib.Core.Bool.{Bool, true, cond, _&&_}
-use mathlib.Core.List.{List}
-use Prim.Native.Nat.{ℕ}
+use mathlib.Core.List.{List, [], _∷_}
+use Prim.Native.Nat.{ℕ, _≤_}
 use lib.ListN.{getD, drop}
-use lib.IntN.{ℤ, pos, negsuc, _+ℤ_}
+use lib.IntN.{ℤ, pos, negsuc, natAbs, _+ℤ_}
 use Rattle.numbers.specs.Grid.{block, cell}
 use Rattle.numbers.specs.Limit.{clampZ}
+use Rattle.numbers.specs.Outcome.{Outcome, checked, done}
 use Rattle.codes.specs.declared.dc_size.DcComponent.{DcComponent}
-use Rattle.coefficients.specs.declared.predictor.BlockPredictors.{BlockPredictors}
-use Rattle.coefficients.specs.declared.refusal.Stage.{Stage}
-use Rattle.coefficients.specs.declared.scan.ScanType.{ScanType}
-use Rattle.coefficients.specs.declared.scan.ScanType.the-variants.{AlternateVertical}
+use Rattle.prediction.specs.declared.predictor.BlockPredictors.{BlockPredictors}
+use Rattle.prediction.specs.declared.refusal.Stage.{Stage}
+use Rattle.scan.specs.declared.ScanType.{ScanType}
+use Rattle.scan.specs.declared.ScanType.the-variants.{AlternateVertical}
 use Rattle.ranges.specs.Range.{quantiserFine, levelFine, differenceFine, dcFine}
-use Rattle.coefficients.specs.Refusal.{firstBad}
+use Rattle.prediction.specs.Refusal.{firstBad, valuesFine}
 use Rattle.numbers.specs.Every.{every}
-use Rattle.coefficients.specs.declared.scan.DcPredictionDirection.{DcPredictionDirection}
-use Rattle.coefficients.specs.Scan.{scanOf, scanned}
-use Rattle.coefficients.specs.Prediction.{predicted, directionBy}
+use Rattle.scan.specs.declared.DcPredictionDirection.{DcPredictionDirection}
+use Rattle.scan.specs.Scan.{scanOf, scanned}
+use Rattle.prediction.specs.Prediction.{predicted, directionBy}
 
 -- 7.4.3.4: limited to -2048 .. 2047
 abbrev pub saturated : ℤ → ℤ
@@ -40,10 +41,7 @@ levels c q acPred alternate p qfs =
 
 -- ---- what is refused
 
--- a neighbour's AC values, where it is there
-abbrev pub valuesFine : Bool → List ℤ → Bool
-valuesFine has xs = cond has (every levelFine xs) true
-
+-- predictors: DCs, quantisers, and the AC values of a neighbour that is there
 abbrev pub predictorsFine : BlockPredictors → Bool
 predictorsFine p =
     dcFine (p .«fa_dc») && (dcFine (p .«fb_dc») && (dcFine (p .«fc_dc») && (quantiserFine (p .«qp_a») && (quantiserFine (p .«qp_c»)
@@ -56,6 +54,13 @@ placesFine qfs = differenceFine (getD qfs 0 (pos 0)) && every levelFine (drop 1 
 abbrev pub levelsAnswer : ℕ → BlockPredictors → List ℤ → Stage
 levelsAnswer q p qfs = firstBad (quantiserFine q) (predictorsFine p && placesFine qfs)
 
+abbrev pub levelsDue : ℕ → BlockPredictors → List ℤ → Outcome (Unit {0})
+levelsDue q p qfs = checked ((quantiserFine q, 12) ∷ (predictorsFine p && placesFine qfs, 13) ∷ []) done
+
 -- every value of a block is a level
 abbrev pub blockFine : List (List ℤ) → Bool
 blockFine qf = every (every levelFine) qf
+
+-- levels, as magnitudes
+abbrev pub LevelsGood : List (List ℤ) → Type 0
+LevelsGood qf = (v u : ℕ) → natAbs (cell qf v u) ≤ 2048

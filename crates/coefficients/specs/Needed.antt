@@ -8,10 +8,10 @@ use lib.ListN.{getD, replicate}
 use Rattle.numbers.specs.Every.{every}
 use Rattle.numbers.specs.Grid.{build}
 use Rattle.ranges.specs.Range.{dcFine, quantiserFine}
-use Rattle.coefficients.specs.Prediction.{directionBy}
-use Rattle.coefficients.specs.declared.predictor.BlockPredictors.{BlockPredictors}
-use Rattle.coefficients.specs.declared.scan.DcPredictionDirection.{DcPredictionDirection}
-use Rattle.coefficients.specs.declared.scan.DcPredictionDirection.the-variants.{FromLeft, FromAbove}
+use Rattle.prediction.specs.Prediction.{directionBy}
+use Rattle.prediction.specs.declared.predictor.BlockPredictors.{BlockPredictors}
+use Rattle.scan.specs.declared.DcPredictionDirection.{DcPredictionDirection}
+use Rattle.scan.specs.declared.DcPredictionDirection.the-variants.{FromLeft, FromAbove}
 
 -- a quantiser as a number; one that 13 refuses is told as 0, which it refuses too
 abbrev pub told : ℕ → ℤ

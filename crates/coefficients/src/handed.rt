@@ -3,10 +3,10 @@
 ghost use mathlib.Core.Path.{_≡_};
 ghost use Rattle.coefficients.specs.Level.{predictorsFine};
 ghost use Rattle.coefficients.specs.Needed.{dcsOnly, neededOf, numbered, numbersOf, sevenIn, someValue, told, withSide};
-ghost use Rattle.coefficients.specs.declared.scan.DcPredictionDirection.the-variants.{FromAbove, FromLeft};
-use crate::predictor::BlockPredictors;
-use crate::refusal::Direction;
-use crate::scan::DcPredictionDirection;
+ghost use Rattle.scan.specs.declared.DcPredictionDirection.the-variants.{FromAbove, FromLeft};
+use prediction::BlockPredictors;
+use prediction::Direction;
+use scan::DcPredictionDirection;
 
 // A quantiser as a number.
 fn told_as(q: u32) -> i32
@@ -68,7 +68,7 @@ pub fn needed_fine(n: &[i32; 11]) -> bool
     if !ranges::Quantiser::fine(numbers::abs(n[3])) {
         return false;
     }
-    crate::predictor::all_levels(seven_in(n))
+    prediction::all_levels(seven_in(n))
 }
 
 // The numbers of the DCs alone.
@@ -110,7 +110,7 @@ pub fn needed(p: BlockPredictors, q: u32, ac_pred: bool, numbers: &mut [i32; 11]
         put_dcs(p, q, numbers);
         return;
     }
-    match crate::predictor::select_dc_direction(p.fa_dc, p.fb_dc, p.fc_dc) {
+    match prediction::select_dc_direction(p.fa_dc, p.fb_dc, p.fc_dc) {
         Direction::Refused(_) => put_dcs(p, q, numbers),
         Direction::Is(direction) => put_side(p, q, direction, numbers),
     }

@@ -1,18 +1,14 @@
 // The levels of an intra block (7.4.3.2 to 7.4.3.4).
 ghost use mathlib.Core.Path.{_≡_};
-ghost use Prim.Native.Nat.{ℕ, _≤_, _<_};
-ghost use lib.IntN.{natAbs};
-ghost use Rattle.numbers.specs.Grid.{cell};
-ghost use Rattle.coefficients.specs.Refusal.{after};
-ghost use Rattle.coefficients.specs.Level.{saturated, saturatedBlock, intraScan, limitedSum, levels, predictorsFine, placesFine, levelsAnswer};
-ghost use Rattle.coefficients.specs.Outcomes.{levelsDue, stageOutcome};
-ghost use Rattle.coefficients.specs.Stages.{PredictorsGood, PlacesGood};
-use crate::predictor::BlockPredictors;
-use crate::refusal::CoefficientError;
-use crate::refusal::Stage;
-use crate::scan::DcPredictionDirection;
-use crate::scan::ScanType;
+ghost use Rattle.prediction.specs.Refusal.{after};
+ghost use Rattle.coefficients.specs.Level.{saturated, saturatedBlock, intraScan, levels, levelsDue, predictorsFine, levelsAnswer};
+ghost use Rattle.prediction.specs.Outcomes.{stageOutcome};
 use codes::DcComponent;
+use prediction::BlockPredictors;
+use prediction::CoefficientError;
+use prediction::Stage;
+use scan::DcPredictionDirection;
+use scan::ScanType;
 
 // 7.4.3.4: a level limited to -2048..=2047.
 pub fn saturate_qf(value: i32) -> i32
@@ -45,49 +41,7 @@ pub(crate) fn intra_scan(
     if alternate_vertical_scan {
         return ScanType::AlternateVertical;
     }
-    crate::scan::select_scan_type(true, ac_pred_flag, direction)
-}
-
-// Each level: what the bits gave, with its prediction, limited.
-fn limited_sum(pqf: [[i32; 8]; 8], prediction: [[i32; 8]; 8]) -> [[i32; 8]; 8]
-    requires { ⌜ ((v u : ℕ) → v < 8 → u < 8 → (natAbs (cell pqf v u) ≤ 4095) × (natAbs (cell prediction v u) ≤ 1046528)) ⌝ }
-    ensures { λ r. ⌜ r ≡ limitedSum pqf prediction ⌝ }
-{
-    let mut out = [[0i32; 8]; 8];
-    for v in 0..8 {
-        for u in 0..8 {
-            out[v][u] = saturate_qf(pqf[v][u] + prediction[v][u]);
-        }
-    }
-    out
-}
-
-// The levels of places and predictors that are in range.
-fn levels_of(
-    qfs: [i32; 64],
-    component: DcComponent,
-    quantiser_scale: u32,
-    ac_pred_flag: bool,
-    alternate_vertical_scan: bool,
-    predictors: BlockPredictors,
-) -> [[i32; 8]; 8]
-    requires { ⌜ («quantiser_scale» ≤ 511) × PredictorsGood predictors × PlacesGood qfs ⌝ }
-    ensures { λ r. ⌜ r ≡ levels component «quantiser_scale» «ac_pred_flag» «alternate_vertical_scan» predictors qfs ⌝ }
-{
-    let direction = crate::predictor::direction_of(
-        predictors.fa_dc,
-        predictors.fb_dc,
-        predictors.fc_dc,
-    );
-    let scan_type = intra_scan(alternate_vertical_scan, ac_pred_flag, direction);
-    let pqf = crate::scan::inverse_scan(qfs, scan_type);
-    let prediction = crate::predictor::predictions(
-        component,
-        quantiser_scale,
-        ac_pred_flag,
-        predictors,
-    );
-    limited_sum(pqf, prediction)
+    scan::select_scan_type(true, ac_pred_flag, direction)
 }
 
 // Whether predictors may be handed in (13). A missing neighbour's values are not looked at.
@@ -111,22 +65,10 @@ pub fn predictors_fine(p: BlockPredictors) -> bool
     if !ranges::Quantiser::fine(p.qp_c) {
         return false;
     }
-    if !crate::predictor::values_fine(p.a_has_column, column) {
+    if !prediction::values_fine(p.a_has_column, column) {
         return false;
     }
-    crate::predictor::values_fine(p.c_has_row, row)
-}
-
-// Whether the place of the DC holds a difference and the others levels.
-fn places_fine(qfs: [i32; 64]) -> bool
-    ensures { λ r. ⌜ r ≡ placesFine qfs ⌝ }
-{
-    let mut fine = ranges::Difference::fine(qfs[0]);
-    for k in 1..64 {
-        let level = ranges::Level::fine(qfs[k]);
-        fine = fine & level;
-    }
-    fine
+    prediction::values_fine(p.c_has_row, row)
 }
 
 // The levels QF of an intra block out of its 64 places, into `qf`; or 12 or 13, and `qf` as it was.
@@ -148,16 +90,16 @@ pub fn intra_levels(
     if !predictors_fine(predictors) {
         return Stage::Refused(CoefficientError::HandedIn);
     }
-    if !places_fine(qfs) {
-        return Stage::Refused(CoefficientError::HandedIn);
-    }
-    *qf = levels_of(
-        qfs,
+    let mut numbers = [0i32; 11];
+    crate::handed::needed(predictors, quantiser_scale, ac_pred_flag, &mut numbers);
+    crate::short::intra_levels_up_to(
+        &qfs,
+        64,
         component,
         quantiser_scale,
         ac_pred_flag,
         alternate_vertical_scan,
-        predictors,
-    );
-    Stage::Done
+        &numbers,
+        qf,
+    )
 }

@@ -4,11 +4,11 @@ use Rattle.bits.specs.Bits.{bin, val}
 use Rattle.codes.specs.DcSize.{dcCodes, dcLens, dcSizes, sizeLuminance}
 use Rattle.codes.specs.Table.{seek}
 use Rattle.codes.specs.Tcoef.{lmaxOf, rmaxOf, tcoefIntra, vlcCodes, vlcLens}
-use Rattle.texture.specs.Dc.{differenceOf}
-use Rattle.texture.specs.DcReader.{dcTail, readDc}
-use Rattle.texture.specs.Event.{lastNumber, levelOf, runOf}
-use Rattle.texture.specs.EventReader.{escaped, event, fixed, level, longer, plainEvent, runAndLevel, sign, signed}
-use Rattle.texture.specs.Reader.{code, field, marker}
+use Rattle.dc_parts.specs.Dc.{differenceOf}
+use Rattle.dc_parts.specs.DcReader.{dcTail, readDc}
+use Rattle.events.specs.Event.{lastNumber, levelOf, runOf}
+use Rattle.events.specs.EventReader.{escaped, event, fixed, level, longer, plainEvent, runAndLevel, sign, signed}
+use Rattle.fields.specs.Reader.{code, field, marker}
 use Rattle.examples.specs.Table.{AllHold, table}
 
 pub every-example-holds : AllHold table

@@ -8,16 +8,16 @@ use Rattle.bits.specs.Bits.{Bits, bin}
 use Rattle.codes.specs.declared.dc_size.DcComponent.{DcComponent}
 use Rattle.codes.specs.declared.dc_size.DcComponent.the-variants.{Luminance, Chrominance}
 use Rattle.codes.specs.declared.tcoef_tables.TcoefTable.the-variants.{Intra}
-use Rattle.texture.specs.Refusal.{numberOf}
-use Rattle.texture.specs.Reader.{Res, ok, no, mapped}
-use Rattle.texture.specs.Dc.{differenceOf}
-use Rattle.texture.specs.DcReader.{readDc}
-use Rattle.texture.specs.Event.{Event, _▸_, lastNumber, runOf, levelOf}
-use Rattle.texture.specs.EventReader.{event}
-use Rattle.coefficients.specs.declared.scan.DcPredictionDirection.{DcPredictionDirection}
-use Rattle.coefficients.specs.declared.scan.DcPredictionDirection.the-variants.{FromLeft}
-use Rattle.coefficients.specs.Prediction.{dcScaler, directionOf}
-use Rattle.inverse_quant.specs.Dequantised.{method1, method2}
+use Rattle.fields.specs.Refusal.{numberOf}
+use Rattle.fields.specs.Reader.{Res, ok, no, mapped}
+use Rattle.dc_parts.specs.Dc.{differenceOf}
+use Rattle.dc_parts.specs.DcReader.{readDc}
+use Rattle.events.specs.Event.{Event, _▸_, lastNumber, runOf, levelOf}
+use Rattle.events.specs.EventReader.{event}
+use Rattle.scan.specs.declared.DcPredictionDirection.{DcPredictionDirection}
+use Rattle.scan.specs.declared.DcPredictionDirection.the-variants.{FromLeft}
+use Rattle.prediction.specs.Prediction.{dcScaler, directionOf}
+use Rattle.dequantise.specs.Methods.{method1, method2}
 
 -- numbers, a refusal's number, or a side to predict from
 pub data Said : Type 0 where

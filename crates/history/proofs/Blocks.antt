@@ -15,19 +15,21 @@ use borrow.Author.Tests.{ltb-true}
 use Rattle.numbers.proofs.Fill.{build-eq, lt-or-le}
 use Rattle.numbers.specs.Grid.{build, cell}
 use Rattle.ranges.proofs.RangeLaws.{depth-range}
-use Rattle.coefficients.specs.declared.predictor.BlockPredictors.{BlockPredictors}
-use Rattle.block.proofs.ValueLaws.{depth-fine}
+use Rattle.prediction.specs.declared.predictor.BlockPredictors.{BlockPredictors}
+use Rattle.assembly.proofs.ContextLaws.{depth-fine}
 use Rattle.codes.specs.Component.{componentAt}
-use Rattle.block.specs.Values.{contextFine, levelsOf, valuesOf}
-use Rattle.block.specs.declared.context.MacroblockTextureContext.{MacroblockTextureContext}
-use Rattle.neighbours.proofs.RecordLaws.{known-other, known-own}
-use Rattle.neighbours.proofs.SideLaws.{a-below, b-below, c-below, each-of-six}
+use Rattle.assembly.specs.Values.{contextFine, levelsOf, valuesOf}
+use Rattle.assembly.specs.declared.context.MacroblockTextureContext.{MacroblockTextureContext}
+use Rattle.record.proofs.RecordLaws.{known-other, known-own}
+use Rattle.places.proofs.PlaceLaws.{a-below, b-below, c-below}
+use Rattle.neighbours.proofs.SideLaws.{each-of-six}
 use Rattle.neighbours.proofs.SoundLaws.{AroundSound, Sound}
-use Rattle.neighbours.specs.Neighbours.{Around, aBlock, aSource, bBlock, bSource, cBlock, cSource, joined, predictors, sideOf, sided}
-use Rattle.neighbours.specs.Record.{knownOf, quantiserOf}
-use Rattle.neighbours.specs.declared.place.Source.{Source}
-use Rattle.neighbours.specs.declared.place.Source.the-variants.{Above, AboveLeft, Left, Own}
-use Rattle.neighbours.specs.declared.record.Side.{Side}
+use Rattle.neighbours.specs.Neighbours.{Around, joined, predictors, sideOf, sided}
+use Rattle.places.specs.Places.{aBlock, aSource, bBlock, bSource, cBlock, cSource}
+use Rattle.record.specs.Record.{knownOf, quantiserOf}
+use Rattle.places.specs.declared.place.Source.{Source}
+use Rattle.places.specs.declared.place.Source.the-variants.{Above, AboveLeft, Left, Own}
+use Rattle.record.specs.declared.record.Side.{Side}
 use Rattle.picture.proofs.SerialLaws.{up-quantiser, up-sound}
 use Rattle.picture.specs.Serial.{levelsAt, recordOf, recordUpTo, valuesAt, valuesInTurn}
 use Rattle.history.proofs.Longer.{before, last, longer}
@@ -90,9 +92,9 @@ module _ (depth q : ℕ) (l : depth ≤ 12) (ar : Around) (n : Neighbourhood) (g
   takes-same : i < 6 → predictors depth q ar own i ≡ takes depth q n m i
   unfolding predictors takes
   takes-same h =
-      let e₁ = side-same (aSource i) (aBlock i) (a-below i h) (each-of-six (λ (j : ℕ). ownBefore j (aSource j) (aBlock j)) refl i h) in
-      let e₂ = side-same (bSource i) (bBlock i) (b-below i h) (each-of-six (λ (j : ℕ). ownBefore j (bSource j) (bBlock j)) refl i h) in
-      let e₃ = side-same (cSource i) (cBlock i) (c-below i h) (each-of-six (λ (j : ℕ). ownBefore j (cSource j) (cBlock j)) refl i h) in
+      let e₁ = side-same (aSource i) (aBlock i) (a-below i) (each-of-six (λ (j : ℕ). ownBefore j (aSource j) (aBlock j)) refl i h) in
+      let e₂ = side-same (bSource i) (bBlock i) (b-below i) (each-of-six (λ (j : ℕ). ownBefore j (bSource j) (bBlock j)) refl i h) in
+      let e₃ = side-same (cSource i) (cBlock i) (c-below i) (each-of-six (λ (j : ℕ). ownBefore j (cSource j) (cBlock j)) refl i h) in
       λ j. joined (e₁ j) (e₂ j) (e₃ j)
 
 -- ---- six blocks one after the other

@@ -10,30 +10,30 @@ use lib.ListN.{length}
 use borrow.Author.Tests.{leb-true}
 use Rattle.bits.specs.Cursor.{inData}
 use Rattle.samples.specs.Samples.{samplesAfter}
-use Rattle.texture.specs.Macroblock.{Parts}
-use Rattle.texture.specs.Reader.{Res, no, ok}
-use Rattle.block.proofs.TestLaws.{all-pass}
-use Rattle.block.proofs.ValueLaws.{quantiser-fine}
-use Rattle.block.specs.Values.{contextFine}
-use Rattle.block.specs.declared.context.MacroblockTextureContext.{MacroblockTextureContext}
-use Rattle.block.specs.declared.error.BlockAssemblyError.the-variants.{Complete, Context, OutOfRange, Predictor, TooShort}
-use Rattle.block.specs.declared.error.Checked.{Checked}
-use Rattle.block.specs.declared.error.Checked.the-variants.{Bad, Fine}
+use Rattle.sentences.specs.Macroblock.{Parts}
+use Rattle.fields.specs.Reader.{Res, no, ok}
+use Rattle.assembly.proofs.TestLaws.{all-pass}
+use Rattle.assembly.proofs.ContextLaws.{quantiser-fine}
+use Rattle.assembly.specs.Values.{contextFine}
+use Rattle.assembly.specs.declared.context.MacroblockTextureContext.{MacroblockTextureContext}
+use Rattle.assembly.specs.declared.error.BlockAssemblyError.the-variants.{Complete, Context, OutOfRange, Predictor, TooShort}
+use Rattle.assembly.specs.declared.error.Checked.{Checked}
+use Rattle.assembly.specs.declared.error.Checked.the-variants.{Bad, Fine}
 use Rattle.macroblock.specs.Answer.{keptBy}
 use Rattle.macroblock.specs.Header.{headerCheck}
 use Rattle.macroblock.specs.Six.{samplesOfSix}
-use Rattle.neighbours.proofs.RecordLaws.{stored-length}
+use Rattle.record.proofs.RecordLaws.{stored-length}
 use Rattle.neighbours.proofs.SoundLaws.{around-fine, blank-sound}
 use Rattle.neighbours.specs.Neighbours.{Around, neighboursFine}
-use Rattle.neighbours.specs.Record.{blank, storedAt}
-use Rattle.picture.proofs.RingLaws.{offset-is, slot}
-use Rattle.picture.proofs.StateLaws.{sized}
+use Rattle.record.specs.Record.{blank, storedAt}
+use Rattle.picture_state.proofs.RingLaws.{offset-is, slot}
+use Rattle.picture_state.proofs.StateLaws.{sized}
 use Rattle.picture.specs.Call.{Input, answerBy, answerOut, answerTold, answerWith, aroundHere, contextHere, recordHere, samplesOut, samplesTold, samplesWith, sentenceHere, stateHere, storeOut, storeTold, storeWith}
-use Rattle.picture.specs.Picture.{onward, pictureOf, sizeFine}
-use Rattle.picture.specs.Ring.{offset}
-use Rattle.picture.specs.State.{stateBy}
+use Rattle.picture_state.specs.Picture.{onward, pictureOf, sizeFine}
+use Rattle.picture_state.specs.Ring.{offset}
+use Rattle.picture_state.specs.State.{stateBy}
 use Rattle.picture.specs.declared.call.PictureDecoded.{PictureDecoded}
-use Rattle.picture.specs.declared.picture.Picture.{Picture}
+use Rattle.picture_state.specs.declared.picture.Picture.{Picture}
 use Rattle.history.proofs.Blocks.{Agrees, Gives, agrees-sound, record-gives, values-same}
 use Rattle.history.proofs.Longer.{longer}
 use Rattle.history.proofs.Places.{Kept, around-agrees, kept-more}

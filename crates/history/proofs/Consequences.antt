@@ -12,35 +12,35 @@ use lib.IntN.{ℤ}
 use lib.ListN.{getD, length}
 use borrow.Author.Tests.{le-leb, le-ltb, lt-leb, ltb-true}
 use Rattle.bits.specs.Cursor.{inData}
-use Rattle.coefficients.specs.Prediction.{outsideOf}
-use Rattle.coefficients.specs.declared.predictor.BlockPredictors.{BlockPredictors}
+use Rattle.prediction.specs.Prediction.{outsideOf}
+use Rattle.prediction.specs.declared.predictor.BlockPredictors.{BlockPredictors}
 use Rattle.numbers.proofs.Fill.{getD-build}
-use Rattle.texture.specs.Macroblock.{Parts}
-use Rattle.texture.specs.Reader.{Res, no, ok}
-use Rattle.block.proofs.TestLaws.{all-pass}
+use Rattle.sentences.specs.Macroblock.{Parts}
+use Rattle.fields.specs.Reader.{Res, no, ok}
+use Rattle.assembly.proofs.TestLaws.{all-pass}
 use Rattle.codes.specs.Component.{componentAt}
-use Rattle.block.specs.Values.{contextFine, levelsOf, valuesOf}
-use Rattle.block.specs.declared.context.MacroblockTextureContext.{MacroblockTextureContext}
-use Rattle.block.specs.declared.error.BlockAssemblyError.{BlockAssemblyError}
-use Rattle.block.specs.declared.error.BlockAssemblyError.the-variants.{Complete, Context, OutOfRange, TooShort}
-use Rattle.block.specs.declared.error.Checked.{Checked}
-use Rattle.block.specs.declared.error.Checked.the-variants.{Bad, Fine}
+use Rattle.assembly.specs.Values.{contextFine, levelsOf, valuesOf}
+use Rattle.assembly.specs.declared.context.MacroblockTextureContext.{MacroblockTextureContext}
+use Rattle.assembly.specs.declared.error.BlockAssemblyError.{BlockAssemblyError}
+use Rattle.assembly.specs.declared.error.BlockAssemblyError.the-variants.{Complete, Context, OutOfRange, TooShort}
+use Rattle.assembly.specs.declared.error.Checked.{Checked}
+use Rattle.assembly.specs.declared.error.Checked.the-variants.{Bad, Fine}
 use Rattle.macroblock.specs.Answer.{keptBy, told as toldAlone}
 use Rattle.macroblock.specs.Header.{headerCheck}
 use Rattle.macroblock.specs.Six.{blockAt, valuesOfSix}
 use Rattle.macroblock.specs.declared.decode.MacroblockDecoded.{MacroblockDecoded}
 use Rattle.macroblock.specs.declared.decode.MacroblockDecoded.the-variants.{Decoded as AloneDecoded, Refused as AloneRefused}
 use Rattle.neighbours.specs.Neighbours.{Around, found, predictors}
-use Rattle.neighbours.specs.Record.{recordAt}
+use Rattle.record.specs.Record.{recordAt}
 use Rattle.picture.specs.Call.{Input, answerBy, answerOut, answerTold, answerWith, aroundHere, contextHere, samplesOut, samplesTold, sentenceHere, stateHere, storeOut, storeTold}
-use Rattle.picture.specs.Picture.{onward, openOf, pictureOf}
-use Rattle.picture.specs.Ring.{aroundDue, offset}
+use Rattle.picture_state.specs.Picture.{onward, openOf, pictureOf}
+use Rattle.picture_state.specs.Ring.{aroundDue, offset}
 use Rattle.picture.specs.Serial.{recordUpTo, valuesInTurn}
 use Rattle.picture.specs.declared.call.PictureDecoded.{PictureDecoded}
 use Rattle.picture.specs.declared.call.PictureDecoded.the-variants.{Decoded, Refused}
-use Rattle.picture.specs.declared.picture.Picture.{Picture}
-use Rattle.picture.specs.declared.picture.PictureOpened.{PictureOpened}
-use Rattle.picture.specs.declared.picture.PictureOpened.the-variants.{Opened, Refused as Unopened}
+use Rattle.picture_state.specs.declared.picture.Picture.{Picture}
+use Rattle.picture_state.specs.declared.picture.PictureOpened.{PictureOpened}
+use Rattle.picture_state.specs.declared.picture.PictureOpened.the-variants.{Opened, Refused as Unopened}
 use Rattle.history.proofs.Longer.{longer}
 use Rattle.history.proofs.Runs.{history}
 use Rattle.history.specs.History.{State, next, pictureAfter, pictureOpened, told}

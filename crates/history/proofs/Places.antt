@@ -11,11 +11,11 @@ use lib.IntN.{ℤ}
 use lib.ListN.{getD, length}
 use borrow.Author.Tests.{le-leb, le-ltb, lt-leb, lt-ltb, ltb-true}
 use Rattle.numbers.proofs.Fill.{lt-or-le}
-use Rattle.neighbours.proofs.RecordLaws.{read-back}
+use Rattle.record.proofs.RecordLaws.{read-back}
 use Rattle.neighbours.specs.Neighbours.{found}
-use Rattle.neighbours.specs.Record.{recordAt, storedAt}
-use Rattle.picture.proofs.RingLaws.{offset-is, ring-kept, slot, slot-in}
-use Rattle.picture.specs.Ring.{aroundDue, offset}
+use Rattle.record.specs.Record.{recordAt, storedAt}
+use Rattle.picture_state.proofs.RingLaws.{offset-is, ring-kept, slot, slot-in}
+use Rattle.picture_state.specs.Ring.{aroundDue, offset}
 use Rattle.history.proofs.Blocks.{Agrees, Gives, Match}
 use Rattle.history.proofs.Longer.{before, last, longer}
 use Rattle.history.specs.Ideal.{Ideal, aroundIn, cellOf, pictureNow}

@@ -8,11 +8,11 @@ use native.Mathlib.Omega.{arith}
 use lib.IntN.{ℤ}
 use lib.ListN.{length}
 use Rattle.ranges.specs.Range.{depthFine}
-use Rattle.block.specs.declared.error.BlockAssemblyError.the-variants.{Context, OutOfRange}
-use Rattle.picture.specs.Picture.{openOf, pictureOf, sizeFine}
-use Rattle.picture.specs.declared.picture.Picture.{Picture}
-use Rattle.picture.specs.declared.picture.PictureOpened.{PictureOpened}
-use Rattle.picture.specs.declared.picture.PictureOpened.the-variants.{Opened, Refused as Unopened}
+use Rattle.assembly.specs.declared.error.BlockAssemblyError.the-variants.{Context, OutOfRange}
+use Rattle.picture_state.specs.Picture.{openOf, pictureOf, sizeFine}
+use Rattle.picture_state.specs.declared.picture.Picture.{Picture}
+use Rattle.picture_state.specs.declared.picture.PictureOpened.{PictureOpened}
+use Rattle.picture_state.specs.declared.picture.PictureOpened.the-variants.{Opened, Refused as Unopened}
 use Rattle.history.proofs.Calls.{Stands, stands-on, told-is}
 use Rattle.history.proofs.Places.{Kept}
 use Rattle.history.specs.History.{History, State, next, pictureOpened, told}

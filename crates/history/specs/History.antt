@@ -6,12 +6,12 @@ use Prim.Native.Nat.{ℕ}
 use lib.IntN.{ℤ}
 use lib.ListN.{length}
 use Rattle.picture.specs.Call.{answerOut, samplesOut, storeOut}
-use Rattle.picture.specs.Picture.{openOf}
+use Rattle.picture_state.specs.Picture.{openOf}
 use Rattle.picture.specs.declared.call.PictureDecoded.{PictureDecoded}
 use Rattle.picture.specs.declared.call.PictureDecoded.the-variants.{Decoded, Refused}
-use Rattle.picture.specs.declared.picture.Picture.{Picture}
-use Rattle.picture.specs.declared.picture.PictureOpened.{PictureOpened}
-use Rattle.picture.specs.declared.picture.PictureOpened.the-variants.{Opened, Refused as Unopened}
+use Rattle.picture_state.specs.declared.picture.Picture.{Picture}
+use Rattle.picture_state.specs.declared.picture.PictureOpened.{PictureOpened}
+use Rattle.picture_state.specs.declared.picture.PictureOpened.the-variants.{Opened, Refused as Unopened}
 use Rattle.history.specs.Ideal.{Ideal, blankIdeal, idealNext, idealTold, pictureNow}
 use Rattle.history.specs.Step.{Step, Told, afterAll, decoded, macroblock, opened, opening, toldAll}
 

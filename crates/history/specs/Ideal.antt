@@ -6,25 +6,26 @@ use lib.Dec.{leb, ltb}
 use lib.IntN.{ℤ}
 use lib.ListN.{getD, length}
 use Rattle.bits.specs.Cursor.{inData}
-use Rattle.samples.specs.Samples.{samplesAfter}
-use Rattle.texture.specs.Macroblock.{Parts}
-use Rattle.texture.specs.Reader.{Res, no, ok}
-use Rattle.block.specs.Answer.{firstBad}
-use Rattle.block.specs.Rows.{rowsOf}
-use Rattle.block.specs.Values.{contextFine}
-use Rattle.block.specs.declared.error.BlockAssemblyError.{BlockAssemblyError}
-use Rattle.block.specs.declared.error.BlockAssemblyError.the-variants.{Complete, Context, OutOfRange, TooShort}
-use Rattle.block.specs.declared.error.Checked.{Checked}
-use Rattle.block.specs.declared.error.Checked.the-variants.{Bad, Fine}
+use Rattle.samples.specs.Samples.{macroblockSamples, samplesAfter}
+use Rattle.sentences.specs.Macroblock.{Parts}
+use Rattle.fields.specs.Reader.{Res, no, ok}
+use Rattle.assembly.specs.Answer.{firstBad}
+use Rattle.block_reader.specs.Rows.{rowsOf}
+use Rattle.assembly.specs.Values.{contextFine}
+use Rattle.assembly.specs.declared.error.BlockAssemblyError.{BlockAssemblyError}
+use Rattle.assembly.specs.declared.error.BlockAssemblyError.the-variants.{Complete, Context, OutOfRange, TooShort}
+use Rattle.assembly.specs.declared.error.Checked.{Checked}
+use Rattle.assembly.specs.declared.error.Checked.the-variants.{Bad, Fine}
 use Rattle.macroblock.specs.Answer.{keptBy}
 use Rattle.macroblock.specs.Header.{headerTests, patternBy}
 use Rattle.macroblock.specs.Six.{samplesOfSix}
 use Rattle.neighbours.specs.Neighbours.{found}
 use Rattle.picture.specs.Call.{Input, answerWith, contextHere, sentenceHere}
-use Rattle.picture.specs.Picture.{openOf, pictureOf}
-use Rattle.picture.specs.declared.picture.Picture.{Picture}
-use Rattle.picture.specs.declared.picture.PictureOpened.{PictureOpened}
-use Rattle.picture.specs.declared.picture.PictureOpened.the-variants.{Opened, Refused as Unopened}
+use Rattle.picture_state.specs.Sizes.{storeFor}
+use Rattle.picture_state.specs.Picture.{openOf, pictureOf}
+use Rattle.picture_state.specs.declared.picture.Picture.{Picture}
+use Rattle.picture_state.specs.declared.picture.PictureOpened.{PictureOpened}
+use Rattle.picture_state.specs.declared.picture.PictureOpened.the-variants.{Opened, Refused as Unopened}
 use Rattle.history.specs.Remembered.{Neighbourhood, Remembered, remembered, valuesOfAll}
 use Rattle.history.specs.Step.{Step, Told, decoded, macroblock, opened, opening}
 
@@ -68,8 +69,8 @@ module _ (room : ℕ) (i : Ideal) (x : Input) where
   idealTests =
       (inData (length (x .bytes)) (x .start), OutOfRange)
       ∷ (contextFine (contextHere (pictureNow i) x) (x .matrix), Context)
-      ∷ (leb 384 (length (x .samples)), TooShort)
-      ∷ (leb (192 * i .width) room, TooShort)
+      ∷ (leb macroblockSamples (length (x .samples)), TooShort)
+      ∷ (leb (storeFor (i .width)) room, TooShort)
       ∷ (ltb (length (i .accepted)) (i .width * i .height), Complete)
       ∷ headerTests (x .header)
 

@@ -6,15 +6,16 @@ use Prim.Native.Nat.{ℕ, suc, zero, _+_}
 use lib.IntN.{ℤ, pos}
 use lib.ListN.{getD, replicate}
 use Rattle.numbers.specs.Grid.{build, cell}
-use Rattle.coefficients.specs.Prediction.{defaultDc}
-use Rattle.coefficients.specs.declared.predictor.BlockPredictors.{BlockPredictors}
+use Rattle.prediction.specs.Prediction.{defaultDc}
+use Rattle.prediction.specs.declared.predictor.BlockPredictors.{BlockPredictors}
 use Rattle.codes.specs.Component.{componentAt}
-use Rattle.block.specs.Values.{levelsOf, valuesOf}
-use Rattle.block.specs.declared.context.MacroblockTextureContext.{MacroblockTextureContext}
-use Rattle.neighbours.specs.Neighbours.{aBlock, aSource, bBlock, bSource, cBlock, cSource, joined}
-use Rattle.neighbours.specs.declared.place.Source.{Source}
-use Rattle.neighbours.specs.declared.place.Source.the-variants.{Above, AboveLeft, Left, Own}
-use Rattle.neighbours.specs.declared.record.Side.{Side}
+use Rattle.assembly.specs.Values.{levelsOf, valuesOf}
+use Rattle.assembly.specs.declared.context.MacroblockTextureContext.{MacroblockTextureContext}
+use Rattle.places.specs.Places.{aBlock, aSource, bBlock, bSource, cBlock, cSource}
+use Rattle.neighbours.specs.Neighbours.{joined}
+use Rattle.places.specs.declared.place.Source.{Source}
+use Rattle.places.specs.declared.place.Source.the-variants.{Above, AboveLeft, Left, Own}
+use Rattle.record.specs.declared.record.Side.{Side}
 
 -- of each block its dequantised DC and its levels QF; and the macroblock's quantiser
 pub record Remembered : Type 0 where

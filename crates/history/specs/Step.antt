@@ -5,7 +5,7 @@ use Prim.Native.Nat.{ℕ}
 use lib.IntN.{ℤ}
 use Rattle.picture.specs.Call.{Input}
 use Rattle.picture.specs.declared.call.PictureDecoded.{PictureDecoded}
-use Rattle.picture.specs.declared.picture.PictureOpened.{PictureOpened}
+use Rattle.picture_state.specs.declared.picture.PictureOpened.{PictureOpened}
 
 pub data Step : Type 0 where
   -- width, height, depth, method

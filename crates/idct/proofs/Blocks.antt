@@ -1,4 +1,4 @@
--- A pass sees its eight inputs only, zeros give zeros, and the rows' terms added up make the transform. Assumes nothing.
+-- A pass sees its eight inputs only, zeros give zeros, and a row of zeros changes no sum. Assumes nothing.
 use mathlib.Core.Bool.{false}
 use mathlib.Core.List.{List, []}
 use mathlib.Core.Path.{_≡_, refl, sym, ap, _∙_, subst}
@@ -19,15 +19,18 @@ use Rattle.numbers.specs.Grid.{block, build, cell}
 use Rattle.numbers.specs.Limit.{clampZ}
 use Rattle.f64_error.proofs.Zeros.{Nought, nought-left, nought-right, series-none, series-rest}
 use Rattle.f64_error.specs.Series.{half, pass, seriesF}
-use Rattle.idct.specs.Cosines.{cosF, cF}
-use Rattle.idct.specs.Exact.{Modest}
-use Rattle.idct.specs.Rounding.{wholeOf}
-use Rattle.idct.specs.ShortWays.{Roundable, cellF, idct1d, isZero, rowAt, rowIn, rowTerms, samplesIn, sumOfRows}
-use Rattle.idct.specs.Transform.{computed, whole}
-use Rattle.idct.specs.declared.rounding.HalfIntegerRounding.{HalfIntegerRounding}
-use Rattle.idct.proofs.Bounds.{bounded}
-use Rattle.idct.proofs.Loops.{zero-bits}
-use Rattle.idct.proofs.Tables.{c-const, cos-const}
+use Rattle.rounding.specs.Rounding.{wholeOf}
+use Rattle.rounding.specs.Near.{Roundable}
+use Rattle.rounding.specs.declared.HalfIntegerRounding.{HalfIntegerRounding}
+use Rattle.rounding.proofs.Literals.{zero-bits}
+use Rattle.cosines.specs.Cosines.{cosF, cF}
+use Rattle.cosines.proofs.Tables.{c-const, cos-const}
+use Rattle.eights.specs.Eights.{rowIn}
+use Rattle.exact_transform.specs.Exact.{Modest}
+use Rattle.exact_transform.specs.EvenOdd.{cellF, isZero}
+use Rattle.exact_transform.specs.Transform.{computed, whole}
+use Rattle.exact_transform.proofs.Bounds.{bounded}
+use Rattle.idct.specs.ShortWays.{idct1d, rowAt, rowTerms, samplesIn, sumOfRows}
 
 pub series-ext : (t s : ℕ → Float) (n : ℕ) → ((i : ℕ) → i < n → t i ≡ s i) → seriesF t n ≡ seriesF s n
 unfolding seriesF
@@ -87,23 +90,6 @@ module _ (l : List (List ℤ)) where
   abbrev rowTerm : ℕ → ℕ → ℕ → Float
   rowTerm y x v = mul binary64 (mul binary64 (cF v) (rowAt l v x)) (cosF v y)
 
-  pub no-rows : block (λ (y x : ℕ). ofBits binary64 0) ≡ block (sumOfRows l 0)
-  unfolding seriesF
-  no-rows = block-eq (λ (y x : ℕ). ofBits binary64 0) (sumOfRows l 0) (λ (y x : ℕ) (p : y < 8) (q : x < 8). zero-bits)
-
-  -- the terms of a row added at every y and x
-  pub row-more : (v : ℕ) (sums more : List (List Float)) (terms cosines : List Float) → sums ≡ block (sumOfRows l v) → terms ≡ rowTerms (getD l v []) v → cosines ≡ build 8 (cosF v)
-      → more ≡ block (λ (y x : ℕ). add binary64 (cellF sums y x) (mul binary64 (getD terms x nan) (getD cosines y nan))) → more ≡ block (sumOfRows l (v + 1))
-  unfolding seriesF
-  row-more v sums more terms cosines a b k e =
-      e
-      ∙ block-eq (λ (y x : ℕ). add binary64 (cellF sums y x) (mul binary64 (getD terms x nan) (getD cosines y nan))) (sumOfRows l (v + 1))
-      (λ (y x : ℕ) (p : y < 8) (q : x < 8).
-      ap (λ (z : Float). add binary64 z (mul binary64 (getD terms x nan) (getD cosines y nan))) (ap (λ (s : List (List Float)). cellF s y x) a ∙ cellF-block (sumOfRows l v) y x p q)
-      ∙ ap (λ (z : Float). add binary64 (sumOfRows l v y x) (mul binary64 z (getD cosines y nan))) (ap (λ (s : List Float). getD s x nan) b ∙ getD-build 8 (λ (x : ℕ). mul binary64 (cF v) (rowAt l v x)) x nan q)
-      ∙ ap (λ (z : Float). add binary64 (sumOfRows l v y x) (mul binary64 (mul binary64 (cF v) (rowAt l v x)) z)) (ap (λ (s : List Float). getD s y nan) k ∙ getD-build 8 (cosF v) y nan p)
-      ∙ ap (λ (n : ℕ). sumOfRows l n y x) (sym (add-one v)))
-
   -- a row of zeros changes no sum
   pub row-skipped : (v y x : ℕ) → T (every isZero (getD l v [])) → sumOfRows l v y x ≡ sumOfRows l (v + 1) y x
   row-skipped v y x t =
@@ -117,21 +103,3 @@ module _ (l : List (List ℤ)) where
       zero-row =
           zero-pass (λ (u : ℕ). ofInt binary64 (cell l v u)) x
           (λ (u : ℕ) (h : u < 8). int-nought (cell l v u) (zero-of-abs (cell l v u) (eqb→eq (natAbs (cell l v u)) 0 (every-at isZero (pos 0) (getD l v []) tt t u))))
-
-  pub row-skip : (v : ℕ) (sums : List (List Float)) → T (every isZero (getD l v [])) → sums ≡ block (sumOfRows l v) → sums ≡ block (sumOfRows l (v + 1))
-  row-skip v sums t a = a ∙ block-eq (sumOfRows l v) (sumOfRows l (v + 1)) (λ (y x : ℕ) (p : y < 8) (q : x < 8). row-skipped v y x t)
-
-  module _ (sums : List (List Float)) (s : sums ≡ block (sumOfRows l 8)) where
-    halves-are : (y x : ℕ) → y < 8 → x < 8 → mul binary64 half (cellF sums y x) ≡ computed l y x
-    halves-are y x p q = ap (mul binary64 half) (ap (λ (b : List (List Float)). cellF b y x) s ∙ cellF-block (sumOfRows l 8) y x p q)
-
-    pub sums-bounded : Modest l → (y x : ℕ) → y < 8 → x < 8 → Roundable (mul binary64 half (cellF sums y x))
-    sums-bounded m y x p q = subst Roundable (sym (halves-are y x p q)) (bounded l m y x p q)
-
-    pub samples-are : (rounding : HalfIntegerRounding) (lo hi a b : ℤ) (r : List (List ℤ)) → a ≡ lo → b ≡ hi → r ≡ block (λ (y x : ℕ). clampZ (wholeOf rounding (mul binary64 half (cellF sums y x))) a b) → r ≡ samplesIn rounding lo hi l
-    unfolding whole
-    samples-are rounding lo hi a b r e g k =
-        k
-        ∙ block-eq (λ (y x : ℕ). clampZ (wholeOf rounding (mul binary64 half (cellF sums y x))) a b) (λ (y x : ℕ). clampZ (wholeOf rounding (computed l y x)) a b)
-        (λ (y x : ℕ) (p : y < 8) (q : x < 8). ap (λ (z : Float). clampZ (wholeOf rounding z) a b) (halves-are y x p q))
-        ∙ (λ i. samplesIn rounding (e i) (g i) l)

@@ -15,12 +15,11 @@ use Rattle.ranges.proofs.DepthLaws.{samples-are, values-are}
 use Rattle.ranges.specs.Range.{depthFine, highest, limitsOutcome, lowest, saturationLimits, valueLimits, within}
 use Rattle.ranges.specs.declared.DepthLimits.{DepthLimits}
 use Rattle.ranges.specs.declared.DepthLimits.the-variants.{Are, OutOfRange}
-use Rattle.idct.specs.Clipped.{clipped}
-use Rattle.idct.specs.Exact.{Modest}
+use Rattle.rounding.specs.declared.HalfIntegerRounding.{HalfIntegerRounding}
+use Rattle.exact_transform.specs.Exact.{Modest}
 use Rattle.idct.specs.Limits.{idctOutcome, inBounds, valuesFine}
 use Rattle.idct.specs.ShortWays.{samplesIn}
 use Rattle.idct.specs.declared.limits.IdctAnswer.the-variants.{DepthOutOfRange, Transformed, ValueOutOfLimits}
-use Rattle.idct.specs.declared.rounding.HalfIntegerRounding.{HalfIntegerRounding}
 use Rattle.idct.proofs.Refusals.{modest, zero-inside}
 
 -- ---- the arms
@@ -48,9 +47,13 @@ module _ (d : ℕ) (r : DepthLimits) (e : limitsOutcome r ≡ valueLimits d) whe
       let k = values-are d r f e lo hi g in
       (f, held lo a ∙ k .0, held hi b ∙ k .1)
 
--- the greatest sample
-pub top-told : (d : ℕ) (r : DepthLimits) → depthFine d ≡ true → limitsOutcome r ≡ saturationLimits d → (lo hi : ℤ) → r ≡ Are lo hi → mag hi < 2 ^ hbits w32 → toZ w32 (ofZ w32 hi) ≡ highest d
-top-told d r f e lo hi g b = held hi b ∙ samples-are d r f e lo hi g .1
+-- the least and the greatest sample
+module _ (d : ℕ) (r : DepthLimits) (f : depthFine d ≡ true) (e : limitsOutcome r ≡ saturationLimits d) (lo hi : ℤ) (g : r ≡ Are lo hi) where
+  pub bottom-told : mag lo < 2 ^ hbits w32 → toZ w32 (ofZ w32 lo) ≡ lowest d
+  bottom-told b = held lo b ∙ samples-are d r f e lo hi g .0
+
+  pub top-told : mag hi < 2 ^ hbits w32 → toZ w32 (ofZ w32 hi) ≡ highest d
+  top-told b = held hi b ∙ samples-are d r f e lo hi g .1
 
 -- ---- what is due: by the depth first, then by the values
 
@@ -94,13 +97,7 @@ module _ (r : Bool) (new old out : List (List ℤ)) (e : out ≡ cond r new old)
   has-new : r ≡ true → out ≡ new
   has-new g = e ∙ ap (λ (b : Bool). cond b new old) g
 
-clipped-is : (m : HalfIntegerRounding) (d : ℕ) (hi : ℤ) (l : List (List ℤ)) → hi ≡ highest d → samplesIn m (pos 0) hi l ≡ clipped m d l
-clipped-is m d hi l h = λ i. samplesIn m (pos 0) (h i) l
-
--- a block whose values are all within the limits, as the program made it
-module _ (d : ℕ) (m : HalfIntegerRounding) (lo hi top : ℤ) (made l : List (List ℤ)) (r : Bool) (old out : List (List ℤ)) where
-  pub taken-samples : lo ≡ lowest (d + 3) → hi ≡ highest (d + 3) → top ≡ highest d → made ≡ l → valuesFine d l ≡ true → r ≡ every (every (within lo hi)) made → out ≡ cond r (samplesIn m (pos 0) top made) old → out ≡ clipped m d l
-  taken-samples a b h k f e g =
-      has-new r (samplesIn m (pos 0) top made) old out g (e ∙ values-test d lo hi a b made ∙ ap (valuesFine d) k ∙ f)
-      ∙ clipped-is m d top made h
-      ∙ ap (clipped m d) k
+-- a block whose values are all within the limits
+module _ (d : ℕ) (m : HalfIntegerRounding) (lo hi bottom top least : ℤ) (l : List (List ℤ)) (r : Bool) (old out : List (List ℤ)) where
+  pub taken-samples : valuesFine d l ≡ true → lo ≡ lowest (d + 3) → hi ≡ highest (d + 3) → bottom ≡ least → top ≡ highest d → r ≡ every (every (within lo hi)) l → out ≡ cond r (samplesIn m bottom top l) old → out ≡ samplesIn m least (highest d) l
+  taken-samples f a b k h e g = has-new r (samplesIn m bottom top l) old out g (e ∙ values-test d lo hi a b l ∙ f) ∙ (λ i. samplesIn m (k i) (h i) l)

@@ -1,32 +1,29 @@
 -- A DC alone: each pass sees one value and seven zeros, and its cosines are 1 at every place. Assumes nothing.
-use mathlib.Core.Bool.{true, false}
-use mathlib.Core.List.{List, [], _∷_}
-use mathlib.Core.Path.{_≡_, refl, sym, ap, _∙_, subst}
-use Prim.Native.Nat.{ℕ, zero, suc, _+_, _*_, _%_, _≤_, _<_}
+use mathlib.Core.Bool.{Bool, cond, false, _&&_}
+use mathlib.Core.Path.{_≡_, sym, ap, _∙_, subst}
+use Prim.Native.Nat.{ℕ, _+_, _*_, _%_, _≤_, _<_}
 use native.Mathlib.Nat.{mul-zero}
 use native.Mathlib.Omega.{arith}
-use lib.Dec.{T, eqb→eq}
+use lib.Dec.{eqb}
 use lib.Ieee.{Float, fin, binary64, add, mul, ofBits, ofInt}
-use lib.IntN.{ℤ, pos, natAbs}
-use lib.ListN.{getD, length, length-set, set}
-use Rattle.numbers.proofs.Every.{every-at}
-use Rattle.numbers.proofs.Fill.{block-eq}
-use Rattle.numbers.proofs.Magnitudes.{zero-of-abs}
-use Rattle.numbers.specs.Every.{every}
+use lib.IntN.{ℤ, pos}
+use borrow.Author.Tests.{ne-eqb}
+use Rattle.numbers.proofs.Fill.{block-eq, cell-block}
 use Rattle.numbers.specs.Grid.{block, cell}
 use Rattle.numbers.specs.Limit.{clampZ}
 use Rattle.f64_error.proofs.Zeros.{Nought}
 use Rattle.f64_error.specs.Series.{half, pass, seriesF}
-use Rattle.idct.specs.Cosines.{byTurnF, cosF, cF}
-use Rattle.idct.specs.Exact.{Modest}
-use Rattle.idct.specs.Rounding.{wholeOf}
-use Rattle.idct.specs.ShortWays.{Roundable, dcPass, isZero, samplesIn, withoutDc}
-use Rattle.idct.specs.Transform.{computed, whole}
-use Rattle.idct.specs.declared.rounding.HalfIntegerRounding.{HalfIntegerRounding}
+use Rattle.rounding.specs.Near.{Roundable}
+use Rattle.rounding.specs.Rounding.{wholeOf}
+use Rattle.rounding.specs.declared.HalfIntegerRounding.{HalfIntegerRounding}
+use Rattle.rounding.proofs.Literals.{half-bits, zero-bits}
+use Rattle.cosines.specs.Cosines.{byTurnF, cosF, cF}
+use Rattle.exact_transform.specs.Exact.{Modest}
+use Rattle.exact_transform.specs.Transform.{computed, whole}
+use Rattle.exact_transform.proofs.Bounds.{bounded}
+use Rattle.idct.specs.Clipped.{dcBlock}
+use Rattle.idct.specs.ShortWays.{dcPass, samplesIn}
 use Rattle.idct.proofs.Blocks.{int-nought, pass-rest, zero-pass}
-use Rattle.idct.proofs.Bounds.{bounded}
-use Rattle.idct.proofs.Loops.{half-bits, zero-bits}
-use Rattle.idct.proofs.Scans.{is-T}
 
 -- ---- a pass over one value and seven zeros
 
@@ -50,40 +47,46 @@ dc-pass-is c value e =
 
 -- ---- the cells of such a block
 
-pub length-withoutDc : (l : List (List ℤ)) → length (withoutDc l) ≡ length l
-length-withoutDc l = length-set l 0 (set (getD l 0 []) 0 (pos 0))
+module _ (dc : ℤ) where
+  dc-cell : cell (dcBlock dc) 0 0 ≡ dc
+  unfolding dcBlock
+  dc-cell = cell-block (λ (v u : ℕ). cond (eqb v 0 && eqb u 0) dc (pos 0)) 0 0 (omega arith) (omega arith)
 
-zero-cell : (l : List (List ℤ)) → T (every (every isZero) l) → (v u : ℕ) → cell l v u ≡ pos 0
-zero-cell l t v u = zero-of-abs (cell l v u) (eqb→eq (natAbs (cell l v u)) 0 (every-at isZero (pos 0) (getD l v []) tt (every-at (every isZero) [] l tt t v) u))
+  row-zero : (u : ℕ) → 1 ≤ u → u < 8 → cell (dcBlock dc) 0 u ≡ pos 0
+  unfolding dcBlock
+  row-zero u a b =
+      cell-block (λ (v u : ℕ). cond (eqb v 0 && eqb u 0) dc (pos 0)) 0 u (omega arith) b
+      ∙ ap (λ (t : Bool). cond t dc (pos 0)) (ne-eqb u 0 (λ (z : u ≡ 0). omega arith))
 
-row-zero : (l : List (List ℤ)) → T (every (every isZero) (withoutDc l)) → (u : ℕ) → 1 ≤ u → cell l 0 u ≡ pos 0
-row-zero [] t u h = refl
-row-zero ([] ∷ l) t u h = refl
-row-zero ((z ∷ r) ∷ l) t zero h = absurd (omega arith)
-row-zero ((z ∷ r) ∷ l) t (suc u) h = zero-cell (withoutDc ((z ∷ r) ∷ l)) t 0 (suc u)
+  rows-zero : (v u : ℕ) → 1 ≤ v → v < 8 → u < 8 → cell (dcBlock dc) v u ≡ pos 0
+  unfolding dcBlock
+  rows-zero v u a b h =
+      cell-block (λ (v u : ℕ). cond (eqb v 0 && eqb u 0) dc (pos 0)) v u b h
+      ∙ ap (λ (t : Bool). cond (t && eqb u 0) dc (pos 0)) (ne-eqb v 0 (λ (z : v ≡ 0). omega arith))
 
-rows-zero : (l : List (List ℤ)) → T (every (every isZero) (withoutDc l)) → (v u : ℕ) → 1 ≤ v → cell l v u ≡ pos 0
-rows-zero [] t v u h = refl
-rows-zero (r ∷ l) t zero u h = absurd (omega arith)
-rows-zero (r ∷ l) t (suc v) u h = zero-cell (withoutDc (r ∷ l)) t (suc v) u
+  -- ---- the value at every place
 
--- the value at every place
-abbrev pub dcValue : List (List ℤ) → Float
-dcValue l = dcPass (dcPass (ofInt binary64 (cell l 0 0)))
+  abbrev pub dcValue : Float
+  dcValue = dcPass (dcPass (ofInt binary64 dc))
 
-module _ (l : List (List ℤ)) (alone : every (every isZero) (withoutDc l) ≡ true) where
-  dc-computed : (y x : ℕ) → computed l y x ≡ dcValue l
+  -- as the program makes it
+  pub dc-value : (z : ℤ) (one two : Float) → z ≡ dc → one ≡ dcPass (ofInt binary64 z) → two ≡ dcPass one → two ≡ dcValue
+  dc-value z one two h a b = b ∙ ap dcPass (a ∙ ap (λ (w : ℤ). dcPass (ofInt binary64 w)) h)
+
+  dc-computed : (y x : ℕ) → computed (dcBlock dc) y x ≡ dcValue
   dc-computed y x =
+      let l = dcBlock dc in
       dc-pass (λ (v : ℕ). pass cF (λ (u : ℕ). ofInt binary64 (cell l v u)) (λ (u : ℕ). cosF u x)) y
       (λ (v : ℕ) (a : 1 ≤ v) (b : v < 8).
-      (false, pos 0, zero-pass (λ (u : ℕ). ofInt binary64 (cell l v u)) x (λ (u : ℕ) (m : u < 8). int-nought (cell l v u) (rows-zero l (is-T _ alone) v u a)) ∙ zero-bits))
-      ∙ ap dcPass (dc-pass (λ (u : ℕ). ofInt binary64 (cell l 0 u)) x (λ (u : ℕ) (a : 1 ≤ u) (b : u < 8). int-nought (cell l 0 u) (row-zero l (is-T _ alone) u a)))
+      (false, pos 0, zero-pass (λ (u : ℕ). ofInt binary64 (cell l v u)) x (λ (u : ℕ) (m : u < 8). int-nought (cell l v u) (rows-zero v u a b m)) ∙ zero-bits))
+      ∙ ap dcPass (dc-pass (λ (u : ℕ). ofInt binary64 (cell l 0 u)) x (λ (u : ℕ) (a : 1 ≤ u) (b : u < 8). int-nought (cell l 0 u) (row-zero u a b)))
+      ∙ ap (λ (z : ℤ). dcPass (dcPass (ofInt binary64 z))) dc-cell
 
-  pub dc-bounded : (value : Float) → Modest l → value ≡ dcValue l → Roundable value
-  dc-bounded value m e = subst Roundable (dc-computed 0 0 ∙ sym e) (bounded l m 0 0 (omega arith) (omega arith))
+  pub dc-bounded : (value : Float) → Modest (dcBlock dc) → value ≡ dcValue → Roundable value
+  dc-bounded value m e = subst Roundable (dc-computed 0 0 ∙ sym e) (bounded (dcBlock dc) m 0 0 (omega arith) (omega arith))
 
-  pub dc-samples-are : (lo hi : ℤ) (rounding : HalfIntegerRounding) (value : Float) (sample : ℤ) → value ≡ dcValue l → sample ≡ clampZ (wholeOf rounding value) lo hi → block (λ (y x : ℕ). sample) ≡ samplesIn rounding lo hi l
+  pub dc-samples-are : (lo hi : ℤ) (rounding : HalfIntegerRounding) (value : Float) (sample : ℤ) → value ≡ dcValue → sample ≡ clampZ (wholeOf rounding value) lo hi → block (λ (y x : ℕ). sample) ≡ samplesIn rounding lo hi (dcBlock dc)
   unfolding whole
   dc-samples-are lo hi rounding value sample e h =
-      block-eq (λ (y x : ℕ). sample) (λ (y x : ℕ). clampZ (wholeOf rounding (computed l y x)) lo hi)
+      block-eq (λ (y x : ℕ). sample) (λ (y x : ℕ). clampZ (wholeOf rounding (computed (dcBlock dc) y x)) lo hi)
       (λ (y x : ℕ) (p : y < 8) (q : x < 8). h ∙ ap (λ (z : Float). clampZ (wholeOf rounding z) lo hi) (e ∙ sym (dc-computed y x)))

@@ -18,12 +18,14 @@ use Rattle.f64_error.proofs.Binary64.{lt-is, lt-shown, nlt-is, zero-is}
 use Rattle.f64_error.proofs.Grains.{grain}
 use Rattle.f64_error.specs.Series.{half}
 use Rattle.f64_error.specs.Units.{Is}
-use Rattle.idct.specs.Rounding.{wholeOf}
-use Rattle.idct.specs.ShortWays.{Castable, Roundable, Sure, greaterF, nearF, nearZ, squareF, wellWithinSquare}
-use Rattle.idct.specs.declared.rounding.HalfIntegerRounding.{HalfIntegerRounding}
-use Rattle.idct.proofs.Floors.{cast-fine, near-size}
-use Rattle.idct.proofs.Loops.{zero-bits}
-use Rattle.idct.proofs.Settled.{gap-square, well-square-is}
+use Rattle.rounding.specs.Rounding.{wholeOf}
+use Rattle.rounding.specs.Near.{Roundable, Sure, nearF, nearZ, squareF, wellWithinSquare}
+use Rattle.rounding.specs.declared.HalfIntegerRounding.{HalfIntegerRounding}
+use Rattle.rounding.proofs.Floors.{cast-fine, near-size}
+use Rattle.rounding.proofs.Literals.{zero-bits}
+use Rattle.rounding.proofs.Settled.{gap-square, well-square-is}
+use Rattle.eights.specs.Eights.{greaterF}
+use Rattle.idct.specs.ShortWays.{Castable}
 
 abbrev Finite : Float → Type 0
 Finite x = (v : ℤ) × Is x v
@@ -38,12 +40,12 @@ module _ (sum : ℕ → Float) (sums : List Float) (s : sums ≡ build 8 sum) wh
   row-bounded b x q = subst (λ (z : Float). Roundable (mul binary64 half z)) (sym (sum-at x q)) (b x q)
 
   -- by the rule
-  pub row-ruled : (m : HalfIntegerRounding) (hi : ℤ) (row : List ℤ) → row ≡ build 8 (λ (x : ℕ). clampZ (wholeOf m (mul binary64 half (getD sums x nan))) (pos 0) hi)
-      → row ≡ build 8 (λ (x : ℕ). clampZ (wholeOf m (mul binary64 half (sum x))) (pos 0) hi)
-  row-ruled m hi row e =
+  pub row-ruled : (m : HalfIntegerRounding) (lo hi : ℤ) (row : List ℤ) → row ≡ build 8 (λ (x : ℕ). clampZ (wholeOf m (mul binary64 half (getD sums x nan))) lo hi)
+      → row ≡ build 8 (λ (x : ℕ). clampZ (wholeOf m (mul binary64 half (sum x))) lo hi)
+  row-ruled m lo hi row e =
       e
-      ∙ build-eq 8 (λ (x : ℕ). clampZ (wholeOf m (mul binary64 half (getD sums x nan))) (pos 0) hi) (λ (x : ℕ). clampZ (wholeOf m (mul binary64 half (sum x))) (pos 0) hi)
-      (λ (x : ℕ) (q : x < 8). ap (λ (z : Float). clampZ (wholeOf m (mul binary64 half z)) (pos 0) hi) (sum-at x q))
+      ∙ build-eq 8 (λ (x : ℕ). clampZ (wholeOf m (mul binary64 half (getD sums x nan))) lo hi) (λ (x : ℕ). clampZ (wholeOf m (mul binary64 half (sum x))) lo hi)
+      (λ (x : ℕ) (q : x < 8). ap (λ (z : Float). clampZ (wholeOf m (mul binary64 half z)) lo hi) (sum-at x q))
 
 -- ---- the same, to near numbers
 
@@ -54,11 +56,11 @@ module _ (sum : ℕ → Float) (sums near : List Float) (s : sums ≡ build 8 su
   pub near-castable : ((x : ℕ) → x < 8 → Roundable (sum x)) → (x : ℕ) → x < 8 → Castable (getD near x nan)
   near-castable b x q = subst Castable (sym (near-at x q)) (cast-fine (sum x) (b x q), near-size (sum x) (b x q))
 
-  pub near-clipped : (hi : ℤ) (row : List ℤ) → row ≡ build 8 (λ (x : ℕ). clampZ (toSigned 31 (getD near x nan)) (pos 0) hi) → row ≡ build 8 (λ (x : ℕ). clampZ (nearZ (sum x)) (pos 0) hi)
-  near-clipped hi row e =
+  pub near-clipped : (lo hi : ℤ) (row : List ℤ) → row ≡ build 8 (λ (x : ℕ). clampZ (toSigned 31 (getD near x nan)) lo hi) → row ≡ build 8 (λ (x : ℕ). clampZ (nearZ (sum x)) lo hi)
+  near-clipped lo hi row e =
       e
-      ∙ build-eq 8 (λ (x : ℕ). clampZ (toSigned 31 (getD near x nan)) (pos 0) hi) (λ (x : ℕ). clampZ (nearZ (sum x)) (pos 0) hi)
-      (λ (x : ℕ) (q : x < 8). ap (λ (z : Float). clampZ (toSigned 31 z) (pos 0) hi) (near-at x q))
+      ∙ build-eq 8 (λ (x : ℕ). clampZ (toSigned 31 (getD near x nan)) lo hi) (λ (x : ℕ). clampZ (nearZ (sum x)) lo hi)
+      (λ (x : ℕ) (q : x < 8). ap (λ (z : Float). clampZ (toSigned 31 z) lo hi) (near-at x q))
 
 -- ---- the greater of two
 

@@ -1,4 +1,4 @@
--- What the first pass tells of the even and of the odd rows, and what the way by the rule leaves. Assumes nothing.
+-- What the first pass tells of the even and of the odd rows, and the samples by near numbers and by the rule. Assumes nothing.
 use mathlib.Core.Bool.{Bool, cond, false, true}
 use mathlib.Core.List.{List, []}
 use mathlib.Core.Path.{_≡_, sym, ap, _∙_, subst}
@@ -8,11 +8,18 @@ use lib.Ieee.{Float}
 use lib.IntN.{ℤ, pos}
 use lib.ListN.{getD, length}
 use Rattle.numbers.proofs.Every.{every-in}
+use Rattle.numbers.proofs.Fill.{block-eq}
 use Rattle.numbers.specs.Every.{every}
+use Rattle.numbers.specs.Grid.{block}
+use Rattle.numbers.specs.Limit.{clampZ}
 use Rattle.ranges.specs.Range.{within}
-use Rattle.idct.specs.EvenOdd.{Half, ToldHalf}
-use Rattle.idct.specs.ShortWays.{samplesIn}
-use Rattle.idct.specs.declared.rounding.HalfIntegerRounding.{HalfIntegerRounding}
+use Rattle.rounding.specs.Near.{Sure, nearZ}
+use Rattle.rounding.specs.declared.HalfIntegerRounding.{HalfIntegerRounding}
+use Rattle.exact_transform.specs.EvenOdd.{Half, valueOfBoth}
+use Rattle.exact_transform.specs.Exact.{Modest}
+use Rattle.exact_transform.specs.Transform.{whole}
+use Rattle.exact_transform.proofs.EvenOddBounds.{both-sure}
+use Rattle.idct.specs.ShortWays.{ToldHalf, samplesIn}
 use Rattle.idct.specs.declared.short.KeptRows.{KeptRows}
 use Rattle.idct.specs.declared.short.KeptRows.the-variants.{Are, OutOfLimits}
 
@@ -41,10 +48,15 @@ module _ (p : ℕ) (l : List (List ℤ)) (lo hi least most : ℤ) (terms : List 
   pub half-not : r ≡ OutOfLimits → every (every (within least most)) l ≡ false
   half-not e = sym (λ i. every (every (within (a i) (b i))) l) ∙ subst (ToldHalf p l lo hi terms which) e t
 
--- by the rule, where each value is within the limits: what stood there before does not matter
-pub after-slow : (l : List (List ℤ)) (m : HalfIntegerRounding) (low high least most hi top : ℤ) (r : Bool) (out mid old : List (List ℤ)) → low ≡ least → high ≡ most → hi ≡ top → every (every (within least most)) l ≡ true
-    → (r ≡ every (every (within low high)) l) × (out ≡ cond r (samplesIn m (pos 0) hi l) mid) → (r ≡ every (every (within least most)) l) × (out ≡ cond r (samplesIn m (pos 0) top l) old)
-after-slow l m low high least most hi top r out mid old a b h t s =
-    let g : r ≡ every (every (within least most)) l = s .0 ∙ (λ i. every (every (within (a i) (b i))) l) in
-    let e : r ≡ true = g ∙ t in
-    (g, s .1 ∙ (λ i. cond (e i) (samplesIn m (pos 0) (h i) l) mid) ∙ sym (ap (λ (c : Bool). cond c (samplesIn m (pos 0) top l) old) e))
+-- the samples by near numbers that are the rule's
+pub near-are : (l : List (List ℤ)) → Modest l → (evens : List (List Float)) (even : List ℕ) (m : ℕ) (odds : List (List Float)) (odd : List ℕ) (n : ℕ) → Half 0 l 4 evens even m → Half 1 l 4 odds odd n → (r : HalfIntegerRounding) (lo hi low top : ℤ) (out : List (List ℤ)) → lo ≡ low → hi ≡ top
+    → out ≡ block (λ (y x : ℕ). clampZ (nearZ (valueOfBoth evens even m odds odd n y x)) lo hi) → ((y x : ℕ) → y < 8 → x < 8 → Sure (valueOfBoth evens even m odds odd n y x)) → out ≡ samplesIn r low top l
+near-are l modest evens even m odds odd n a b r lo hi low top out g h e s =
+    e
+    ∙ block-eq (λ (y x : ℕ). clampZ (nearZ (valueOfBoth evens even m odds odd n y x)) lo hi) (λ (y x : ℕ). clampZ (whole r l y x) lo hi)
+    (λ (y x : ℕ) (p : y < 8) (q : x < 8). ap (λ (z : ℤ). clampZ z lo hi) (both-sure l modest evens even m odds odd n a b y x p q r (s y x p q)))
+    ∙ (λ i. samplesIn r (g i) (h i) l)
+
+-- the same by the rule, between the limits as the program reads them back
+pub ruled-between : (l : List (List ℤ)) (r : HalfIntegerRounding) (lo hi low top : ℤ) (out : List (List ℤ)) → lo ≡ low → hi ≡ top → out ≡ samplesIn r lo hi l → out ≡ samplesIn r low top l
+ruled-between l r lo hi low top out g h e = e ∙ (λ i. samplesIn r (g i) (h i) l)

@@ -19,11 +19,12 @@ use Rattle.numbers.specs.Every.{every}
 use Rattle.numbers.specs.Grid.{build}
 use Rattle.ranges.specs.Range.{within}
 use Rattle.f64_error.specs.Series.{seriesF, seriesZ}
-use Rattle.idct.specs.Cosines.{cF, cosF}
-use Rattle.idct.specs.EvenOdd.{Half, bothAt, halfSum, halfTable, pairedAt, quarter, valueOfBoth}
-use Rattle.idct.specs.ShortWays.{cellF, isZero, sumOfKept}
-use Rattle.idct.proofs.EvenOddSums.{sum-ext}
-use Rattle.idct.proofs.Loops.{zero-bits}
+use Rattle.rounding.proofs.Literals.{zero-bits}
+use Rattle.cosines.specs.Cosines.{cF, cosF, halfTable}
+use Rattle.eights.specs.Eights.{bothAt}
+use Rattle.exact_transform.specs.EvenOdd.{Half, halfSum, pairedAt, quarter, valueOfBoth, cellF, isZero, sumOfKept}
+use Rattle.exact_transform.proofs.Both.{both-eq, both-high, both-low}
+use Rattle.exact_transform.proofs.EvenOddSums.{sum-ext}
 
 -- ---- a table of the cosines below 4: a row of it, and a place
 
@@ -54,31 +55,6 @@ module _ (row : List ℤ) (p : ℕ) where
       ∙ ap (λ (n : ℕ). halfSum row p n x) (sym (add-one k)))
 
 -- ---- both halves together
-
-module _ (e o : ℕ → Float) where
-  pub both-low : (i : ℕ) → i < 4 → add binary64 (e i) (o i) ≡ bothAt e o i
-  both-low i h = sym (ap (λ (b : Bool). cond b (add binary64 (e i) (o i)) (sub binary64 (e (7 - i)) (o (7 - i)))) (lt-ltb i 4 h))
-
-  pub both-high : (i : ℕ) → i < 4 → sub binary64 (e i) (o i) ≡ bothAt e o (7 - i)
-  both-high i h =
-      let z : i ≡ 7 - (7 - i) = omega arith in
-      ap (λ (j : ℕ). sub binary64 (e j) (o j)) z
-      ∙ sym (ap (λ (b : Bool). cond b (add binary64 (e (7 - i)) (o (7 - i))) (sub binary64 (e (7 - (7 - i))) (o (7 - (7 - i))))) (le-ltb (7 - i) 4 (omega arith)))
-
-both-eq : (e o e′ o′ : ℕ → Float) (i : ℕ) → i < 8 → ((k : ℕ) → k < 4 → e k ≡ e′ k) → ((k : ℕ) → k < 4 → o k ≡ o′ k) → bothAt e o i ≡ bothAt e′ o′ i
-both-eq e o e′ o′ i h a b =
-    ⊎-elim
-    (λ (l : i < 4). sym (both-low e o i l) ∙ ap (λ (y : Float). add binary64 y (o i)) (a i l) ∙ ap (λ (y : Float). add binary64 (e′ i) y) (b i l) ∙ both-low e′ o′ i l)
-    (λ (l : 4 ≤ i).
-    let k : i ≡ 7 - (7 - i) = omega arith in
-    let m : 7 - i < 4 = omega arith in
-    ap (bothAt e o) k
-    ∙ sym (both-high e o (7 - i) m)
-    ∙ ap (λ (y : Float). sub binary64 y (o (7 - i))) (a (7 - i) m)
-    ∙ ap (λ (y : Float). sub binary64 (e′ (7 - i)) y) (b (7 - i) m)
-    ∙ both-high e′ o′ (7 - i) m
-    ∙ ap (bothAt e′ o′) (sym k))
-    (lt-or-le i 4)
 
 quarter-bits : ofBits binary64 4598175219545276416 ≡ quarter
 unfolding ofBits

@@ -21,17 +21,17 @@ use Rattle.numbers.specs.Grid.{block, build}
 use Rattle.numbers.specs.Limit.{clampZ}
 use Rattle.ranges.specs.Range.{within}
 use Rattle.f64_error.specs.Series.{half, seriesF}
-use Rattle.idct.specs.Cosines.{cF, cosF}
-use Rattle.idct.specs.Exact.{Modest}
-use Rattle.idct.specs.Rounding.{wholeOf}
-use Rattle.idct.specs.ShortWays.{Kept, Roundable, Told, cellF, halfOfKept, isZero, rowAt, rowTerms, samplesIn, sumOfKept, sumOfRows}
-use Rattle.idct.specs.Transform.{computed, whole}
-use Rattle.idct.specs.declared.rounding.HalfIntegerRounding.{HalfIntegerRounding}
-use Rattle.idct.specs.declared.short.KeptRows.{KeptRows}
-use Rattle.idct.specs.declared.short.KeptRows.the-variants.{Are, OutOfLimits}
+use Rattle.rounding.specs.Rounding.{wholeOf}
+use Rattle.rounding.specs.Near.{Roundable}
+use Rattle.rounding.specs.declared.HalfIntegerRounding.{HalfIntegerRounding}
+use Rattle.rounding.proofs.Literals.{zero-bits}
+use Rattle.cosines.specs.Cosines.{cF, cosF}
+use Rattle.exact_transform.specs.Exact.{Modest}
+use Rattle.exact_transform.specs.EvenOdd.{cellF, isZero, sumOfKept}
+use Rattle.exact_transform.specs.Transform.{computed, whole}
+use Rattle.exact_transform.proofs.Bounds.{bounded}
+use Rattle.idct.specs.ShortWays.{Kept, halfOfKept, rowAt, rowTerms, samplesIn, sumOfRows}
 use Rattle.idct.proofs.Blocks.{cellF-block, row-skipped, series-ext}
-use Rattle.idct.proofs.Bounds.{bounded}
-use Rattle.idct.proofs.Loops.{zero-bits}
 
 -- a table of the cosines, at a place
 pub cosine-at : (table : List (List Float)) (v y : ℕ) → table ≡ block cosF → v < 8 → y < 8 → cellF table v y ≡ cosF v y
@@ -147,25 +147,10 @@ module _ (l : List (List ℤ)) (terms : List (List Float)) (which : List ℕ) (n
   halves-bounded m y x p q = subst Roundable (sym (halves-are y x p q)) (bounded l m y x p q)
 
   -- the samples by the rule
-  pub ruled-are : (m : HalfIntegerRounding) (hi top : ℤ) (out : List (List ℤ)) → hi ≡ top → out ≡ block (λ (y x : ℕ). clampZ (wholeOf m (halfOfKept terms which n y x)) (pos 0) hi) → out ≡ samplesIn m (pos 0) top l
+  pub ruled-are : (m : HalfIntegerRounding) (lo hi low top : ℤ) (out : List (List ℤ)) → lo ≡ low → hi ≡ top → out ≡ block (λ (y x : ℕ). clampZ (wholeOf m (halfOfKept terms which n y x)) lo hi) → out ≡ samplesIn m low top l
   unfolding whole
-  ruled-are m hi top out h e =
+  ruled-are m lo hi low top out g h e =
       e
-      ∙ block-eq (λ (y x : ℕ). clampZ (wholeOf m (halfOfKept terms which n y x)) (pos 0) hi) (λ (y x : ℕ). clampZ (wholeOf m (computed l y x)) (pos 0) hi)
-      (λ (y x : ℕ) (p : y < 8) (q : x < 8). ap (λ (z : Float). clampZ (wholeOf m z) (pos 0) hi) (halves-are y x p q))
-      ∙ (λ i. samplesIn m (pos 0) (h i) l)
-
--- ---- what the answer of the first pass tells
-
-module _ (l : List (List ℤ)) (lo hi least most : ℤ) (terms : List (List Float)) (which : List ℕ) (r : KeptRows) (a : lo ≡ least) (b : hi ≡ most) (t : Told l lo hi terms which r) where
-  told-limits : every (every (within lo hi)) l ≡ every (every (within least most)) l
-  told-limits = λ i. every (every (within (a i) (b i))) l
-
-  pub told-within : (n : ℕ) → r ≡ Are n → every (every (within least most)) l ≡ true
-  told-within n e = sym told-limits ∙ subst (Told l lo hi terms which) e t .0
-
-  pub told-kept : (n : ℕ) → r ≡ Are n → Kept l 8 terms which n
-  told-kept n e = subst (Told l lo hi terms which) e t .1
-
-  pub told-not : r ≡ OutOfLimits → every (every (within least most)) l ≡ false
-  told-not e = sym told-limits ∙ subst (Told l lo hi terms which) e t
+      ∙ block-eq (λ (y x : ℕ). clampZ (wholeOf m (halfOfKept terms which n y x)) lo hi) (λ (y x : ℕ). clampZ (wholeOf m (computed l y x)) lo hi)
+      (λ (y x : ℕ) (p : y < 8) (q : x < 8). ap (λ (z : Float). clampZ (wholeOf m z) lo hi) (halves-are y x p q))
+      ∙ (λ i. samplesIn m (g i) (h i) l)

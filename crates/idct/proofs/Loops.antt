@@ -14,17 +14,10 @@ use Rattle.numbers.proofs.Fill.{build-eq, getD-build}
 use Rattle.numbers.specs.Grid.{build}
 use Rattle.f64_error.proofs.Zeros.{Nought, nought-left, series-none, zero-of-eq}
 use Rattle.f64_error.specs.Series.{half, seriesF}
-use Rattle.idct.specs.Cosines.{cF, cosF}
+use Rattle.rounding.proofs.Literals.{zero-bits}
+use Rattle.cosines.specs.Cosines.{cF, cosF}
+use Rattle.cosines.proofs.Tables.{cos-const}
 use Rattle.idct.specs.ShortWays.{idct1d}
-use Rattle.idct.proofs.Tables.{cos-const}
-
-pub zero-bits : ofBits binary64 0 ≡ fin false 0 (pos 0)
-unfolding ofBits
-zero-bits = refl
-
-pub half-bits : ofBits binary64 4602678819172646912 ≡ half
-unfolding ofBits
-half-bits = refl
 
 module _ (input : List Float) where
   abbrev pub term : ℕ → ℕ → Float

@@ -6,11 +6,11 @@ use native.Mathlib.Omega.{arith}
 use lib.Bits.{and-le-l, and-le-r, bitOr, or-add-and}
 use lib.Dec.{eqb}
 use lib.IntN.{ℤ, natAbs}
-use borrow.Author.Tests.{eq-eqb, eqb-false, eqb-true, ne-eqb}
 use mir.Syntax.{w32}
 use mir.Val.{SFits, ofZ}
+use borrow.Author.Tests.{eq-eqb, eqb-false, eqb-true, ne-eqb}
 use Rattle.numbers.proofs.Words.{nonzero-abs, zero-abs}
-use Rattle.idct.specs.ShortWays.{isZero}
+use Rattle.exact_transform.specs.EvenOdd.{isZero}
 
 or-none : (a b : ℕ) → eqb (bitOr a b) 0 ≡ (eqb a 0 && eqb b 0)
 or-none a b = go (eqb a 0) (eqb b 0) refl refl

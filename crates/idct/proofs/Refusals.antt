@@ -1,7 +1,7 @@
 -- Which values are refused: what the tests tell of sizes, what is due, and what a caller shows of values that are taken. Assumes nothing.
 use mathlib.Core.Bool.{Bool, true, false, _&&_}
 use mathlib.Core.List.{List, [], _∷_}
-use mathlib.Core.Path.{_≡_, refl, ap, _∙_}
+use mathlib.Core.Path.{_≡_, refl, sym, ap, _∙_}
 use Prim.Native.Nat.{ℕ, zero, suc, _+_, _^_, _≤_, _<_}
 use native.Mathlib.Nat.{le-trans}
 use native.Mathlib.Omega.{arith}
@@ -22,13 +22,14 @@ use Rattle.numbers.specs.Limit.{clampZ}
 use Rattle.numbers.specs.Outcome.{Outcome, accepted, checked}
 use Rattle.ranges.proofs.RangeLaws.{depth-range, highest-not-negative, lowest-highest, lowest-negative, within-of}
 use Rattle.ranges.specs.Range.{depthFine, highest, lowest}
-use Rattle.idct.specs.Exact.{Modest, Near, exact}
+use Rattle.rounding.specs.declared.HalfIntegerRounding.{HalfIntegerRounding}
+use Rattle.numbers.proofs.Tests.{true-T}
+use Rattle.exact_transform.specs.Exact.{Modest, Near, exact}
+use Rattle.exact_transform.specs.Transform.{whole}
+use Rattle.exact_transform.proofs.Bounds.{whole-near}
 use Rattle.idct.specs.Limits.{idctOutcome, inBounds, valuesFine}
-use Rattle.idct.specs.Transform.{whole}
-use Rattle.idct.specs.declared.limits.IdctAnswer.the-variants.{DepthOutOfRange, Transformed, ValueOutOfLimits}
-use Rattle.idct.specs.declared.rounding.HalfIntegerRounding.{HalfIntegerRounding}
-use Rattle.idct.proofs.Bounds.{whole-near}
-use Rattle.idct.proofs.Scans.{is-T}
+use Rattle.idct.specs.declared.limits.IdctAnswer.{IdctAnswer}
+use Rattle.idct.specs.declared.limits.IdctAnswer.the-variants.{Transformed}
 
 -- ---- one value
 
@@ -48,7 +49,7 @@ pub modest : (d : ℕ) (l : List (List ℤ)) → depthFine d ≡ true → values
 modest d l h e v u i j =
     let p = inBounds (d + 3) in
     let g : d + 3 ≤ 15 = omega (arith, depth-range d h .1) in
-    le-trans (size (d + 3) (cell l v u) (every-at p (pos 0) (getD l v []) (is-T (p (pos 0)) (zero-inside (d + 3))) (every-at (every p) [] l tt (is-T (valuesFine d l) e) v) u)) (le-trans (pow-mono g) (lit≤ tt))
+    le-trans (size (d + 3) (cell l v u) (every-at p (pos 0) (getD l v []) (true-T (p (pos 0)) (zero-inside (d + 3))) (every-at (every p) [] l tt (true-T (valuesFine d l) e) v) u)) (le-trans (pow-mono g) (lit≤ tt))
 
 -- ---- what is due
 
@@ -56,12 +57,6 @@ module _ (d : ℕ) (l : List (List ℤ)) where
   -- by the depth first, then by the values
   abbrev pub due : Outcome (Unit {0})
   due = checked ((depthFine d, 12) ∷ (valuesFine d l, 13) ∷ []) (accepted tt)
-
-  pub depth-refused : depthFine d ≡ false → idctOutcome DepthOutOfRange ≡ due
-  depth-refused e = simp e
-
-  pub value-refused : depthFine d ≡ true → valuesFine d l ≡ false → idctOutcome ValueOutOfLimits ≡ due
-  value-refused e g = simp (e, g)
 
   pub transformed : depthFine d ≡ true → valuesFine d l ≡ true → idctOutcome Transformed ≡ due
   transformed e g = simp (e, g)
@@ -86,3 +81,15 @@ limited-inside b z = within-of (lowest b) (highest b) (clampZ z (lowest b) (high
 
 pub taken-near : (d : ℕ) (l : List (List ℤ)) → depthFine d ≡ true → valuesFine d l ≡ true → (m : HalfIntegerRounding) (y x : ℕ) → y < 8 → x < 8 → Near (whole m l y x) (exact l y x)
 taken-near d l e g m y x p q = whole-near l (modest d l e g) y x p q m
+
+-- what an answer is due to
+fine-told : (d : ℕ) (l : List (List ℤ)) → idctOutcome Transformed ≡ due d l → (depthFine d ≡ true) × (valuesFine d l ≡ true)
+fine-told d l = go (depthFine d) (valuesFine d l)
+  where
+    go : (a b : Bool) → _≡_ {A = Outcome (Unit {0})} (accepted tt) (checked ((a, 12) ∷ (b, 13) ∷ []) (accepted tt)) → (a ≡ true) × (b ≡ true)
+    go true true e = (refl, refl)
+    go true false e = let n : _≡_ {A = ℕ} 0 1 = cc in absurd (omega arith)
+    go false b e = let n : _≡_ {A = ℕ} 0 1 = cc in absurd (omega arith)
+
+pub answer-near : (d : ℕ) (l : List (List ℤ)) (m : HalfIntegerRounding) (r : IdctAnswer) → idctOutcome r ≡ due d l → r ≡ Transformed → (y x : ℕ) → y < 8 → x < 8 → Near (whole m l y x) (exact l y x)
+answer-near d l m r e t y x p q = let f = fine-told d l (sym (ap idctOutcome t) ∙ e) in taken-near d l (f .0) (f .1) m y x p q

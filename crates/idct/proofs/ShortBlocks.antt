@@ -1,24 +1,22 @@
 -- A DC alone, and a DC with 1 at (7, 7): which of their values are within a depth's limits, and how the program makes them. Assumes nothing.
 use mathlib.Core.Bool.{Bool, cond, false, true, _&&_}
 use mathlib.Core.List.{List, []}
-use mathlib.Core.Path.{_≡_, ap, refl, sym, _∙_}
+use mathlib.Core.Path.{_≡_, refl}
 use Prim.Native.Nat.{ℕ, _+_, _<_, _≤_, _^_}
 use native.Mathlib.Omega.{arith}
 use lib.Dec.{eqb}
-use lib.Ieee.{Float, binary64, ofInt}
 use lib.IntN.{ℤ, pos}
 use lib.ListN.{getD, set}
 use lib.Pow.{pow-mono}
+use Rattle.numbers.proofs.Every.{every-fails}
 use Rattle.numbers.proofs.Integers.{diff-is, le-in, zarith}
 use Rattle.numbers.specs.Every.{every}
-use Rattle.numbers.specs.Grid.{block, build, cell}
+use Rattle.numbers.specs.Grid.{block, build}
 use Rattle.ranges.proofs.RangeLaws.{lowest-negative, within-of}
 use Rattle.ranges.specs.Range.{depthFine, highest, lowest}
+use Rattle.exact_transform.specs.Exact.{Modest}
 use Rattle.idct.specs.Clipped.{dcAndLast, dcBlock}
-use Rattle.idct.specs.Exact.{Modest}
 use Rattle.idct.specs.Limits.{inBounds, valuesFine}
-use Rattle.idct.specs.ShortWays.{dcPass, isZero, withoutDc}
-use Rattle.idct.proofs.DcAlone.{dcValue}
 use Rattle.idct.proofs.Refusals.{modest, values-taken, zero-inside}
 
 one-inside : (b : ℕ) → 1 ≤ b → inBounds b (pos 1) ≡ true
@@ -40,7 +38,7 @@ module _ (d : ℕ) (dc : ℤ) (h : inBounds (d + 3) dc ≡ true) where
   pub dc-modest : depthFine d ≡ true → Modest (dcBlock dc)
   dc-modest f = modest d (dcBlock dc) f dc-taken
 
-  pub last-taken : valuesFine d (dcAndLast dc) ≡ true
+  last-taken : valuesFine d (dcAndLast dc) ≡ true
   unfolding dcAndLast
   last-taken =
       values-taken d (λ (v u : ℕ). cond (eqb v 0 && eqb u 0) dc (cond (eqb v 7 && eqb u 7) (pos 1) (pos 0)))
@@ -48,21 +46,21 @@ module _ (d : ℕ) (dc : ℤ) (h : inBounds (d + 3) dc ≡ true) where
       either-inside (d + 3) (eqb v 0 && eqb u 0) dc (cond (eqb v 7 && eqb u 7) (pos 1) (pos 0)) h
       (either-inside (d + 3) (eqb v 7 && eqb u 7) (pos 1) (pos 0) (one-inside (d + 3) (omega arith)) (zero-inside (d + 3))))
 
--- ---- how they are made
+last-not : (d : ℕ) (dc : ℤ) → inBounds (d + 3) dc ≡ false → valuesFine d (dcAndLast dc) ≡ false
+unfolding dcAndLast build
+last-not d dc h =
+    let p = inBounds (d + 3) in
+    every-fails (every p) [] (dcAndLast dc) 0 (omega arith) (every-fails p (pos 0) (getD (dcAndLast dc) 0 []) 0 (omega arith) h)
 
-pub dc-alone : (dc : ℤ) → every (every isZero) (withoutDc (dcBlock dc)) ≡ true
-unfolding dcBlock build
-dc-alone dc = refl
+-- the values of the second are within the limits exactly where the DC is
+pub last-values : (d : ℕ) (dc : ℤ) → valuesFine d (dcAndLast dc) ≡ inBounds (d + 3) dc
+last-values d dc = go (inBounds (d + 3) dc) refl
+  where
+    go : (b : Bool) → inBounds (d + 3) dc ≡ b → valuesFine d (dcAndLast dc) ≡ b
+    go true h = last-taken d dc h
+    go false h = last-not d dc h
 
-dc-cell : (dc : ℤ) → cell (dcBlock dc) 0 0 ≡ dc
-unfolding dcBlock build
-dc-cell dc = refl
-
--- the value at every place of a DC alone, as the program makes it
-pub dc-value : (dc z : ℤ) (one two : Float) → z ≡ dc → one ≡ dcPass (ofInt binary64 z) → two ≡ dcPass one → two ≡ dcValue (dcBlock dc)
-dc-value dc z one two h a b = b ∙ ap dcPass (a ∙ ap (λ (w : ℤ). dcPass (ofInt binary64 w)) (h ∙ sym (dc-cell dc)))
-
--- zeros, then two stores
+-- ---- how the program makes the second: zeros, then two stores
 abbrev nothing : List (List ℤ)
 nothing = block (λ (v u : ℕ). pos 0)
 

@@ -1,4 +1,4 @@
--- The samples of a block: its whole numbers limited to 0 .. 2 ^ depth - 1; and blocks of one value or two. Definitions only.
+-- The samples of a block: its whole numbers saturated to a depth (7.4.5), or limited to 0 .. 2 ^ depth - 1; and blocks of one value or two. Definitions only.
 use mathlib.Core.Bool.{cond, _&&_}
 use mathlib.Core.List.{List}
 use Prim.Native.Nat.{ℕ}
@@ -7,9 +7,15 @@ use lib.IntN.{ℤ, pos}
 use Rattle.numbers.specs.Grid.{block}
 use Rattle.numbers.specs.Limit.{clampZ}
 use Rattle.ranges.specs.Range.{highest}
-use Rattle.idct.specs.Transform.{whole}
-use Rattle.idct.specs.declared.rounding.HalfIntegerRounding.{HalfIntegerRounding}
+use Rattle.rounding.specs.declared.HalfIntegerRounding.{HalfIntegerRounding}
+use Rattle.exact_transform.specs.Transform.{whole}
+use Rattle.idct.specs.Limits.{saturated}
 
+-- the whole numbers of a block, saturated to a depth
+abbrev pub idct8x8 : HalfIntegerRounding → ℕ → List (List ℤ) → List (List ℤ)
+idct8x8 m depth l = block (λ (y x : ℕ). saturated depth (whole m l y x))
+
+-- the same, limited to the samples of a depth
 abbrev pub clipped : HalfIntegerRounding → ℕ → List (List ℤ) → List (List ℤ)
 clipped m depth l = block (λ (y x : ℕ). clampZ (whole m l y x) (pos 0) (highest depth))
 

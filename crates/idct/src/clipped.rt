@@ -6,14 +6,13 @@ ghost use Rattle.numbers.specs.Outcome.{accepted, checked};
 ghost use Rattle.ranges.specs.Range.{depthFine};
 ghost use Rattle.idct.specs.Clipped.{clipped, dcAndLast, dcBlock};
 ghost use Rattle.idct.specs.Limits.{blockAfter, idctOutcome, inBounds, valuesFine};
-use crate::cosines::half_table;
-use crate::dc::dc_pass;
+use crate::depth::at_depth;
 use crate::limits::IdctAnswer;
-use crate::rounding::HalfIntegerRounding;
-use crate::rounding::round_to_integer;
-use crate::short::transform;
+use crate::rows::dc_pass;
+use crate::rows::ruled_sample;
 use ranges::Depth;
 use ranges::DepthLimits;
+use rounding::HalfIntegerRounding;
 
 // The samples of `coefficients` into `out`. A depth outside its bounds is refused (12), then a value
 // outside the depth's limits (13); `out` is then left as it was.
@@ -26,19 +25,7 @@ pub fn idct_8x8_clipped(
     ensures { λ r. ⌜ idctOutcome r ≡ checked ((depthFine «bits_per_pixel», 12) ∷ (valuesFine «bits_per_pixel» coefficients, 13) ∷ []) (accepted tt) ⌝ }
     ensures block { λ r. ⌜ now (out .exit) ≡ blockAfter r (clipped rounding «bits_per_pixel» coefficients) (now (out .entry)) ⌝ }
 {
-    match Depth::value_limits(bits_per_pixel) {
-        DepthLimits::OutOfRange => IdctAnswer::DepthOutOfRange,
-        DepthLimits::Are(least, most) => match Depth::saturation_limits(bits_per_pixel) {
-            DepthLimits::OutOfRange => IdctAnswer::DepthOutOfRange,
-            DepthLimits::Are(_, hi) => {
-                let table = half_table();
-                if !transform(&coefficients, &table, hi, rounding, least, most, out) {
-                    return IdctAnswer::ValueOutOfLimits;
-                }
-                IdctAnswer::Transformed
-            }
-        },
-    }
+    at_depth(&coefficients, bits_per_pixel, false, rounding, out)
 }
 
 // The same of a DC alone.
@@ -60,8 +47,7 @@ pub fn idct_dc_clipped(
             match Depth::saturation_limits(bits_per_pixel) {
                 DepthLimits::Are(_, hi) => {
                     let value = dc_pass(dc_pass(dc as f64));
-                    let n = round_to_integer(value, rounding);
-                    let sample = numbers::clamp(n, 0, hi);
+                    let sample = ruled_sample(value, 0, hi, rounding);
                     *out = [[sample; 8]; 8];
                     IdctAnswer::Transformed
                 }
@@ -81,23 +67,8 @@ pub fn idct_dc_and_last_clipped(
     ensures { λ r. ⌜ idctOutcome r ≡ checked ((depthFine «bits_per_pixel», 12) ∷ (inBounds («bits_per_pixel» + 3) dc, 13) ∷ []) (accepted tt) ⌝ }
     ensures block { λ r. ⌜ now (out .exit) ≡ blockAfter r (clipped rounding «bits_per_pixel» (dcAndLast dc)) (now (out .entry)) ⌝ }
 {
-    match Depth::value_limits(bits_per_pixel) {
-        DepthLimits::OutOfRange => IdctAnswer::DepthOutOfRange,
-        DepthLimits::Are(least, most) => {
-            if !ranges::inside(dc, least, most) {
-                return IdctAnswer::ValueOutOfLimits;
-            }
-            match Depth::saturation_limits(bits_per_pixel) {
-                DepthLimits::Are(_, hi) => {
-                    let table = half_table();
-                    let mut f = [[0i32; 8]; 8];
-                    f[0][0] = dc;
-                    f[7][7] = 1;
-                    transform(&f, &table, hi, rounding, least, most, out);
-                    IdctAnswer::Transformed
-                }
-                DepthLimits::OutOfRange => IdctAnswer::DepthOutOfRange,
-            }
-        }
-    }
+    let mut f = [[0i32; 8]; 8];
+    f[0][0] = dc;
+    f[7][7] = 1;
+    at_depth(&f, bits_per_pixel, false, rounding, out)
 }

@@ -3,12 +3,10 @@
 //
 // No public function has a `requires`: each answers every input.
 mod clipped;
-mod cosines;
-mod dc;
+mod depth;
 mod limits;
-mod rounding;
+mod rows;
 mod short;
-mod transform;
 
 pub use clipped::idct_8x8_clipped;
 pub use clipped::idct_dc_and_last_clipped;
@@ -23,10 +21,10 @@ ghost use mathlib.Core.Path.{_≡_};
 ghost use Prim.Native.Nat.{ℕ, _<_};
 ghost use Rattle.numbers.specs.Outcome.{accepted, checked};
 ghost use Rattle.ranges.specs.Range.{depthFine};
-ghost use Rattle.idct.specs.Exact.{Near, exact};
+ghost use Rattle.exact_transform.specs.Exact.{Near, exact};
+ghost use Rattle.exact_transform.specs.Transform.{whole};
+ghost use Rattle.idct.specs.Clipped.{idct8x8};
 ghost use Rattle.idct.specs.Limits.{blockAfter, idctOutcome, valuesFine};
-ghost use Rattle.idct.specs.Transform.{idct8x8, whole};
-use ranges::Depth;
 
 // The transform of `coefficients` into `out`, each value saturated to -2^bits_per_pixel ..=
 // 2^bits_per_pixel - 1. A depth outside its bounds is refused (12), then a value outside the
@@ -41,16 +39,7 @@ pub fn idct_8x8_rounded(
     ensures block { λ r. ⌜ now (out .exit) ≡ blockAfter r (idct8x8 rounding «bits_per_pixel» coefficients) (now (out .entry)) ⌝ }
     ensures near { λ r. ⌜ (r ≡ IdctAnswer.Transformed → (y x : ℕ) → y < 8 → x < 8 → Near (whole rounding coefficients y x) (exact coefficients y x)) ⌝ }
 {
-    if Depth::fine(bits_per_pixel) {
-        if limits::values_fine(coefficients, bits_per_pixel) {
-            *out = transform::samples(coefficients, bits_per_pixel, rounding);
-            IdctAnswer::Transformed
-        } else {
-            IdctAnswer::ValueOutOfLimits
-        }
-    } else {
-        IdctAnswer::DepthOutOfRange
-    }
+    depth::at_depth(&coefficients, bits_per_pixel, true, rounding, out)
 }
 
 // The same, a half away from zero.

@@ -1,11 +1,10 @@
 // What the transform takes and gives: the limits of a depth, and what is refused.
-ghost use mathlib.Core.Bool.{true};
 ghost use mathlib.Core.List.{[], _∷_};
 ghost use mathlib.Core.Path.{_≡_};
 ghost use Rattle.numbers.specs.Every.{every};
 ghost use Rattle.numbers.specs.Outcome.{accepted, checked};
 ghost use Rattle.ranges.specs.Range.{depthFine, limitsOutcome, saturationLimits, within};
-ghost use Rattle.idct.specs.Limits.{numberOf, sampleOutcome, saturated, valuesFine};
+ghost use Rattle.idct.specs.Limits.{numberOf, sampleOutcome, saturated};
 use ranges::Depth;
 use ranges::DepthLimits;
 
@@ -62,29 +61,4 @@ pub(crate) fn row_within(row: [i32; 8], lo: i32, hi: i32) -> bool
         fine = fine & within;
     }
     fine
-}
-
-// The same of each value of a block.
-fn block_within(coefficients: [[i32; 8]; 8], lo: i32, hi: i32) -> bool
-    ensures { λ r. ⌜ r ≡ every (every (within lo hi)) coefficients ⌝ }
-{
-    for v in 0..8 {
-        let row = coefficients[v];
-        if !row_within(row, lo, hi) {
-            return false;
-        }
-    }
-    true
-}
-
-// Whether each value is within a depth's limits (7.4.4.4). A depth that is fine has them, so the second
-// arm does not arise.
-pub(crate) fn values_fine(coefficients: [[i32; 8]; 8], bits_per_pixel: u32) -> bool
-    requires { ⌜ depthFine «bits_per_pixel» ≡ true ⌝ }
-    ensures { λ r. ⌜ r ≡ valuesFine «bits_per_pixel» coefficients ⌝ }
-{
-    match Depth::value_limits(bits_per_pixel) {
-        DepthLimits::Are(lo, hi) => block_within(coefficients, lo, hi),
-        DepthLimits::OutOfRange => false,
-    }
 }

@@ -10,10 +10,10 @@ use lib.IntN.{ℤ, pos, negsuc, natAbs, _+ℤ_, _-ℤ_, _*ℤ_}
 use Rattle.numbers.proofs.Integers.{var, _⊕_, _⊝_, _⊗_, ring, add-is, diff-is, dn, eq-in, halves, up}
 use Rattle.numbers.proofs.Magnitudes.{abs-add}
 use Rattle.f64_error.proofs.FromIntegers.{times-dn, times-up}
-use Rattle.idct.proofs.Bounds.{whole-within}
-use Rattle.idct.specs.Exact.{exact, Modest}
-use Rattle.idct.specs.Transform.{whole}
-use Rattle.idct.specs.declared.rounding.HalfIntegerRounding.{HalfIntegerRounding}
+use Rattle.exact_transform.proofs.Bounds.{whole-within}
+use Rattle.exact_transform.specs.Exact.{exact, Modest}
+use Rattle.exact_transform.specs.Transform.{whole}
+use Rattle.rounding.specs.declared.HalfIntegerRounding.{HalfIntegerRounding}
 use Rattle.idct_laws.specs.Ties.{NearHalf}
 
 -- n is near z, and z near k and a half

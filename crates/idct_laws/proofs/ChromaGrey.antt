@@ -9,8 +9,8 @@ use borrow.Author.Tests.{ne-eqb}
 use Rattle.numbers.proofs.Fill.{block-eq, cell-block}
 use Rattle.numbers.specs.Grid.{block, build}
 use Rattle.idct.specs.Limits.{saturated}
-use Rattle.idct.specs.Transform.{idct8x8}
-use Rattle.idct.specs.declared.rounding.HalfIntegerRounding.the-variants.{AwayFromZero}
+use Rattle.idct.specs.Clipped.{idct8x8}
+use Rattle.rounding.specs.declared.HalfIntegerRounding.the-variants.{AwayFromZero}
 use Rattle.idct_laws.specs.Ties.{DcAlone, greyChroma}
 use Rattle.idct_laws.proofs.DcHalves.{dc-half}
 

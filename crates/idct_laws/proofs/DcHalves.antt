@@ -13,12 +13,12 @@ use Rattle.numbers.specs.Grid.{cell}
 use Rattle.ranges.specs.Range.{depthFine}
 use Rattle.f64_error.specs.Series.{seriesZ}
 use Rattle.idct.proofs.Refusals.{modest}
-use Rattle.idct.specs.Cosines.{byTurnZ, cZ, cosZ}
-use Rattle.idct.specs.Exact.{Modest, exact}
+use Rattle.cosines.specs.Cosines.{byTurnZ, cZ, cosZ}
+use Rattle.exact_transform.specs.Exact.{Modest, exact}
 use Rattle.idct.specs.Limits.{valuesFine}
-use Rattle.idct.specs.Rounding.{tied}
-use Rattle.idct.specs.Transform.{whole}
-use Rattle.idct.specs.declared.rounding.HalfIntegerRounding.{HalfIntegerRounding}
+use Rattle.rounding.specs.Rounding.{tied}
+use Rattle.exact_transform.specs.Transform.{whole}
+use Rattle.rounding.specs.declared.HalfIntegerRounding.{HalfIntegerRounding}
 use Rattle.idct_laws.specs.Ties.{DcAlone, DcHalf, HalfWay}
 use Rattle.idct_laws.proofs.Halves.{halves}
 

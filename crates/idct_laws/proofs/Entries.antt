@@ -7,8 +7,8 @@ use Rattle.numbers.proofs.Every.{every-build}
 use Rattle.numbers.specs.Every.{every}
 use Rattle.numbers.specs.Grid.{build}
 use Rattle.f64_error.proofs.Approx.{Const}
-use Rattle.idct.proofs.Tables.{c-const, cos-const}
-use Rattle.idct.specs.Cosines.{turn, byTurnZ, cosF, cosZ, cF, cZ}
+use Rattle.cosines.proofs.Tables.{c-const, cos-const}
+use Rattle.cosines.specs.Cosines.{turn, byTurnZ, cosF, cosZ, cF, cZ}
 use Rattle.idct_laws.specs.Moved.{TrueConstants}
 use Rattle.idct_laws.specs.Roots.{atMost, atLeast, doubleCosine, nearCosine, factorTurn}
 

@@ -12,12 +12,12 @@ use Rattle.f64_error.proofs.FromIntegers.{times-up, times-dn}
 use Rattle.f64_error.proofs.Halves.{tie-at}
 use Rattle.f64_error.proofs.Grains.{grain, mesh}
 use Rattle.f64_error.specs.Units.{one}
-use Rattle.idct.proofs.Bounds.{transform-near, bounded}
-use Rattle.idct.proofs.Rounds.{by-test}
-use Rattle.idct.specs.Exact.{exact, Modest}
-use Rattle.idct.specs.Rounding.{tied}
-use Rattle.idct.specs.Transform.{computed, whole}
-use Rattle.idct.specs.declared.rounding.HalfIntegerRounding.{HalfIntegerRounding}
+use Rattle.exact_transform.proofs.Bounds.{transform-near, bounded}
+use Rattle.rounding.proofs.Rounds.{by-test}
+use Rattle.exact_transform.specs.Exact.{exact, Modest}
+use Rattle.rounding.specs.Rounding.{tied}
+use Rattle.exact_transform.specs.Transform.{computed, whole}
+use Rattle.rounding.specs.declared.HalfIntegerRounding.{HalfIntegerRounding}
 use Rattle.idct_laws.specs.Ties.{HalfWay}
 
 -- |z - k * K - H| ≤ T as two bounds

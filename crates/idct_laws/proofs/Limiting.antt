@@ -11,8 +11,8 @@ use Rattle.numbers.specs.Limit.{clampZ}
 use Rattle.ranges.proofs.RangeLaws.{highest-not-negative, lowest-highest}
 use Rattle.ranges.specs.Range.{depthFine, highest, lowest}
 use Rattle.idct.specs.Limits.{saturated, valuesFine}
-use Rattle.idct.specs.Transform.{whole}
-use Rattle.idct.specs.declared.rounding.HalfIntegerRounding.{HalfIntegerRounding}
+use Rattle.exact_transform.specs.Transform.{whole}
+use Rattle.rounding.specs.declared.HalfIntegerRounding.{HalfIntegerRounding}
 use Rattle.idct_laws.specs.Changes.{changed, Pushed, OnePlace}
 use Rattle.idct_laws.proofs.Pushes.{changed-one, push}
 

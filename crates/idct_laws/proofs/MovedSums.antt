@@ -8,8 +8,8 @@ use lib.IntN.{ℤ, pos, natAbs, _-ℤ_, _*ℤ_}
 use Rattle.numbers.proofs.Integers.{halves, diff-is}
 use Rattle.numbers.specs.Grid.{cell}
 use Rattle.f64_error.specs.Series.{seriesZ, blockZ}
-use Rattle.idct.specs.Cosines.{cZ, cosZ}
-use Rattle.idct.specs.Exact.{exact, Modest}
+use Rattle.cosines.specs.Cosines.{cZ, cosZ}
+use Rattle.exact_transform.specs.Exact.{exact, Modest}
 use Rattle.idct_laws.specs.Changes.{seriesN}
 use Rattle.idct_laws.specs.Moved.{Moved, Constants, fourth}
 use Rattle.idct_laws.proofs.Fractions.{Beside, product}

@@ -12,13 +12,13 @@ use Rattle.numbers.proofs.Magnitudes.{abs-mul, abs-sub}
 use Rattle.numbers.specs.Grid.{cell}
 use Rattle.ranges.specs.Range.{depthFine}
 use Rattle.f64_error.specs.Series.{blockZ}
-use Rattle.idct.proofs.Bounds.{whole-within}
+use Rattle.exact_transform.proofs.Bounds.{whole-within}
 use Rattle.idct.proofs.Refusals.{modest}
-use Rattle.idct.specs.Exact.{exact, Modest}
+use Rattle.exact_transform.specs.Exact.{exact, Modest}
 use Rattle.idct.specs.Limits.{valuesFine}
-use Rattle.idct.specs.Rounding.{tied}
-use Rattle.idct.specs.Transform.{whole}
-use Rattle.idct.specs.declared.rounding.HalfIntegerRounding.{HalfIntegerRounding}
+use Rattle.rounding.specs.Rounding.{tied}
+use Rattle.exact_transform.specs.Transform.{whole}
+use Rattle.rounding.specs.declared.HalfIntegerRounding.{HalfIntegerRounding}
 use Rattle.idct_laws.specs.Moved.{Constants, fourth, NearOf, WithinOf, HalfWayOf}
 use Rattle.idct_laws.proofs.Distances.{abs-swap}
 use Rattle.idct_laws.proofs.Halves.{halves}

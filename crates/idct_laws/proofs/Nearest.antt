@@ -7,8 +7,8 @@ use Rattle.f64_error.proofs.Nearest.{nearest-of, nearest-within}
 use Rattle.f64_error.specs.Units.{Is}
 use Rattle.f64_error.proofs.Distances.{NearestOf, WithinHalf}
 use Rattle.f64_error.specs.Wholes.{floorZ, nearestZ, atHalf}
-use Rattle.idct.specs.Rounding.{tied, wholeOf}
-use Rattle.idct.specs.declared.rounding.HalfIntegerRounding.{HalfIntegerRounding}
+use Rattle.rounding.specs.Rounding.{tied, wholeOf}
+use Rattle.rounding.specs.declared.HalfIntegerRounding.{HalfIntegerRounding}
 
 -- outside the tolerance the whole number is the nearest
 pub is-nearest : (m : HalfIntegerRounding) (x : Float) → atHalf x (floorZ x) ≡ false → wholeOf m x ≡ nearestZ x

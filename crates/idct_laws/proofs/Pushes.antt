@@ -13,14 +13,14 @@ use Rattle.numbers.proofs.Magnitudes.{abs-mul, abs-mul-le}
 use Rattle.numbers.specs.Grid.{cell}
 use Rattle.ranges.specs.Range.{depthFine}
 use Rattle.f64_error.specs.Series.{seriesZ}
-use Rattle.idct.proofs.Bounds.{whole-within}
+use Rattle.exact_transform.proofs.Bounds.{whole-within}
 use Rattle.idct.proofs.Refusals.{modest}
-use Rattle.idct.proofs.Tables.{c-const, cos-const}
-use Rattle.idct.specs.Cosines.{cZ, cosZ}
-use Rattle.idct.specs.Exact.{exact}
+use Rattle.cosines.proofs.Tables.{c-const, cos-const}
+use Rattle.cosines.specs.Cosines.{cZ, cosZ}
+use Rattle.exact_transform.specs.Exact.{exact}
 use Rattle.idct.specs.Limits.{valuesFine}
-use Rattle.idct.specs.Transform.{whole}
-use Rattle.idct.specs.declared.rounding.HalfIntegerRounding.{HalfIntegerRounding}
+use Rattle.exact_transform.specs.Transform.{whole}
+use Rattle.rounding.specs.declared.HalfIntegerRounding.{HalfIntegerRounding}
 use Rattle.idct_laws.specs.Changes.{seriesN, changed, Pushed, OnePlace}
 use Rattle.idct_laws.proofs.Distances.{abs-swap, sub-right, triangle}
 use Rattle.idct_laws.proofs.Sums.{none, one-only, sums-apart}

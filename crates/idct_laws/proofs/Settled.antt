@@ -8,10 +8,10 @@ use lib.IntN.{ℤ, pos, natAbs, _-ℤ_, _*ℤ_}
 use Rattle.numbers.proofs.Integers.{eq-in, diff-is}
 use Rattle.numbers.proofs.Integers as Z
 use Rattle.numbers.proofs.Magnitudes.{abs-mul}
-use Rattle.idct.proofs.Bounds.{whole-within}
-use Rattle.idct.specs.Exact.{exact, Modest}
-use Rattle.idct.specs.Transform.{whole}
-use Rattle.idct.specs.declared.rounding.HalfIntegerRounding.{HalfIntegerRounding}
+use Rattle.exact_transform.proofs.Bounds.{whole-within}
+use Rattle.exact_transform.specs.Exact.{exact, Modest}
+use Rattle.exact_transform.specs.Transform.{whole}
+use Rattle.rounding.specs.declared.HalfIntegerRounding.{HalfIntegerRounding}
 use Rattle.idct_laws.specs.Ties.{Settled}
 use Rattle.idct_laws.proofs.Distances.{triangle, abs-swap, sub-right}
 

@@ -9,12 +9,12 @@ use lib.IntN.{ℤ}
 use Rattle.numbers.specs.Grid.{cell}
 use Rattle.ranges.specs.Range.{depthFine}
 use Rattle.f64_error.specs.Series.{blockZ}
-use Rattle.idct.specs.Cosines.{turn, cZ, cosZ}
-use Rattle.idct.specs.Exact.{exact}
+use Rattle.cosines.specs.Cosines.{turn, cZ, cosZ}
+use Rattle.exact_transform.specs.Exact.{exact}
 use Rattle.idct.specs.Limits.{valuesFine}
-use Rattle.idct.specs.Rounding.{tied}
-use Rattle.idct.specs.Transform.{whole}
-use Rattle.idct.specs.declared.rounding.HalfIntegerRounding.{HalfIntegerRounding}
+use Rattle.rounding.specs.Rounding.{tied}
+use Rattle.exact_transform.specs.Transform.{whole}
+use Rattle.rounding.specs.declared.HalfIntegerRounding.{HalfIntegerRounding}
 use Rattle.idct_laws.specs.Moved.{Moved, Constants, TrueConstants, NearOf, WithinOf, HalfWayOf}
 use Rattle.idct_laws.specs.Roots.{nearCosine, factorTurn}
 use Rattle.idct_laws.proofs.Entries.{table-true}

@@ -2,7 +2,7 @@
 use Prim.Native.Nat.{ℕ, _+_, _*_, _^_, _≤_, _<_}
 use lib.Dec.{T}
 use lib.IntN.{ℤ, pos, natAbs, _-ℤ_, _*ℤ_}
-use Rattle.idct.specs.Cosines.{turn, cZ, cosZ}
+use Rattle.cosines.specs.Cosines.{turn, cZ, cosZ}
 use Rattle.idct_laws.specs.Roots.{nearCosine, factorTurn}
 
 -- c / d is within e / 2 ^ 55 of a / 2 ^ 55

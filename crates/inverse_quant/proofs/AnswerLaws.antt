@@ -4,14 +4,14 @@ use mathlib.Core.List.{List}
 use mathlib.Core.Path.{_≡_, sym}
 use Prim.Native.Nat.{ℕ}
 use lib.IntN.{ℤ}
-use Rattle.coefficients.specs.declared.refusal.CoefficientError.{CoefficientError}
-use Rattle.coefficients.specs.declared.refusal.CoefficientError.the-variants.{Context}
-use Rattle.coefficients.specs.declared.refusal.Stage.{Stage}
-use Rattle.coefficients.specs.declared.refusal.Stage.the-variants.{Done, Refused}
-use Rattle.coefficients.specs.Refusal.{after}
-use Rattle.inverse_quant.specs.Dequantised.{contextFine}
+use Rattle.prediction.specs.declared.refusal.CoefficientError.{CoefficientError}
+use Rattle.prediction.specs.declared.refusal.CoefficientError.the-variants.{Context}
+use Rattle.prediction.specs.declared.refusal.Stage.{Stage}
+use Rattle.prediction.specs.declared.refusal.Stage.the-variants.{Done, Refused}
+use Rattle.prediction.specs.Refusal.{after}
+use Rattle.dequantise.specs.Methods.{contextFine}
+use Rattle.dequantise.specs.declared.context.InverseQuantContext.{InverseQuantContext}
 use Rattle.inverse_quant.specs.Either.{answerBy}
-use Rattle.inverse_quant.specs.declared.context.InverseQuantContext.{InverseQuantContext}
 
 pub refused-keeps : {A : Type 0} (s : Stage) (e : CoefficientError) (new old : A) → s ≡ Refused e → (Refused e ≡ s) × (old ≡ after s new old)
 refused-keeps s e new old h = (sym h, rw h)

@@ -13,8 +13,8 @@ use Rattle.numbers.specs.Sum.{sumZ}
 use Rattle.numbers.proofs.Integers.{add-is, ring, var, zarith, _⊕_}
 use Rattle.numbers.proofs.Lists.{sum-bound}
 use Rattle.numbers.proofs.Magnitudes.{abs-add}
-use Rattle.inverse_quant.specs.Dequantised.{sumOf}
-use Rattle.coefficients.proofs.BlockLaws.{Square, wide-most}
+use Rattle.mismatch.specs.Mismatch.{sumOf}
+use Rattle.scan.proofs.BlockLaws.{Square, wide-most}
 
 rows-suc : (b : List (List ℤ)) (i : ℕ) → sumOf (take (suc i) b) ≡ sumOf (take i b) +ℤ sumZ (getD b i [])
 unfolding sumOf sumZ

@@ -11,10 +11,12 @@ use lib.Seq.{set-getD}
 use Rattle.numbers.specs.Grid.{block, build, cell}
 use Rattle.numbers.proofs.Fill.{cell-block, getD-build, length-build, lt-or-le}
 use Rattle.numbers.proofs.Integers.{add-is, diff-is, zarith}
-use Rattle.coefficients.proofs.BlockLaws.{Square, each-cell, square-block}
-use Rattle.inverse_quant.specs.ByRows.{ValuesRow, firstValue, lastValue, rowBy1, rowBy2, rowsBy1, rowsBy2}
-use Rattle.inverse_quant.specs.Dequantised.{even, fPrime1, fPrime2, intraDc, limitedF, method1, mismatched, sumOf}
-use Rattle.inverse_quant.specs.declared.context.InverseQuantContext.{InverseQuantContext}
+use Rattle.scan.proofs.BlockLaws.{Square, each-cell, square-block}
+use Rattle.dequantise.specs.Methods.{intraDc, limitedF, method1}
+use Rattle.mismatch.specs.Mismatch.{even, lastValue, mismatched, sumOf}
+use Rattle.inverse_quant.specs.ByRows.{firstValue, rowBy1, rowBy2, rowsBy1, rowsBy2, ValuesRow}
+use Rattle.inverse_quant.specs.Dequantised.{fPrime1, fPrime2}
+use Rattle.dequantise.specs.declared.context.InverseQuantContext.{InverseQuantContext}
 use Rattle.inverse_quant.proofs.BlockSums.{sum-changed}
 use Rattle.inverse_quant.proofs.DcLaws.{all1, all2, dcRule, rule1, with1, with2, without1, without2}
 use Rattle.inverse_quant.proofs.LimitLaws.{limited-abs, limited-is}

@@ -9,9 +9,10 @@ use lib.IntN.{ℤ}
 use lib.ListN.{getD, set}
 use Rattle.numbers.specs.Grid.{block, cell, cellN}
 use Rattle.numbers.proofs.Fill.{block-eq, cell-block}
-use Rattle.coefficients.proofs.BlockLaws.{block-set, square-block}
-use Rattle.inverse_quant.specs.declared.context.InverseQuantContext.{InverseQuantContext}
-use Rattle.inverse_quant.specs.Dequantised.{intraDc, method1, method2, limitedF, valueOf1, valueOf2, fPrime1, fPrime2}
+use Rattle.scan.proofs.BlockLaws.{block-set, square-block}
+use Rattle.dequantise.specs.declared.context.InverseQuantContext.{InverseQuantContext}
+use Rattle.dequantise.specs.Methods.{intraDc, limitedF, method1, method2}
+use Rattle.inverse_quant.specs.Dequantised.{fPrime1, fPrime2, valueOf1, valueOf2}
 
 limit-picks : (d : ℕ) (t : Bool) (x y : ℤ) → cond t (limitedF d x) (limitedF d y) ≡ limitedF d (cond t x y)
 limit-picks d true x y = refl

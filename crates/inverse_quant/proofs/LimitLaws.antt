@@ -12,9 +12,11 @@ use Rattle.numbers.specs.Grid.{block, cell, cellN}
 use Rattle.numbers.proofs.Fill.{cell-block}
 use Rattle.numbers.proofs.Integers.{add-is, diff-is, halves, nat, neg, neg-dn, neg-up, order, zarith, _⊝_}
 use Rattle.numbers.proofs.Limits.{clamp-high, clamp-low}
-use Rattle.inverse_quant.specs.declared.context.InverseQuantContext.{InverseQuantContext}
-use Rattle.inverse_quant.specs.Dequantised.{intraDc, method1, method2, isDc, limitedF, valueOf1, valueOf2, fPrime1, sumOf, even, flipped, isLast, mismatched, dequantised1, dequantised2}
-use Rattle.coefficients.proofs.BlockLaws.{Square, square-block, each-cell}
+use Rattle.dequantise.specs.declared.context.InverseQuantContext.{InverseQuantContext}
+use Rattle.dequantise.specs.Methods.{intraDc, limitedF, method1, method2}
+use Rattle.mismatch.specs.Mismatch.{even, flipped, isLast, mismatched, sumOf}
+use Rattle.inverse_quant.specs.Dequantised.{dequantised1, dequantised2, fPrime1, isDc, valueOf1, valueOf2}
+use Rattle.scan.proofs.BlockLaws.{Square, square-block, each-cell}
 
 -- -2 ^ (depth + 3) ≤ z ≤ 2 ^ (depth + 3) - 1
 pub record Limited (depth : ℕ) (z : ℤ) : Type 0 where

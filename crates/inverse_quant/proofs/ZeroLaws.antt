@@ -22,9 +22,9 @@ use Rattle.numbers.proofs.Magnitudes.{zero-of-abs}
 use Rattle.numbers.proofs.Words.{nonzero-abs, zero-abs}
 use Rattle.ranges.proofs.RangeLaws.{highest-not-negative, lowest-negative}
 use Rattle.ranges.specs.Range.{highest, lowest}
+use Rattle.dequantise.specs.Methods.{limitedF, method1, method2}
 use Rattle.inverse_quant.specs.ByRows.{isZero, rowBy1, rowBy2, zeros}
-use Rattle.inverse_quant.specs.Dequantised.{limitedF, method1, method2}
-use Rattle.inverse_quant.specs.declared.context.InverseQuantContext.{InverseQuantContext}
+use Rattle.dequantise.specs.declared.context.InverseQuantContext.{InverseQuantContext}
 
 -- ---- the test
 

@@ -6,8 +6,15 @@ use lib.Dec.{eqb}
 use lib.IntN.{ℤ, pos, natAbs, _+ℤ_}
 use lib.ListN.{getD}
 use Rattle.numbers.specs.Grid.{build}
-use Rattle.inverse_quant.specs.declared.context.InverseQuantContext.{InverseQuantContext}
-use Rattle.inverse_quant.specs.Dequantised.{intraDc, limitedF, method1, method2, controlled}
+use Rattle.dequantise.specs.Methods.{intraDc, limitedF, method1, method2}
+use Rattle.dequantise.specs.declared.context.InverseQuantContext.{InverseQuantContext}
+
+-- a context that passes 12's test, as the functions inside the crate take it
+pub record ContextGood (ctx : InverseQuantContext) : Type 0 where
+  pub positive : 1 ≤ ctx .«quantiser_scale»
+  pub quantiser : ctx .«quantiser_scale» ≤ 31
+  pub shallow : 4 ≤ ctx .«bits_per_pixel»
+  pub depth : ctx .«bits_per_pixel» ≤ 12
 
 abbrev pub isZero : ℤ → Bool
 isZero z = eqb (natAbs z) 0
@@ -52,7 +59,3 @@ rowsBy2 ctx qf = build 8 (λ (v : ℕ). rowBy2 ctx (getD qf v []))
 abbrev pub firstValue : InverseQuantContext → ℤ → ℤ → ℤ
 firstValue ctx level value =
     cond (ctx .«macroblock_intra») (limitedF (ctx .«bits_per_pixel») (intraDc level (ctx .component) (ctx .«quantiser_scale») (ctx .«short_video_header»))) value
-
--- mismatch control, where it is asked for
-abbrev pub lastValue : Bool → ℤ → ℤ → ℤ
-lastValue control sum value = cond control (controlled sum value) value

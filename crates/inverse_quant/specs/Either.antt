@@ -4,10 +4,10 @@ use mathlib.Core.List.{List}
 use Prim.Native.Nat.{ℕ}
 use lib.IntN.{ℤ}
 use Rattle.numbers.specs.Outcome.{Outcome}
-use Rattle.coefficients.specs.declared.refusal.Stage.{Stage}
+use Rattle.prediction.specs.declared.refusal.Stage.{Stage}
+use Rattle.dequantise.specs.declared.context.InverseQuantContext.{InverseQuantContext}
 use Rattle.inverse_quant.specs.Dequantised.{answer1, answer2, dequantised1, dequantised2}
 use Rattle.inverse_quant.specs.Outcomes.{due1, due2}
-use Rattle.inverse_quant.specs.declared.context.InverseQuantContext.{InverseQuantContext}
 
 -- by method 1, with or without mismatch control, or by method 2
 abbrev pub dequantisedBy : Bool → Bool → InverseQuantContext → List (List ℕ) → List (List ℤ) → List (List ℤ)

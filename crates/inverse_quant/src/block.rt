@@ -1,85 +1,105 @@
 // The inverse quantisation of a block (7.4.4), by either method.
-ghost use mathlib.Core.Path.{_≡_};
 ghost use mathlib.Core.Bool.{true, false};
-ghost use Rattle.coefficients.specs.Refusal.{after};
-ghost use Rattle.coefficients.specs.Stages.{LevelsGood};
-ghost use Rattle.inverse_quant.specs.Dequantised.{fPrime1, fPrime2, dequantised1, dequantised2, answer1, answer2};
-ghost use Rattle.coefficients.specs.Outcomes.{stageOutcome};
+ghost use mathlib.Core.Path.{_≡_};
+ghost use lib.ListN.{length};
+ghost use Rattle.ranges.specs.Range.{levelFine};
+ghost use Rattle.coefficients.specs.Level.{blockFine};
+ghost use Rattle.prediction.specs.Outcomes.{stageOutcome};
+ghost use Rattle.prediction.specs.Refusal.{after, firstBad};
+ghost use Rattle.inverse_quant.specs.ByRows.{ContextGood, firstValue};
+ghost use Rattle.inverse_quant.specs.Dequantised.{answer1, answer2, dequantised1, dequantised2};
+ghost use Rattle.inverse_quant.specs.Either.{answerBy, dequantisedBy, dueBy};
 ghost use Rattle.inverse_quant.specs.Outcomes.{due1, due2};
-ghost use Rattle.inverse_quant.specs.Stages.{ContextGood};
-use crate::coefficient::dc_value;
-use crate::coefficient::value1;
-use crate::coefficient::value2;
-use crate::context::InverseQuantContext;
-use crate::context::block_fine;
-use crate::context::context_fine;
-use crate::context::matrix_fine;
-use crate::mismatch::mismatch_control;
-use coefficients::CoefficientError;
-use coefficients::Stage;
+use crate::rows::block_fine;
+use crate::rows::fill1;
+use crate::rows::fill2;
+use crate::value::saturate_fprime;
+use dequantise::InverseQuantContext;
+use dequantise::context_fine;
+use dequantise::matrix_fine;
+use mismatch::last_value;
+use prediction::CoefficientError;
+use prediction::Stage;
+use prediction::Value;
 
-// F' by method 1; the DC of an intra block is written last.
-fn f_prime1(qf: [[i32; 8]; 8], w: [[u8; 8]; 8], ctx: InverseQuantContext) -> [[i32; 8]; 8]
-    requires { ⌜ LevelsGood qf × ContextGood ctx ⌝ }
-    ensures { λ r. ⌜ r ≡ fPrime1 ctx w qf ⌝ }
+// The first value: the DC's rule in an intra block, which is never refused here, else `value`, which is the method's.
+fn first_value(level: i32, value: i32, ctx: InverseQuantContext) -> i32
+    requires { ⌜ (levelFine level ≡ true) × ContextGood ctx ⌝ }
+    ensures { λ r. ⌜ r ≡ firstValue ctx level value ⌝ }
 {
-    let mut out = [[0i32; 8]; 8];
-    for v in 0..8 {
-        for u in 0..8 {
-            out[v][u] = value1(qf[v][u], w[v][u], ctx);
-        }
-    }
     if !ctx.macroblock_intra {
-        return out;
+        return value;
     }
-    out[0][0] = dc_value(qf[0][0], ctx);
-    out
+    let component = ctx.component;
+    let q = ctx.quantiser_scale;
+    let dc = dequantise::inverse_quant_intra_dc(level, component, q, ctx.short_video_header);
+    match dc {
+        Value::Refused(_) => 0,
+        Value::Is(z) => saturate_fprime(z, ctx.bits_per_pixel),
+    }
 }
 
-// F' by method 2; the DC of an intra block is written last.
-fn f_prime2(qf: [[i32; 8]; 8], ctx: InverseQuantContext) -> [[i32; 8]; 8]
-    requires { ⌜ LevelsGood qf × ContextGood ctx ⌝ }
-    ensures { λ r. ⌜ r ≡ fPrime2 ctx qf ⌝ }
-{
-    let mut out = [[0i32; 8]; 8];
-    for v in 0..8 {
-        for u in 0..8 {
-            out[v][u] = value2(qf[v][u], ctx);
-        }
-    }
-    if !ctx.macroblock_intra {
-        return out;
-    }
-    out[0][0] = dc_value(qf[0][0], ctx);
-    out
-}
-
-// 7.4.4 by method 1 into `out`, with or without mismatch control; or 12 or 13, and `out` as it was.
-fn method1_block(
-    qf: [[i32; 8]; 8],
-    w: [[u8; 8]; 8],
+// 7.4.4 by method 1 into `out`, with or without mismatch control; or 13, and `out` as it was.
+fn rows1(
+    qf: &[[i32; 8]; 8],
+    w: &[[u8; 8]; 8],
     ctx: InverseQuantContext,
     control: bool,
     out: &mut [[i32; 8]; 8],
 ) -> Stage
-    ensures { λ r. ⌜ (r ≡ answer1 ctx w qf) × (now (out .exit) ≡ after (answer1 ctx w qf) (dequantised1 control ctx w qf) (now (out .entry))) ⌝ }
+    requires { ⌜ ContextGood ctx × (length (now qf) ≡ 8) ⌝ }
+    ensures { λ r. ⌜ (r ≡ firstBad true (blockFine (now (qf .entry)))) × (now (out .exit) ≡ after (firstBad true (blockFine (now (qf .entry)))) (dequantised1 control ctx (now (w .entry)) (now (qf .entry))) (now (out .entry))) ⌝ }
+{
+    if !block_fine(qf) {
+        return Stage::Refused(CoefficientError::HandedIn);
+    }
+    *out = [[0i32; 8]; 8];
+    let filled = fill1(qf, w, ctx, out);
+    let dc = first_value(qf[0][0], out[0][0], ctx);
+    let sum = filled - out[0][0] + dc;
+    out[0][0] = dc;
+    out[7][7] = last_value(control, sum, out[7][7]);
+    Stage::Done
+}
+
+// 7.4.4 by method 2 into `out`; or 13, and `out` as it was.
+fn rows2(qf: &[[i32; 8]; 8], ctx: InverseQuantContext, out: &mut [[i32; 8]; 8]) -> Stage
+    requires { ⌜ ContextGood ctx × (length (now qf) ≡ 8) ⌝ }
+    ensures { λ r. ⌜ (r ≡ firstBad true (blockFine (now (qf .entry)))) × (now (out .exit) ≡ after (firstBad true (blockFine (now (qf .entry)))) (dequantised2 ctx (now (qf .entry))) (now (out .entry))) ⌝ }
+{
+    if !block_fine(qf) {
+        return Stage::Refused(CoefficientError::HandedIn);
+    }
+    *out = [[0i32; 8]; 8];
+    fill2(qf, ctx, out);
+    out[0][0] = first_value(qf[0][0], out[0][0], ctx);
+    Stage::Done
+}
+
+// 7.4.4 by method 1, with or without mismatch control, or by method 2, into `out`; or 12 or 13, and `out` as it was.
+pub fn inverse_quant_rows(
+    qf: [[i32; 8]; 8],
+    w: [[u8; 8]; 8],
+    ctx: InverseQuantContext,
+    method1: bool,
+    control: bool,
+    out: &mut [[i32; 8]; 8],
+) -> Stage
+    ensures { λ r. ⌜ (r ≡ answerBy method1 ctx w qf) × (now (out .exit) ≡ after (answerBy method1 ctx w qf) (dequantisedBy method1 control ctx w qf) (now (out .entry))) ⌝ }
+    ensures outcome { λ r. ⌜ stageOutcome r ≡ dueBy method1 ctx w qf ⌝ }
 {
     if !context_fine(ctx) {
         return Stage::Refused(CoefficientError::Context);
     }
+    let levels = &qf;
+    if !method1 {
+        return rows2(levels, ctx, out);
+    }
     if !matrix_fine(w) {
         return Stage::Refused(CoefficientError::Context);
     }
-    if !block_fine(&qf) {
-        return Stage::Refused(CoefficientError::HandedIn);
-    }
-    let f = f_prime1(qf, w, ctx);
-    if control {
-        *out = mismatch_control(f);
-        return Stage::Done;
-    }
-    *out = f;
-    Stage::Done
+    let weights = &w;
+    rows1(levels, weights, ctx, control, out)
 }
 
 // 7.4.4 by method 1, with mismatch control.
@@ -92,7 +112,7 @@ pub fn inverse_quant_method1(
     ensures { λ r. ⌜ (r ≡ answer1 ctx w qf) × (now (out .exit) ≡ after (answer1 ctx w qf) (dequantised1 true ctx w qf) (now (out .entry))) ⌝ }
     ensures outcome { λ r. ⌜ stageOutcome r ≡ due1 ctx w qf ⌝ }
 {
-    method1_block(qf, w, ctx, true, out)
+    inverse_quant_rows(qf, w, ctx, true, true, out)
 }
 
 // 7.4.4 by method 1, without mismatch control.
@@ -105,10 +125,10 @@ pub fn inverse_quant_method1_no_mismatch(
     ensures { λ r. ⌜ (r ≡ answer1 ctx w qf) × (now (out .exit) ≡ after (answer1 ctx w qf) (dequantised1 false ctx w qf) (now (out .entry))) ⌝ }
     ensures outcome { λ r. ⌜ stageOutcome r ≡ due1 ctx w qf ⌝ }
 {
-    method1_block(qf, w, ctx, false, out)
+    inverse_quant_rows(qf, w, ctx, true, false, out)
 }
 
-// 7.4.4 by method 2 into `out`; or 12 or 13, and `out` as it was.
+// 7.4.4 by method 2 into `out`, which takes no matrix: any stands in its place; or 12 or 13, and `out` as it was.
 pub fn inverse_quant_method2(
     qf: [[i32; 8]; 8],
     ctx: InverseQuantContext,
@@ -117,12 +137,6 @@ pub fn inverse_quant_method2(
     ensures { λ r. ⌜ (r ≡ answer2 ctx qf) × (now (out .exit) ≡ after (answer2 ctx qf) (dequantised2 ctx qf) (now (out .entry))) ⌝ }
     ensures outcome { λ r. ⌜ stageOutcome r ≡ due2 ctx qf ⌝ }
 {
-    if !context_fine(ctx) {
-        return Stage::Refused(CoefficientError::Context);
-    }
-    if !block_fine(&qf) {
-        return Stage::Refused(CoefficientError::HandedIn);
-    }
-    *out = f_prime2(qf, ctx);
-    Stage::Done
+    let unused = [[1u8; 8]; 8];
+    inverse_quant_rows(qf, unused, ctx, false, false, out)
 }

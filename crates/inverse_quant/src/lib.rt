@@ -3,17 +3,16 @@
 // No public function has a `requires`. Where a call has a quantiser, a depth, a matrix or a level that
 // document 01 refuses, it is refused by 12 or 13, and lent memory stays as it was.
 mod block;
-mod coefficient;
-mod context;
-mod mismatch;
-mod short;
+mod row;
+mod rows;
+mod value;
 
 pub use block::inverse_quant_method1;
 pub use block::inverse_quant_method1_no_mismatch;
 pub use block::inverse_quant_method2;
-pub use coefficient::inverse_quant_intra_dc;
-pub use coefficient::inverse_quant_method1_coef;
-pub use coefficient::inverse_quant_method2_coef;
-pub use context::InverseQuantContext;
-pub use context::matrix_fine;
-pub use short::inverse_quant_rows;
+pub use block::inverse_quant_rows;
+pub use dequantise::InverseQuantContext;
+pub use dequantise::inverse_quant_intra_dc;
+pub use dequantise::inverse_quant_method1_coef;
+pub use dequantise::inverse_quant_method2_coef;
+pub use dequantise::matrix_fine;

@@ -12,20 +12,20 @@ use Rattle.bits.proofs.CursorLaws.{in-data-yes}
 use Rattle.bits.specs.Cursor.{cursorAt, inData}
 use Rattle.bits.specs.declared.cursor.Cursor.{Cursor}
 use Rattle.coefficients.specs.Level.{predictorsFine}
-use Rattle.coefficients.specs.declared.predictor.BlockPredictors.{BlockPredictors}
-use Rattle.texture.specs.Answer.{after}
-use Rattle.texture.specs.Macroblock.{Parts}
-use Rattle.texture.specs.Reader.{Res}
-use Rattle.block.proofs.OutcomeLaws.{answered, read-by}
-use Rattle.block.proofs.ValueLaws.{depth-fine}
-use Rattle.block.specs.Answer.{testsOf}
-use Rattle.block.specs.Rows.{rowsOf}
-use Rattle.block.specs.Values.{contextFine}
-use Rattle.block.specs.declared.context.MacroblockTextureContext.{MacroblockTextureContext}
-use Rattle.block.specs.declared.error.BlockAssemblyError.{BlockAssemblyError}
-use Rattle.block.specs.declared.error.BlockAssemblyError.the-variants.{TooShort}
-use Rattle.block.specs.declared.error.Checked.{Checked}
-use Rattle.block.specs.declared.error.Checked.the-variants.{Bad, Fine}
+use Rattle.prediction.specs.declared.predictor.BlockPredictors.{BlockPredictors}
+use Rattle.fields.specs.Answer.{after}
+use Rattle.sentences.specs.Macroblock.{Parts}
+use Rattle.fields.specs.Reader.{Res}
+use Rattle.assembly.proofs.OutcomeLaws.{answered, read-by}
+use Rattle.assembly.proofs.ContextLaws.{depth-fine}
+use Rattle.assembly.specs.Answer.{testsOf}
+use Rattle.block_reader.specs.Rows.{rowsOf}
+use Rattle.assembly.specs.Values.{contextFine}
+use Rattle.assembly.specs.declared.context.MacroblockTextureContext.{MacroblockTextureContext}
+use Rattle.assembly.specs.declared.error.BlockAssemblyError.{BlockAssemblyError}
+use Rattle.assembly.specs.declared.error.BlockAssemblyError.the-variants.{TooShort}
+use Rattle.assembly.specs.declared.error.Checked.{Checked}
+use Rattle.assembly.specs.declared.error.Checked.the-variants.{Bad, Fine}
 use Rattle.macroblock.proofs.DemandLaws.{Call, demand}
 use Rattle.macroblock.proofs.SixLaws.{values-six-fine}
 use Rattle.macroblock.proofs.StateLaws.{StateFine, state-fine}

@@ -8,14 +8,15 @@ use lib.IntN.{ℤ}
 use lib.ListN.{length}
 use Rattle.bits.specs.Bits.{bitsFrom}
 use Rattle.bits.specs.Cursor.{cursorAt}
-use Rattle.coefficients.specs.declared.predictor.BlockPredictors.{BlockPredictors}
-use Rattle.texture.proofs.ByBits.{ByBits, macroblock-by-bits}
-use Rattle.block.proofs.Apart.{Told, after-told, answers-apart, fine, first-told, read-told, taken}
-use Rattle.block.specs.Answer.{testsOf}
-use Rattle.block.specs.declared.context.MacroblockTextureContext.{MacroblockTextureContext}
-use Rattle.block.specs.declared.error.BlockAssemblyError.the-variants.{TooShort}
-use Rattle.block.specs.declared.error.Checked.{Checked}
-use Rattle.block.specs.declared.error.Checked.the-variants.{Bad}
+use Rattle.prediction.specs.declared.predictor.BlockPredictors.{BlockPredictors}
+use Rattle.fields.proofs.ByBits.{ByBits}
+use Rattle.sentences.proofs.ByBits.{macroblock-by-bits}
+use Rattle.assembly.proofs.Apart.{Told, after-told, answers-apart, fine, first-told, read-told, taken}
+use Rattle.assembly.specs.Answer.{testsOf}
+use Rattle.assembly.specs.declared.context.MacroblockTextureContext.{MacroblockTextureContext}
+use Rattle.assembly.specs.declared.error.BlockAssemblyError.the-variants.{TooShort}
+use Rattle.assembly.specs.declared.error.Checked.{Checked}
+use Rattle.assembly.specs.declared.error.Checked.the-variants.{Bad}
 use Rattle.macroblock.specs.Answer.{answerBy, macroblockAnswer, sentenceOf, stateOf, told}
 use Rattle.macroblock.specs.Header.{headerCheck, headerTests, patternBy}
 use Rattle.macroblock.specs.Outcomes.{macroblockOutcome}

@@ -14,13 +14,13 @@ use Rattle.numbers.specs.Grid.{cell}
 use Rattle.ranges.specs.Range.{depthFine}
 use Rattle.samples.proofs.LayoutLaws.{rest-kept, sample-at}
 use Rattle.samples.specs.Samples.{placeOf, samplesAfter}
-use Rattle.texture.proofs.Sentences.{macroblock-sentences}
-use Rattle.texture.specs.Answer.{after}
-use Rattle.texture.specs.Macroblock.{Parts}
-use Rattle.texture.specs.MacroblockReader.{readMacroblock}
-use Rattle.texture.specs.Reader.{Res, no, ok}
-use Rattle.texture.specs.declared.error.TextureParseError.{TextureParseError}
-use Rattle.block.specs.declared.context.MacroblockTextureContext.{MacroblockTextureContext}
+use Rattle.sentences.proofs.Sentences.{macroblock-sentences}
+use Rattle.fields.specs.Answer.{after}
+use Rattle.sentences.specs.Macroblock.{Parts}
+use Rattle.sentences.specs.MacroblockReader.{readMacroblock}
+use Rattle.fields.specs.Reader.{Res, no, ok}
+use Rattle.fields.specs.declared.error.TextureParseError.{TextureParseError}
+use Rattle.assembly.specs.declared.context.MacroblockTextureContext.{MacroblockTextureContext}
 use Rattle.macroblock.proofs.SixLaws.{samples-at}
 use Rattle.macroblock.specs.Demand.{BeginsAt, Demand3, Sample}
 use Rattle.macroblock.specs.Six.{blockAt, samplesOfSix}

@@ -8,21 +8,21 @@ use native.Mathlib.Omega.{arith}
 use lib.IntN.{ℤ}
 use lib.ListN.{getD, length}
 use Rattle.bits.specs.Bits.{bitsFrom}
-use Rattle.coefficients.specs.declared.predictor.BlockPredictors.{BlockPredictors}
+use Rattle.prediction.specs.declared.predictor.BlockPredictors.{BlockPredictors}
 use Rattle.numbers.proofs.Fill.{getD-build}
-use Rattle.texture.proofs.Sentences.{block-sentences}
-use Rattle.texture.specs.Answer.{after}
-use Rattle.texture.specs.ComposeReader.{readEach}
-use Rattle.texture.specs.Macroblock.{Parts, Place, placesOfPattern}
-use Rattle.texture.specs.MacroblockReader.{readBlock, readMacroblock}
-use Rattle.texture.specs.Reader.{Res, bind, no, ok}
-use Rattle.block.proofs.RowLaws.{rest-on}
-use Rattle.block.specs.Answer.{valuesIn}
-use Rattle.block.specs.Reading.{qfsOf}
+use Rattle.sentences.proofs.Sentences.{block-sentences}
+use Rattle.fields.specs.Answer.{after}
+use Rattle.sentences.specs.ComposeReader.{readEach}
+use Rattle.sentences.specs.Macroblock.{Parts, Place, placesOfPattern}
+use Rattle.sentences.specs.MacroblockReader.{readBlock, readMacroblock}
+use Rattle.fields.specs.Reader.{Res, bind, no, ok}
+use Rattle.block_reader.proofs.RowLaws.{rest-on}
+use Rattle.block.specs.Decoded.{valuesIn}
+use Rattle.block_reader.specs.Reading.{qfsOf}
 use Rattle.codes.specs.Component.{componentAt}
-use Rattle.block.specs.Rows.{rowsOf}
-use Rattle.block.specs.Values.{levelsOf, valuesOf}
-use Rattle.block.specs.declared.context.MacroblockTextureContext.{MacroblockTextureContext}
+use Rattle.block_reader.specs.Rows.{rowsOf}
+use Rattle.assembly.specs.Values.{levelsOf, valuesOf}
+use Rattle.assembly.specs.declared.context.MacroblockTextureContext.{MacroblockTextureContext}
 use Rattle.macroblock.specs.Answer.{valuesAlone}
 use Rattle.macroblock.specs.Header.{patternBy}
 use Rattle.macroblock.specs.InTurn.{inTurn}

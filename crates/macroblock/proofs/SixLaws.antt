@@ -11,16 +11,16 @@ use lib.ListN.{getD, length, List·getD-eq-default}
 use Rattle.numbers.proofs.Fill.{build-eq, getD-build, lt-or-le}
 use Rattle.codes.specs.Component.{componentAt}
 use Rattle.coefficients.proofs.NeededLaws.{needed-levels}
-use Rattle.coefficients.proofs.UpToLaws.{up-to-all}
+use Rattle.scan_rows.proofs.UpToLaws.{up-to-all}
 use Rattle.coefficients.specs.Level.{predictorsFine}
 use Rattle.coefficients.specs.Needed.{neededOf, numbered}
-use Rattle.coefficients.specs.UpTo.{upTo}
-use Rattle.coefficients.specs.declared.predictor.BlockPredictors.{BlockPredictors}
+use Rattle.scan_rows.specs.UpTo.{upTo}
+use Rattle.prediction.specs.declared.predictor.BlockPredictors.{BlockPredictors}
 use Rattle.idct.specs.Limits.{valuesFine}
 use Rattle.block.proofs.AnswerLaws.{values-fine}
 use Rattle.block.specs.Rebuilt.{valuesHere}
-use Rattle.block.specs.Values.{samplesOf, valuesOf}
-use Rattle.block.specs.declared.context.MacroblockTextureContext.{MacroblockTextureContext}
+use Rattle.assembly.specs.Values.{samplesOf, valuesOf}
+use Rattle.assembly.specs.declared.context.MacroblockTextureContext.{MacroblockTextureContext}
 use Rattle.samples.proofs.TurnLaws.{turn-all, turn-by}
 use Rattle.samples.specs.Samples.{blockAfter, blocksAfter, samplesAfter}
 use Rattle.window_reader.proofs.EndLaws.{beyond-end}

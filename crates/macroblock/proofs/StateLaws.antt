@@ -8,17 +8,17 @@ use lib.ListN.{length}
 use borrow.Author.Tests.{leb-true}
 use Rattle.bits.specs.Cursor.{inData}
 use Rattle.coefficients.specs.Level.{predictorsFine}
-use Rattle.coefficients.specs.declared.predictor.BlockPredictors.{BlockPredictors}
-use Rattle.block.proofs.OutcomeLaws.{answered}
-use Rattle.block.proofs.TestLaws.{all-pass, bad-first, fine-first}
-use Rattle.block.specs.Answer.{checkOf, testsOf}
-use Rattle.block.specs.Outcomes.{checkedOutcome}
-use Rattle.block.specs.Values.{contextFine}
-use Rattle.block.specs.declared.context.MacroblockTextureContext.{MacroblockTextureContext}
-use Rattle.block.specs.declared.error.BlockAssemblyError.{BlockAssemblyError}
-use Rattle.block.specs.declared.error.BlockAssemblyError.the-variants.{NotCoded, NotIntra, TooShort}
-use Rattle.block.specs.declared.error.Checked.{Checked}
-use Rattle.block.specs.declared.error.Checked.the-variants.{Bad, Fine}
+use Rattle.prediction.specs.declared.predictor.BlockPredictors.{BlockPredictors}
+use Rattle.assembly.proofs.OutcomeLaws.{answered}
+use Rattle.assembly.proofs.TestLaws.{all-pass, bad-first, fine-first}
+use Rattle.assembly.specs.Answer.{checkOf, testsOf}
+use Rattle.assembly.specs.Outcomes.{checkedOutcome}
+use Rattle.assembly.specs.Values.{contextFine}
+use Rattle.assembly.specs.declared.context.MacroblockTextureContext.{MacroblockTextureContext}
+use Rattle.assembly.specs.declared.error.BlockAssemblyError.{BlockAssemblyError}
+use Rattle.assembly.specs.declared.error.BlockAssemblyError.the-variants.{NotCoded, NotIntra, TooShort}
+use Rattle.assembly.specs.declared.error.Checked.{Checked}
+use Rattle.assembly.specs.declared.error.Checked.the-variants.{Bad, Fine}
 use Rattle.macroblock.specs.Answer.{stateOf}
 use Rattle.macroblock.specs.Header.{headerCheck, headerTests, isIntra}
 use Rattle.macroblock.specs.Outcomes.{headerDue}

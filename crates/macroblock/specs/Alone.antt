@@ -6,9 +6,9 @@ use Prim.Native.Nat.{ℕ, _+_}
 use lib.IntN.{ℤ}
 use lib.ListN.{length}
 use Rattle.bits.specs.Cursor.{cursorAt}
-use Rattle.coefficients.specs.declared.predictor.BlockPredictors.{BlockPredictors}
-use Rattle.block.specs.declared.context.MacroblockTextureContext.{MacroblockTextureContext}
-use Rattle.block.specs.declared.error.Checked.the-variants.{Fine}
+use Rattle.prediction.specs.declared.predictor.BlockPredictors.{BlockPredictors}
+use Rattle.assembly.specs.declared.context.MacroblockTextureContext.{MacroblockTextureContext}
+use Rattle.assembly.specs.declared.error.Checked.the-variants.{Fine}
 use Rattle.macroblock.specs.Answer.{stateOf, valuesAlone}
 use Rattle.macroblock.specs.Demand.{Demand3}
 use Rattle.macroblock.specs.Header.{patternBy}

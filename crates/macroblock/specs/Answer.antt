@@ -6,18 +6,18 @@ use lib.Dec.{leb}
 use lib.IntN.{ℤ}
 use lib.ListN.{length}
 use Rattle.bits.specs.Bits.{bitsFrom}
-use Rattle.coefficients.specs.declared.predictor.BlockPredictors.{BlockPredictors}
+use Rattle.prediction.specs.declared.predictor.BlockPredictors.{BlockPredictors}
 use Rattle.samples.specs.Samples.{macroblockSamples, samplesAfter}
-use Rattle.texture.specs.Answer.{after}
-use Rattle.texture.specs.Macroblock.{Parts}
-use Rattle.texture.specs.MacroblockReader.{readMacroblock}
-use Rattle.texture.specs.Reader.{Res, no, ok}
-use Rattle.block.specs.Answer.{firstBad, testsOf}
-use Rattle.block.specs.Rows.{rowsOf}
-use Rattle.block.specs.declared.context.MacroblockTextureContext.{MacroblockTextureContext}
-use Rattle.block.specs.declared.error.BlockAssemblyError.the-variants.{Texture, TooShort}
-use Rattle.block.specs.declared.error.Checked.{Checked}
-use Rattle.block.specs.declared.error.Checked.the-variants.{Bad, Fine}
+use Rattle.fields.specs.Answer.{after}
+use Rattle.sentences.specs.Macroblock.{Parts}
+use Rattle.sentences.specs.MacroblockReader.{readMacroblock}
+use Rattle.fields.specs.Reader.{Res, no, ok}
+use Rattle.assembly.specs.Answer.{firstBad, testsOf}
+use Rattle.block_reader.specs.Rows.{rowsOf}
+use Rattle.assembly.specs.declared.context.MacroblockTextureContext.{MacroblockTextureContext}
+use Rattle.assembly.specs.declared.error.BlockAssemblyError.the-variants.{Texture, TooShort}
+use Rattle.assembly.specs.declared.error.Checked.{Checked}
+use Rattle.assembly.specs.declared.error.Checked.the-variants.{Bad, Fine}
 use Rattle.macroblock.specs.Header.{headerTests, patternBy}
 use Rattle.macroblock.specs.Six.{samplesOfSix, valuesOfSix}
 use Rattle.macroblock.specs.declared.decode.MacroblockDecoded.{MacroblockDecoded}

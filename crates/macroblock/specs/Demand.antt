@@ -8,13 +8,13 @@ use lib.IntN.{ℤ, pos}
 use lib.ListN.{drop, getD, length}
 use Rattle.numbers.specs.Limit.{clampZ}
 use Rattle.bits.specs.Bits.{bitsFrom}
-use Rattle.idct.specs.Exact.{Near, exact}
+use Rattle.exact_transform.specs.Exact.{Near, exact}
 use Rattle.ranges.specs.Range.{highest}
-use Rattle.idct.specs.Transform.{whole}
+use Rattle.exact_transform.specs.Transform.{whole}
 use Rattle.samples.specs.Samples.{macroblockSamples, placeOf}
-use Rattle.texture.specs.Compose.{Begins}
-use Rattle.texture.specs.Macroblock.{GoodMacroblock, Parts, macroblockBits}
-use Rattle.block.specs.declared.context.MacroblockTextureContext.{MacroblockTextureContext}
+use Rattle.sentences.specs.Compose.{Begins}
+use Rattle.sentences.specs.Macroblock.{GoodMacroblock, Parts, macroblockBits}
+use Rattle.assembly.specs.declared.context.MacroblockTextureContext.{MacroblockTextureContext}
 use Rattle.macroblock.specs.Six.{blockAt}
 
 -- the bits from the start to the end of the data begin with the sentence

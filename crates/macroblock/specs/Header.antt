@@ -1,11 +1,11 @@
 -- The header record of a macroblock (6.2.6, Table B.1), and refusals 9 and 10. Definitions only.
 use mathlib.Core.Bool.{Bool, false, not, true}
 use mathlib.Core.List.{List, [], _∷_}
-use Rattle.block.specs.Answer.{firstBad}
-use Rattle.block.specs.Pattern.{patternOf}
-use Rattle.block.specs.declared.error.BlockAssemblyError.{BlockAssemblyError}
-use Rattle.block.specs.declared.error.BlockAssemblyError.the-variants.{NotCoded, NotIntra}
-use Rattle.block.specs.declared.error.Checked.{Checked}
+use Rattle.assembly.specs.Answer.{firstBad}
+use Rattle.assembly.specs.Pattern.{patternOf}
+use Rattle.assembly.specs.declared.error.BlockAssemblyError.{BlockAssemblyError}
+use Rattle.assembly.specs.declared.error.BlockAssemblyError.the-variants.{NotCoded, NotIntra}
+use Rattle.assembly.specs.declared.error.Checked.{Checked}
 use Rattle.macroblock.specs.declared.header.DerivedMbType.{DerivedMbType}
 use Rattle.macroblock.specs.declared.header.DerivedMbType.the-variants.{Inter, Inter4V, InterQ, Intra, IntraQ, Missing}
 use Rattle.macroblock.specs.declared.header.MacroblockHeader.{MacroblockHeader}

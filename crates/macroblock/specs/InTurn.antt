@@ -3,10 +3,10 @@ use mathlib.Core.Bool.{Bool}
 use mathlib.Core.List.{List, [], _∷_}
 use Prim.Native.Nat.{ℕ}
 use Rattle.bits.specs.Bits.{bitsFrom}
-use Rattle.texture.specs.Answer.{after}
-use Rattle.texture.specs.Macroblock.{Parts, Place}
-use Rattle.texture.specs.MacroblockReader.{readBlock}
-use Rattle.texture.specs.Reader.{Res, bind, ok}
+use Rattle.fields.specs.Answer.{after}
+use Rattle.sentences.specs.Macroblock.{Parts, Place}
+use Rattle.sentences.specs.MacroblockReader.{readBlock}
+use Rattle.fields.specs.Reader.{Res, bind, ok}
 
 -- what `decode_intra_block_full` reads at a position, then the same at the position that it reports
 unfoldable pub inTurn : List ℕ → Bool → Bool → ℕ → List Place → Res (List Parts)

@@ -7,13 +7,13 @@ use lib.ListN.{length}
 use Rattle.numbers.specs.Outcome.{Outcome, accepted, checked, done, refused}
 use Rattle.bits.specs.Cursor.{inData}
 use Rattle.coefficients.specs.Level.{predictorsFine}
-use Rattle.coefficients.specs.declared.predictor.BlockPredictors.{BlockPredictors}
+use Rattle.prediction.specs.declared.predictor.BlockPredictors.{BlockPredictors}
 use Rattle.samples.specs.Samples.{macroblockSamples}
-use Rattle.texture.specs.Macroblock.{Parts}
-use Rattle.texture.specs.Outcomes.{readAs}
-use Rattle.block.specs.Answer.{figureOf, numberOf}
-use Rattle.block.specs.Values.{contextFine}
-use Rattle.block.specs.declared.context.MacroblockTextureContext.{MacroblockTextureContext}
+use Rattle.sentences.specs.Macroblock.{Parts}
+use Rattle.fields.specs.Outcomes.{readAs}
+use Rattle.assembly.specs.Answer.{figureOf, numberOf}
+use Rattle.assembly.specs.Values.{contextFine}
+use Rattle.assembly.specs.declared.context.MacroblockTextureContext.{MacroblockTextureContext}
 use Rattle.macroblock.specs.Answer.{sentenceOf}
 use Rattle.macroblock.specs.Header.{isIntra}
 use Rattle.macroblock.specs.declared.decode.MacroblockDecoded.{MacroblockDecoded}

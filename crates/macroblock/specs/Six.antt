@@ -5,9 +5,9 @@ use lib.IntN.{ℤ}
 use lib.ListN.{getD}
 use Rattle.numbers.specs.Grid.{build}
 use Rattle.codes.specs.Component.{componentAt}
-use Rattle.coefficients.specs.declared.predictor.BlockPredictors.{BlockPredictors}
-use Rattle.block.specs.Values.{levelsOf, samplesOf, valuesOf}
-use Rattle.block.specs.declared.context.MacroblockTextureContext.{MacroblockTextureContext}
+use Rattle.prediction.specs.declared.predictor.BlockPredictors.{BlockPredictors}
+use Rattle.assembly.specs.Values.{levelsOf, samplesOf, valuesOf}
+use Rattle.assembly.specs.declared.context.MacroblockTextureContext.{MacroblockTextureContext}
 
 -- block i of six
 abbrev pub blockAt : List (List (List ℤ)) → ℕ → List (List ℤ)

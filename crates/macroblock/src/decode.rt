@@ -4,7 +4,7 @@ ghost use lib.ListN.{length};
 ghost use Rattle.macroblock.specs.Answer.{macroblockAnswer, samplesOut, samplesTold, sentenceOf, stateOf, told};
 ghost use Rattle.macroblock.specs.Alone.{DemandAlone};
 ghost use Rattle.macroblock.specs.Outcomes.{macroblockDue, macroblockOutcome};
-ghost use Rattle.block.specs.declared.error.Checked.the-variants.{Fine};
+ghost use Rattle.assembly.specs.declared.error.Checked.the-variants.{Fine};
 use crate::header::MacroblockHeader;
 use bits::Cursor;
 use block::BlockAssemblyError;

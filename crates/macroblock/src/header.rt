@@ -1,6 +1,6 @@
 // The header record of a macroblock (macroblock.rs).
 ghost use mathlib.Core.Path.{_≡_};
-ghost use Rattle.block.specs.Outcomes.{checkedOutcome};
+ghost use Rattle.assembly.specs.Outcomes.{checkedOutcome};
 ghost use Rattle.macroblock.specs.Header.{headerCheck, isIntra};
 ghost use Rattle.macroblock.specs.Outcomes.{headerDue};
 use block::BlockAssemblyError;

@@ -1,8 +1,4 @@
 -- The laws of this crate, each file over those above it.
-pub mod OutcomeLaws
-pub mod RefusalLaws
-pub mod RecordLaws
+pub mod TakenLaws
 pub mod SideLaws
 pub mod SoundLaws
-pub mod StoredLaws
-pub mod NeededLaws

@@ -16,16 +16,19 @@ use Rattle.numbers.proofs.Every.{every-in}
 use Rattle.numbers.proofs.Fill.{getD-build, length-build, lt-or-le}
 use Rattle.numbers.proofs.Tests.{both-true, true-both}
 use Rattle.ranges.specs.Range.{quantiserFine, levelFine, dcFine}
-use Rattle.coefficients.specs.Level.{valuesFine, predictorsFine}
-use Rattle.coefficients.proofs.MissingLaws.{outside-fine}
 use Rattle.ranges.proofs.RangeLaws.{quantiser-range}
-use Rattle.neighbours.specs.Record.{quantiserOf, sevenFrom, knownOf, missingOf, blank, keptOf, withBlock}
-use Rattle.neighbours.specs.Neighbours.{Around, aSource, aBlock, bSource, bBlock, cSource, cBlock, sided, sideOf, joined, predictors, neighboursFine}
-use Rattle.neighbours.specs.declared.record.Side.{Side}
-use Rattle.neighbours.specs.declared.place.Source.{Source}
-use Rattle.neighbours.specs.declared.place.Source.the-variants.{Own, Left, AboveLeft, Above}
-use Rattle.neighbours.proofs.RecordLaws.{blank-length, kept-row, kept-column, with-block-length, put-at, other-at, quantiser-at}
-use Rattle.neighbours.proofs.SideLaws.{each-of-six, all-of-six, a-below, b-below, c-below}
+use Rattle.prediction.specs.Refusal.{valuesFine}
+use Rattle.coefficients.specs.Level.{predictorsFine}
+use Rattle.coefficients.proofs.RefusalLaws.{outside-fine}
+use Rattle.places.specs.Places.{aSource, aBlock, bSource, bBlock, cSource, cBlock}
+use Rattle.places.specs.declared.place.Source.{Source}
+use Rattle.places.specs.declared.place.Source.the-variants.{Own, Left, AboveLeft, Above}
+use Rattle.places.proofs.PlaceLaws.{a-below, b-below, c-below}
+use Rattle.record.specs.Record.{quantiserOf, sevenFrom, knownOf, missingOf, blank, keptOf, withBlock}
+use Rattle.record.specs.declared.record.Side.{Side}
+use Rattle.record.proofs.RecordLaws.{blank-length, kept-row, kept-column, with-block-length, put-at, other-at, quantiser-at}
+use Rattle.neighbours.specs.Neighbours.{Around, sided, sideOf, joined, predictors, neighboursFine}
+use Rattle.neighbours.proofs.SideLaws.{each-of-six, all-of-six}
 
 pub record Sound (r : List ℤ) : Type 0 where
   pub long : length r ≡ 91
@@ -185,9 +188,9 @@ unfolding predictors
 taken-fine depth q ar new own e s i h =
     let t = each-fine depth q ar new e i h in
     join
-    (with-another FineA depth q ar new own (aSource i) (aBlock i) (t .a-fine) (as-a (known-fine own s (aBlock i) (a-below i h))))
-    (with-another FineB depth q ar new own (bSource i) (bBlock i) (t .b-fine) (as-b (known-fine own s (bBlock i) (b-below i h))))
-    (with-another FineC depth q ar new own (cSource i) (cBlock i) (t .c-fine) (as-c (known-fine own s (cBlock i) (c-below i h))))
+    (with-another FineA depth q ar new own (aSource i) (aBlock i) (t .a-fine) (as-a (known-fine own s (aBlock i) (a-below i))))
+    (with-another FineB depth q ar new own (bSource i) (bBlock i) (t .b-fine) (as-b (known-fine own s (bBlock i) (b-below i))))
+    (with-another FineC depth q ar new own (cSource i) (cBlock i) (t .c-fine) (as-c (known-fine own s (cBlock i) (c-below i))))
 
 -- the records around, where they are not missing, are sound
 pub record AroundSound (ar : Around) : Type 0 where
@@ -212,6 +215,6 @@ around-fine depth q ar own e a o =
     all-of-six (λ (i : ℕ). predictorsFine (predictors depth q ar own i))
     (λ (i : ℕ) (h : i < 6).
     join
-    (as-a (side-fine depth q e ar a own o (aSource i) (aBlock i) (a-below i h)))
-    (as-b (side-fine depth q e ar a own o (bSource i) (bBlock i) (b-below i h)))
-    (as-c (side-fine depth q e ar a own o (cSource i) (cBlock i) (c-below i h))))
+    (as-a (side-fine depth q e ar a own o (aSource i) (aBlock i) (a-below i)))
+    (as-b (side-fine depth q e ar a own o (bSource i) (bBlock i) (b-below i)))
+    (as-c (side-fine depth q e ar a own o (cSource i) (cBlock i) (c-below i))))

@@ -1,6 +1,3 @@
--- The neighbours of a block: what is kept of a macroblock, and what later blocks take of it.
-pub mod Record
+-- The neighbours of a block: what it takes of them, and why not.
 pub mod Neighbours
-pub mod Refusals
-pub mod Stored
-pub mod Sides
+pub mod Taken

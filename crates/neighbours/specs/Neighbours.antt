@@ -1,37 +1,19 @@
--- Which block of which macroblock is A, B and C of a block (Figure 7-5); what a block takes of them; and refusal 13. Definitions only.
+-- What a block takes of A, B and C; and refusal 13. Definitions only.
 use mathlib.Core.Bool.{Bool, false, true}
 use mathlib.Core.List.{List, [], _∷_}
 use mathlib.Core.Option.{Option, none, some}
 use Prim.Native.Nat.{ℕ}
-use lib.ListN.{getD}
+use lib.ListN.{drop}
 use lib.IntN.{ℤ}
 use Rattle.numbers.specs.Every.{every}
 use Rattle.coefficients.specs.Level.{predictorsFine}
-use Rattle.coefficients.specs.declared.predictor.BlockPredictors.{BlockPredictors}
-use Rattle.neighbours.specs.Record.{recordAt, knownOf, missingOf}
-use Rattle.neighbours.specs.declared.record.Side.{Side}
-use Rattle.neighbours.specs.declared.place.Place.{Place}
-use Rattle.neighbours.specs.declared.place.Source.{Source}
-use Rattle.neighbours.specs.declared.place.Source.the-variants.{Own, Left, AboveLeft, Above}
-
--- A is left, B above left, C above. For blocks 0 to 5: the macroblock that it lies in, and which block it is there.
-abbrev pub aSource : ℕ → Source
-aSource i = getD (Left ∷ Own ∷ Left ∷ Own ∷ Left ∷ Left ∷ []) i Own
-
-abbrev pub aBlock : ℕ → ℕ
-aBlock i = getD (1 ∷ 0 ∷ 3 ∷ 2 ∷ 4 ∷ 5 ∷ []) i 0
-
-abbrev pub bSource : ℕ → Source
-bSource i = getD (AboveLeft ∷ Above ∷ Left ∷ Own ∷ AboveLeft ∷ AboveLeft ∷ []) i Own
-
-abbrev pub bBlock : ℕ → ℕ
-bBlock i = getD (3 ∷ 2 ∷ 1 ∷ 0 ∷ 4 ∷ 5 ∷ []) i 0
-
-abbrev pub cSource : ℕ → Source
-cSource i = getD (Above ∷ Above ∷ Own ∷ Own ∷ Above ∷ Above ∷ []) i Own
-
-abbrev pub cBlock : ℕ → ℕ
-cBlock i = getD (2 ∷ 3 ∷ 0 ∷ 1 ∷ 4 ∷ 5 ∷ []) i 0
+use Rattle.prediction.specs.declared.predictor.BlockPredictors.{BlockPredictors}
+use Rattle.places.specs.Places.{aSource, aBlock, bSource, bBlock, cSource, cBlock}
+use Rattle.places.specs.declared.place.Place.{Place}
+use Rattle.places.specs.declared.place.Source.{Source}
+use Rattle.places.specs.declared.place.Source.the-variants.{Own, Left, AboveLeft, Above}
+use Rattle.record.specs.Record.{recordAt, knownOf, missingOf}
+use Rattle.record.specs.declared.record.Side.{Side}
 
 -- the records of the three macroblocks around the one that is due, where they are not missing
 pub record Around : Type 0 where
@@ -89,6 +71,15 @@ aroundBy p s =
       left = found (p .«has_left») (recordAt s (p .left));
       aboveLeft = found (p .«has_above_left») (recordAt s (p .«above_left»));
       above = found (p .«has_above») (recordAt s (p .above));
+    }
+
+-- the same, but all that stands in the store from each place on: of a block above 5 there is no record
+abbrev pub aroundFrom : Place → List ℤ → Around
+aroundFrom p s =
+    record {
+      left = found (p .«has_left») (drop (p .left) s);
+      aboveLeft = found (p .«has_above_left») (drop (p .«above_left») s);
+      above = found (p .«has_above») (drop (p .above) s);
     }
 
 -- refusal 13: what the six blocks take is in range, AC values whether or not AC prediction is set; the macroblock's own record is a new one, which is

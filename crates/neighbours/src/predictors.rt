@@ -1,47 +1,46 @@
 // What each block takes of its neighbours, and refusal 13.
 ghost use mathlib.Core.Path.{_≡_};
 ghost use mathlib.Core.Bool.{cond, true};
-ghost use Prim.Native.Nat.{_<_};
 ghost use lib.ListN.{length};
-ghost use Rattle.neighbours.specs.Record.{missingOf, recordAt};
-ghost use Rattle.coefficients.specs.Prediction.{outsideOf};
-ghost use Rattle.neighbours.specs.Neighbours.{aroundBy, joinedBy, neighboursFine, predictors, sideOf};
-ghost use Rattle.neighbours.specs.Refusals.{firstBad, lies, placeLies, recordedOutcome, takenDue, takenTests, unless};
-use crate::place::Place;
-use crate::place::Source;
-use crate::record::Side;
-use crate::refusal::RecordError;
-use crate::refusal::Recorded;
-use coefficients::BlockPredictors;
+ghost use Rattle.prediction.specs.Prediction.{outsideOf};
+ghost use Rattle.record.specs.Record.{missingOf, recordAt};
+ghost use Rattle.record.specs.Refusals.{firstBad, lies, recordedOutcome, unless};
+ghost use Rattle.neighbours.specs.Neighbours.{aroundBy, aroundFrom, joinedBy, neighboursFine, predictors, sideOf};
+ghost use Rattle.neighbours.specs.Taken.{placeLies, takenDue, takenTests};
+use places::Place;
+use places::Source;
+use prediction::BlockPredictors;
+use record::RecordError;
+use record::Recorded;
+use record::Side;
 
 // Block `b` of a source.
-fn neighbour(store: &[i32], own: &[i32], p: Place, source: Source, b: usize) -> Side
-    requires { ⌜ b < 6 ⌝ }
-    ensures { λ r. ⌜ r ≡ sideOf (p .«bits_per_pixel») (p .«quantiser_scale») (aroundBy p (now (store .entry))) (recordAt (now (own .entry)) 0) source b ⌝ }
+fn neighbour(store: &[i32], own: &[i32], p: Place, source: Source, b: u32) -> Side
+    ensures { λ r. ⌜ r ≡ sideOf (p .«bits_per_pixel») (p .«quantiser_scale») (aroundFrom p (now (store .entry))) (now (own .entry)) source b ⌝ }
 {
     let depth = p.bits_per_pixel;
     let q = p.quantiser_scale;
     match source {
-        Source::Own => crate::record::known(own, 0, b),
+        Source::Own => record::known(own, 0, b),
         Source::Left => {
             if p.has_left {
-                crate::record::known(store, p.left as usize, b)
+                record::known(store, p.left, b)
             } else {
-                crate::record::missing(depth, q)
+                record::missing(depth, q)
             }
         }
         Source::AboveLeft => {
             if p.has_above_left {
-                crate::record::known(store, p.above_left as usize, b)
+                record::known(store, p.above_left, b)
             } else {
-                crate::record::missing(depth, q)
+                record::missing(depth, q)
             }
         }
         Source::Above => {
             if p.has_above {
-                crate::record::known(store, p.above as usize, b)
+                record::known(store, p.above, b)
             } else {
-                crate::record::missing(depth, q)
+                record::missing(depth, q)
             }
         }
     }
@@ -51,34 +50,33 @@ fn neighbour(store: &[i32], own: &[i32], p: Place, source: Source, b: usize) -> 
 fn no_dc(p: Place) -> i32
     ensures { λ r. ⌜ r ≡ missingOf (p .«bits_per_pixel») (p .«quantiser_scale») .dc ⌝ }
 {
-    let none = crate::record::missing(p.bits_per_pixel, p.quantiser_scale);
+    let none = record::missing(p.bits_per_pixel, p.quantiser_scale);
     none.dc
 }
 
 // The DC of block `b` of a source.
-pub(crate) fn neighbour_dc(store: &[i32], own: &[i32], p: Place, source: Source, b: usize) -> i32
-    requires { ⌜ b < 6 ⌝ }
-    ensures { λ r. ⌜ r ≡ sideOf (p .«bits_per_pixel») (p .«quantiser_scale») (aroundBy p (now (store .entry))) (recordAt (now (own .entry)) 0) source b .dc ⌝ }
+pub fn neighbour_dc(store: &[i32], own: &[i32], p: Place, source: Source, b: u32) -> i32
+    ensures { λ r. ⌜ r ≡ sideOf (p .«bits_per_pixel») (p .«quantiser_scale») (aroundFrom p (now (store .entry))) (now (own .entry)) source b .dc ⌝ }
 {
     match source {
-        Source::Own => crate::record::known_dc(own, 0, b),
+        Source::Own => record::known_dc(own, 0, b),
         Source::Left => {
             if p.has_left {
-                crate::record::known_dc(store, p.left as usize, b)
+                record::known_dc(store, p.left, b)
             } else {
                 no_dc(p)
             }
         }
         Source::AboveLeft => {
             if p.has_above_left {
-                crate::record::known_dc(store, p.above_left as usize, b)
+                record::known_dc(store, p.above_left, b)
             } else {
                 no_dc(p)
             }
         }
         Source::Above => {
             if p.has_above {
-                crate::record::known_dc(store, p.above as usize, b)
+                record::known_dc(store, p.above, b)
             } else {
                 no_dc(p)
             }
@@ -105,31 +103,12 @@ fn join(a: Side, fb_dc: i32, c: Side) -> BlockPredictors
 }
 
 // What block `i` of six takes, out of the store and the macroblock's own record so far.
-pub(crate) fn taken_by(store: &[i32], own: &[i32], p: Place, i: usize) -> BlockPredictors
-    requires { ⌜ i < 6 ⌝ }
+fn taken_by(store: &[i32], own: &[i32], p: Place, i: usize) -> BlockPredictors
     ensures { λ r. ⌜ r ≡ predictors (p .«bits_per_pixel») (p .«quantiser_scale») (aroundBy p (now (store .entry))) (recordAt (now (own .entry)) 0) i ⌝ }
 {
-    let a = neighbour(
-        store,
-        own,
-        p,
-        crate::place::a_source(i),
-        crate::place::a_block(i),
-    );
-    let b = neighbour_dc(
-        store,
-        own,
-        p,
-        crate::place::b_source(i),
-        crate::place::b_block(i),
-    );
-    let c = neighbour(
-        store,
-        own,
-        p,
-        crate::place::c_source(i),
-        crate::place::c_block(i),
-    );
+    let a = neighbour(store, own, p, places::a_source(i), places::a_block(i));
+    let b = neighbour_dc(store, own, p, places::b_source(i), places::b_block(i));
+    let c = neighbour(store, own, p, places::c_source(i), places::c_block(i));
     join(a, b, c)
 }
 
@@ -144,7 +123,7 @@ fn lies_if(there: bool, stored: usize, at: u32) -> bool
 }
 
 // Whether the records around the macroblock that is due do.
-pub(crate) fn place_lies(stored: usize, p: Place) -> bool
+pub fn place_lies(stored: usize, p: Place) -> bool
     ensures { λ r. ⌜ r ≡ placeLies stored p ⌝ }
 {
     if !lies_if(p.has_left, stored, p.left) {
@@ -157,8 +136,9 @@ pub(crate) fn place_lies(stored: usize, p: Place) -> bool
 }
 
 // 11, 12, 14.
-pub(crate) fn check_taken(stored: usize, owned: usize, p: Place, i: usize) -> Recorded
+pub fn check_taken(stored: usize, owned: usize, p: Place, i: usize) -> Recorded
     ensures { λ r. ⌜ r ≡ firstBad (takenTests stored owned p i) ⌝ }
+    ensures outcome { λ r. ⌜ recordedOutcome r ≡ takenDue stored owned p i ⌝ }
 {
     if 6 <= i {
         return Recorded::Refused(RecordError::OutOfRange);

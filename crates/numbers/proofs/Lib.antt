@@ -9,4 +9,5 @@ pub mod Rounding
 pub mod Lists
 pub mod Fill
 pub mod Every
+pub mod EveryLaws
 pub mod OutcomeLaws

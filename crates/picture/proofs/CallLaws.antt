@@ -10,32 +10,33 @@ use Rattle.numbers.specs.Outcome.{checked}
 use Rattle.bits.proofs.CursorLaws.{in-data-yes}
 use Rattle.bits.specs.Cursor.{cursorAt}
 use Rattle.bits.specs.declared.cursor.Cursor.{Cursor}
-use Rattle.texture.specs.Answer.{after}
-use Rattle.texture.specs.Macroblock.{Parts}
-use Rattle.texture.specs.Reader.{Res}
-use Rattle.block.proofs.OutcomeLaws.{answered, read-by}
-use Rattle.block.proofs.ValueLaws.{depth-fine}
-use Rattle.block.specs.Rows.{rowsOf}
-use Rattle.block.specs.declared.error.BlockAssemblyError.{BlockAssemblyError}
-use Rattle.block.specs.declared.error.Checked.{Checked}
-use Rattle.block.specs.declared.error.Checked.the-variants.{Bad, Fine}
+use Rattle.fields.specs.Answer.{after}
+use Rattle.sentences.specs.Macroblock.{Parts}
+use Rattle.fields.specs.Reader.{Res}
+use Rattle.assembly.proofs.OutcomeLaws.{answered, read-by}
+use Rattle.assembly.proofs.ContextLaws.{depth-fine}
+use Rattle.block_reader.specs.Rows.{rowsOf}
+use Rattle.assembly.specs.declared.error.BlockAssemblyError.{BlockAssemblyError}
+use Rattle.assembly.specs.declared.error.Checked.{Checked}
+use Rattle.assembly.specs.declared.error.Checked.the-variants.{Bad, Fine}
 use Rattle.macroblock.proofs.DemandLaws.{Call, demand, read-of}
 use Rattle.macroblock.specs.Answer.{keptBy, sentenceOf}
 use Rattle.macroblock.specs.Header.{patternBy}
-use Rattle.neighbours.proofs.RecordLaws.{read-back}
-use Rattle.neighbours.specs.Record.{knownOf, recordAt, storedAt}
-use Rattle.picture.proofs.RingLaws.{earlier-kept, offset-on, slot-in}
+use Rattle.record.proofs.RecordLaws.{read-back}
+use Rattle.record.specs.Record.{knownOf, recordAt, storedAt}
+use Rattle.picture_state.proofs.RingLaws.{earlier-kept, offset-on, slot-in}
 use Rattle.picture.proofs.SerialLaws.{kept-is, turn-fine, up-sound}
-use Rattle.picture.proofs.StateLaws.{FirstFine, state-first}
+use Rattle.picture_state.proofs.StateLaws.{FirstFine, state-first}
+use Rattle.picture.specs.Answered.{Answered}
 use Rattle.picture.specs.Call.{Input, answerBy, answerOut, answerTold, aroundHere, contextHere, recordHere, samplesOut, samplesTold, sentenceHere, stateHere, storeOut, storeTold, valuesHere}
-use Rattle.picture.specs.InPicture.{Accepted, Begun, DemandInPicture, Promise, Told, kept}
+use Rattle.picture.specs.InPicture.{Accepted, Begun, Promise, Told, kept}
 use Rattle.picture.specs.Outcomes.{callDue, callNumbers, callSaid, pictureOutcome}
-use Rattle.picture.specs.Picture.{onward}
-use Rattle.picture.specs.Ring.{offset}
-use Rattle.picture.specs.State.{firstTests, laterTests, stateBy}
+use Rattle.picture_state.specs.Picture.{onward}
+use Rattle.picture_state.specs.Ring.{offset}
+use Rattle.picture_state.specs.State.{firstTests, laterTests, stateBy}
 use Rattle.picture.specs.declared.call.PictureDecoded.{PictureDecoded}
 use Rattle.picture.specs.declared.call.PictureDecoded.the-variants.{Decoded, Refused}
-use Rattle.picture.specs.declared.picture.Picture.{Picture}
+use Rattle.picture_state.specs.declared.picture.Picture.{Picture}
 
 module _ (p : Picture) (x : Input) (store : List ℤ) where
   abbrev dcCoded : Bool
@@ -44,17 +45,11 @@ module _ (p : Picture) (x : Input) (store : List ℤ) where
   abbrev rev : Bool
   rev = x .context .«reversible_vlc»
 
-  abbrev samplesRead : Res (List Parts) → List ℤ
+  abbrev pub samplesRead : Res (List Parts) → List ℤ
   samplesRead y = samplesTold (x .header) dcCoded (contextHere p x) (x .matrix) (aroundHere p x store) y (x .samples)
 
-  abbrev storeRead : Res (List Parts) → List ℤ
+  abbrev pub storeRead : Res (List Parts) → List ℤ
   storeRead y = storeTold p (x .header) dcCoded (contextHere p x) (x .matrix) (aroundHere p x store) y store
-
-  -- what the public contract says
-  abbrev pub Meets : PictureDecoded → List ℤ → List ℤ → Type 0
-  Meets r out st =
-      (r ≡ answerOut p x store)
-      × ((out ≡ samplesOut p x store) × ((st ≡ storeOut p x store) × (DemandInPicture p x store r out st × (pictureOutcome r ≡ callDue p x store))))
 
   -- the answer by number
   by-number : {r : PictureDecoded} → r ≡ answerOut p x store → pictureOutcome r ≡ callDue p x store
@@ -62,23 +57,20 @@ module _ (p : Picture) (x : Input) (store : List ℤ) where
   by-number e =
       ap pictureOutcome e
       ∙ answered pictureOutcome (λ (k : Checked). answerBy k (answerTold p (x .bytes) (x .start) (sentenceHere p x))) (λ e. refl)
-      (firstTests p (x .bytes) (x .start) (contextHere p x) (x .matrix) (length (x .samples)) (length store) ++ laterTests p (x .bytes) (x .start) (x .header) (contextHere p x) (aroundHere p x store))
+      (firstTests p (x .bytes) (x .start) (contextHere p x) (x .matrix) (length (x .samples)) (length store) ++ laterTests p (x .header) (contextHere p x) (aroundHere p x store))
       (refl, (refl, (refl, (refl, (refl, (refl, (refl, (refl, (refl, tt)))))))))
       ∙ ap (checked (callNumbers p x store)) (read-by pictureOutcome (answerTold p (x .bytes) (x .start)) (callSaid p x store) (x .bytes) (λ a r. refl) (λ e. refl) (sentenceHere p x))
 
-  pub refused : {e : BlockAssemblyError} → stateHere p x store ≡ Bad e → Meets (Refused e) (x .samples) store
+  pub refused : {e : BlockAssemblyError} → stateHere p x store ≡ Bad e → Answered p x store (Refused e) (x .samples) store
   unfolding answerOut samplesOut storeOut
   refused {e} q =
-      let a = sym (ap (λ (s : Checked). answerBy s (answerTold p (x .bytes) (x .start) (sentenceHere p x))) q) in (
-        a,
-        (
-          sym (ap (λ (s : Checked). keptBy s (samplesRead (sentenceHere p x)) (x .samples)) q),
-          (
-            sym (ap (λ (s : Checked). keptBy s (storeRead (sentenceHere p x)) store) q),
-            (λ f. absurd (let z : _≡_ {A = ℕ} 0 1 = cc in omega arith), by-number a),
-          ),
-        ),
-      )
+      let a = sym (ap (λ (s : Checked). answerBy s (answerTold p (x .bytes) (x .start) (sentenceHere p x))) q) in record {
+        answer = a;
+        samples = sym (ap (λ (s : Checked). keptBy s (samplesRead (sentenceHere p x)) (x .samples)) q);
+        store = sym (ap (λ (s : Checked). keptBy s (storeRead (sentenceHere p x)) store) q);
+        demand = λ f. absurd (let z : _≡_ {A = ℕ} 0 1 = cc in omega arith);
+        outcome = by-number a;
+      }
 
   module _ (q : stateHere p x store ≡ Fine) (r : PictureDecoded) (out st : List ℤ)
       (e : r ≡ answerTold p (x .bytes) (x .start) (sentenceHere p x)) (f : out ≡ samplesRead (sentenceHere p x)) (g : st ≡ storeRead (sentenceHere p x)) where
@@ -137,16 +129,13 @@ module _ (p : Picture) (x : Input) (store : List ℤ) where
       earlier = earlier-is;
     }
 
-    pub whole : Meets r out st
+    pub whole : Answered p x store r out st
     unfolding answerOut samplesOut storeOut
     whole =
-        let a = e ∙ sym (ap (λ (s : Checked). answerBy s (answerTold p (x .bytes) (x .start) (sentenceHere p x))) q) in (
-          a,
-          (
-            f ∙ sym (ap (λ (s : Checked). keptBy s (samplesRead (sentenceHere p x)) (x .samples)) q),
-            (
-              g ∙ sym (ap (λ (s : Checked). keptBy s (storeRead (sentenceHere p x)) store) q),
-              (λ _. promise, by-number a),
-            ),
-          ),
-        )
+        let a = e ∙ sym (ap (λ (s : Checked). answerBy s (answerTold p (x .bytes) (x .start) (sentenceHere p x))) q) in record {
+          answer = a;
+          samples = f ∙ sym (ap (λ (s : Checked). keptBy s (samplesRead (sentenceHere p x)) (x .samples)) q);
+          store = g ∙ sym (ap (λ (s : Checked). keptBy s (storeRead (sentenceHere p x)) store) q);
+          demand = λ _. promise;
+          outcome = by-number a;
+        }

@@ -2,7 +2,7 @@
 use mathlib.Core.Bool.{true}
 use mathlib.Core.List.{List, []}
 use mathlib.Core.Logic.{⊎-elim}
-use mathlib.Core.Path.{_≡_, ap, ap₂, refl, subst⁻¹, sym, _∙_}
+use mathlib.Core.Path.{_≡_, ap, refl, subst⁻¹, sym, _∙_}
 use Prim.Native.Nat.{ℕ, suc, zero, _+_, _<_, _≤_}
 use native.Mathlib.Nat.{not-suc-le-zero}
 use native.Mathlib.Numerals.{add-one}
@@ -18,16 +18,16 @@ use Rattle.numbers.proofs.Fill.{getD-build, lt-or-le}
 use Rattle.numbers.specs.Grid.{build, cell}
 use Rattle.ranges.specs.Range.{levelFine}
 use Rattle.block.proofs.AnswerLaws.{values-fine, values-small}
-use Rattle.block.proofs.ValueLaws.{depth-fine, quantiser-fine}
+use Rattle.assembly.proofs.ContextLaws.{depth-fine, quantiser-fine}
 use Rattle.codes.specs.Component.{componentAt}
-use Rattle.block.specs.Values.{contextFine, samplesOf}
-use Rattle.block.specs.declared.context.MacroblockTextureContext.{MacroblockTextureContext}
+use Rattle.assembly.specs.Values.{contextFine, samplesOf}
+use Rattle.assembly.specs.declared.context.MacroblockTextureContext.{MacroblockTextureContext}
 use Rattle.macroblock.specs.Six.{samplesOfSix}
-use Rattle.neighbours.proofs.RecordLaws.{known-other, known-own, quantiser-at}
+use Rattle.record.proofs.RecordLaws.{known-other, known-own, quantiser-at}
 use Rattle.neighbours.proofs.SoundLaws.{Sound, blank-sound, taken-fine, with-block-sound}
 use Rattle.neighbours.specs.Neighbours.{Around, neighboursFine, predictors}
-use Rattle.neighbours.specs.Record.{blank, knownOf, quantiserOf, withBlock}
-use Rattle.neighbours.specs.declared.record.Side.{Side}
+use Rattle.record.specs.Record.{blank, knownOf, quantiserOf, withBlock}
+use Rattle.record.specs.declared.record.Side.{Side}
 use Rattle.picture.specs.Serial.{keptAs, levelsAt, levelsInTurn, recordOf, recordUpTo, valuesAt, valuesInTurn}
 
 module _ (x : MacroblockTextureContext) (w : List (List ℕ)) (ar : Around) (rows : List (List ℤ)) where
@@ -52,6 +52,11 @@ module _ (x : MacroblockTextureContext) (w : List (List ℕ)) (ar : Around) (row
   levels-in : (own : List ℤ) (i : ℕ) → blockFine (levelsAt x w ar rows own i) ≡ true
   levels-in own i = levels-fine (componentAt i) q (x .«ac_pred_flag») (x .«alternate_vertical_scan») (predictors (x .«bits_per_pixel») q ar own i) (getD rows i [])
 
+  -- the record with one block more
+  pub up-next : (i : ℕ) (own : List ℤ) → own ≡ upTo i → withBlock own i (cell (valuesAt x w ar rows own i) 0 0) (levelsAt x w ar rows own i) ≡ upTo (i + 1)
+  unfolding recordUpTo
+  up-next i own e = ap (λ (o : List ℤ). withBlock o i (cell (valuesAt x w ar rows o i) 0 0) (levelsAt x w ar rows o i)) e ∙ sym (ap upTo (add-one i))
+
   module _ (h : contextFine x w ≡ true) where
     pub up-sound : (i : ℕ) → i ≤ 6 → Sound (upTo i)
     unfolding recordUpTo
@@ -66,12 +71,6 @@ module _ (x : MacroblockTextureContext) (w : List (List ℕ)) (ar : Around) (row
 
     pub turn-predictors : neighboursFine (x .«bits_per_pixel») q ar (blank q) ≡ true → (i : ℕ) → i < 6 → predictorsFine (predictors (x .«bits_per_pixel») q ar (upTo i) i) ≡ true
     turn-predictors n i l = taken-fine (x .«bits_per_pixel») q ar (blank q) (upTo i) n (up-sound i (omega arith)) i l
-
-    pub turn-record : (i : ℕ) (own : List ℤ) (dc : ℤ) (qf : List (List ℤ)) → own ≡ upTo i → dc ≡ cell (valuesAt x w ar rows (upTo i) i) 0 0 → qf ≡ levelsAt x w ar rows (upTo i) i
-        → withBlock own i dc qf ≡ upTo (i + 1)
-    unfolding recordUpTo
-    turn-record i own dc qf a b c =
-        ap (λ (o : List ℤ). withBlock o i dc qf) a ∙ ap₂ (λ (z : ℤ) (f : List (List ℤ)). withBlock (upTo i) i z f) b c ∙ sym (ap upTo (add-one i))
 
     -- ---- what the record gives
 

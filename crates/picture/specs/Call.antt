@@ -5,28 +5,28 @@ use Prim.Native.Nat.{ℕ, _-_}
 use lib.IntN.{ℤ}
 use lib.ListN.{length}
 use Rattle.samples.specs.Samples.{samplesAfter}
-use Rattle.texture.specs.Answer.{after}
-use Rattle.texture.specs.Macroblock.{Parts}
-use Rattle.texture.specs.Reader.{Res, no, ok}
-use Rattle.block.specs.Rows.{rowsOf}
-use Rattle.block.specs.declared.context.MacroblockTextureContext.{MacroblockTextureContext}
-use Rattle.block.specs.declared.error.BlockAssemblyError.the-variants.{Texture}
-use Rattle.block.specs.declared.error.Checked.{Checked}
-use Rattle.block.specs.declared.error.Checked.the-variants.{Bad, Fine}
+use Rattle.fields.specs.Answer.{after}
+use Rattle.sentences.specs.Macroblock.{Parts}
+use Rattle.fields.specs.Reader.{Res, no, ok}
+use Rattle.block_reader.specs.Rows.{rowsOf}
+use Rattle.assembly.specs.declared.context.MacroblockTextureContext.{MacroblockTextureContext}
+use Rattle.assembly.specs.declared.error.BlockAssemblyError.the-variants.{Texture}
+use Rattle.assembly.specs.declared.error.Checked.{Checked}
+use Rattle.assembly.specs.declared.error.Checked.the-variants.{Bad, Fine}
 use Rattle.macroblock.specs.Answer.{keptBy, sentenceOf}
 use Rattle.macroblock.specs.Header.{patternBy}
 use Rattle.macroblock.specs.Six.{samplesOfSix}
 use Rattle.macroblock.specs.declared.header.MacroblockHeader.{MacroblockHeader}
 use Rattle.neighbours.specs.Neighbours.{Around}
-use Rattle.neighbours.specs.Record.{storedAt}
-use Rattle.picture.specs.Picture.{contextOf, onward}
-use Rattle.picture.specs.Ring.{aroundDue, offset}
+use Rattle.record.specs.Record.{storedAt}
+use Rattle.picture_state.specs.Picture.{contextOf, onward}
+use Rattle.picture_state.specs.Ring.{aroundDue, offset}
 use Rattle.picture.specs.Serial.{recordOf, valuesInTurn}
-use Rattle.picture.specs.State.{stateBy}
+use Rattle.picture_state.specs.State.{stateBy}
 use Rattle.picture.specs.declared.call.PictureDecoded.{PictureDecoded}
 use Rattle.picture.specs.declared.call.PictureDecoded.the-variants.{Decoded, Refused}
-use Rattle.picture.specs.declared.picture.MacroblockContext.{MacroblockContext}
-use Rattle.picture.specs.declared.picture.Picture.{Picture}
+use Rattle.picture_state.specs.declared.picture.MacroblockContext.{MacroblockContext}
+use Rattle.picture_state.specs.declared.picture.Picture.{Picture}
 
 -- what a call brings
 pub record Input : Type 0 where

@@ -4,20 +4,20 @@ use mathlib.Core.Path.{_≡_}
 use Prim.Native.Nat.{ℕ, _+_, _<_, _≤_}
 use lib.IntN.{ℤ}
 use Rattle.bits.specs.Cursor.{cursorAt}
-use Rattle.texture.specs.Macroblock.{Parts}
-use Rattle.block.specs.Rows.{rowsOf}
-use Rattle.block.specs.declared.error.Checked.the-variants.{Fine}
+use Rattle.sentences.specs.Macroblock.{Parts}
+use Rattle.block_reader.specs.Rows.{rowsOf}
+use Rattle.assembly.specs.declared.error.Checked.the-variants.{Fine}
 use Rattle.macroblock.specs.Demand.{BeginsAt, Demand3}
 use Rattle.macroblock.specs.Header.{patternBy}
-use Rattle.neighbours.specs.Record.{knownOf, recordAt}
-use Rattle.neighbours.specs.declared.record.Side.{Side}
+use Rattle.record.specs.Record.{knownOf, recordAt}
+use Rattle.record.specs.declared.record.Side.{Side}
 use Rattle.picture.specs.Call.{Input, aroundHere, contextHere, stateHere, valuesHere}
-use Rattle.picture.specs.Picture.{onward}
-use Rattle.picture.specs.Ring.{offset}
+use Rattle.picture_state.specs.Picture.{onward}
+use Rattle.picture_state.specs.Ring.{offset}
 use Rattle.picture.specs.Serial.{keptAs}
 use Rattle.picture.specs.declared.call.PictureDecoded.{PictureDecoded}
 use Rattle.picture.specs.declared.call.PictureDecoded.the-variants.{Decoded, Refused}
-use Rattle.picture.specs.declared.picture.Picture.{Picture}
+use Rattle.picture_state.specs.declared.picture.Picture.{Picture}
 
 -- answered without a number
 abbrev pub Accepted : PictureDecoded → Type 0

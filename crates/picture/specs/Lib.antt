@@ -1,8 +1,7 @@
--- One picture: its opening, where its records lie, its calls, and demand 3 for them.
-pub mod Picture
-pub mod Ring
+-- The calls of a picture: six blocks in turn, what is answered, and demand 3 for it.
 pub mod Serial
-pub mod State
+pub mod Turn
 pub mod Call
 pub mod InPicture
 pub mod Outcomes
+pub mod Answered

@@ -6,11 +6,11 @@ use lib.IntN.{ℤ}
 use lib.ListN.{getD}
 use Rattle.numbers.specs.Grid.{build, cell}
 use Rattle.codes.specs.Component.{componentAt}
-use Rattle.block.specs.Values.{levelsOf, valuesOf}
-use Rattle.block.specs.declared.context.MacroblockTextureContext.{MacroblockTextureContext}
+use Rattle.assembly.specs.Values.{levelsOf, valuesOf}
+use Rattle.assembly.specs.declared.context.MacroblockTextureContext.{MacroblockTextureContext}
 use Rattle.neighbours.specs.Neighbours.{Around, predictors}
-use Rattle.neighbours.specs.Record.{blank, withBlock}
-use Rattle.neighbours.specs.declared.record.Side.{Side}
+use Rattle.record.specs.Record.{blank, withBlock}
+use Rattle.record.specs.declared.record.Side.{Side}
 
 module _ (x : MacroblockTextureContext) (w : List (List ℕ)) (ar : Around) (rows : List (List ℤ)) where
   -- block i, with the record of the blocks before it

@@ -4,13 +4,10 @@
 // The picture is a value that is handed back, its neighbour store is lent: 192 numbers for each macroblock
 // of width. A picture and a store that no opening made are answered too. No public function has a `requires`.
 mod call;
-mod picture;
 mod reconstruct;
-mod ring;
-mod state;
 
 pub use call::PictureDecoded;
 pub use call::decode_macroblock;
-pub use picture::MacroblockContext;
-pub use picture::Picture;
-pub use picture::PictureOpened;
+pub use picture_state::MacroblockContext;
+pub use picture_state::Picture;
+pub use picture_state::PictureOpened;

@@ -14,7 +14,7 @@ use Rattle.forms.specs.Reading.{dataAfter, dataOf, lineOf, parsed, roomForData}
 use Rattle.forms.specs.declared.kind.Kind.{Kind}
 use Rattle.forms.specs.declared.line.Line.the-variants.{Macroblock, Malformed, Picture, TooShort}
 use Rattle.picture.specs.Call.{Input, answerOut, samplesOut, storeOut}
-use Rattle.picture.specs.declared.picture.Picture.{Picture as APicture}
+use Rattle.picture_state.specs.declared.picture.Picture.{Picture as APicture}
 use Rattle.still_lines.specs.Still.{inputOf, samplesAfter, samplesBy, stillAfter, stillBy, stillDecoded, storeAfter, storeBy, textAfter, textBy, textDecoded}
 use Rattle.still_lines.specs.declared.still.Still.{Still}
 

@@ -1,7 +1,7 @@
 -- What one step tells and leaves, by what was fed and by the room that is lent. Assumes nothing.
 use mathlib.Core.Bool.{Bool, cond, false, true}
 use mathlib.Core.List.{List}
-use mathlib.Core.Path.{_≡_, ap, refl, subst, subst⁻¹}
+use mathlib.Core.Path.{_≡_, ap, refl, subst, subst⁻¹, sym, _∙_}
 use Prim.Native.Nat.{ℕ, _≤_}
 use native.Mathlib.Omega.{arith}
 use lib.IntN.{ℤ}
@@ -9,10 +9,11 @@ use lib.ListN.{drop, length, length-append}
 use Rattle.forms.specs.Forms.{longest}
 use Rattle.still_lines.proofs.LineLaws.{fed-inside, line-long, rest-inside}
 use Rattle.lines.specs.Fed.{fedOf, restOf}
-use Rattle.still_lines.specs.Steps.{Inside, Left, Memory, countFed, dataFed, fedTo, left, lineAfter, roomy, saidInto, samplesFed, stillFed, storeFed, textFed, went, withRoom}
+use Rattle.still_lines.specs.Steps.{Inside, Left, Memory, countFed, dataFed, fedTo, finishBy, left, lent, lineAfter, roomy, saidInto, samplesFed, stepBy, stillFed, storeFed, textEnded, textFed, went, withRoom}
 use Rattle.lines.specs.declared.fed.Fed.{Fed}
 use Rattle.lines.specs.declared.fed.Fed.the-variants.{Ended, Kept, Skipped}
 use Rattle.still_lines.specs.declared.steps.Reading.{Reading}
+use Rattle.still_lines.specs.declared.steps.Stepped.{Stepped}
 use Rattle.still_lines.specs.declared.steps.Stepped.the-variants.{TooShort, Went}
 use Rattle.still_lines.specs.declared.still.Still.{Still}
 
@@ -54,7 +55,7 @@ module _ (s : Still) (samples store : List ℤ) (old out : List ℕ) where
 
 -- ---- what is said lies within the lent bytes
 
-pub said-fits : (x y : Memory) (s : Still) (f : Fed) (m : ℕ) (text : List ℕ) {r : Reading} {n : ℕ} {new : Memory}
+said-fits : (x y : Memory) (s : Still) (f : Fed) (m : ℕ) (text : List ℕ) {r : Reading} {n : ℕ} {new : Memory}
     → left (Went r n) new ≡ withRoom x (fedTo s y f m text) → n ≤ length (new .out)
 said-fits x y s f m text {r} {n} {new} = by (roomy (x .line) (x .bytes) (x .out))
   where
@@ -64,3 +65,16 @@ said-fits x y s f m text {r} {n} {new} = by (roomy (x .line) (x .bytes) (x .out)
         let k : n ≡ length text = cc in
         omega (arith, ap (λ (l : Left). length (l .memory .out)) e, length-append text (drop (length text) (y .out)))
     by false e = absurd (let g : Went r n ≡ TooShort = ap (λ (l : Left). l .answer) e in let z : _≡_ {A = ℕ} 0 1 = cc in omega arith)
+
+pub step-fits : (r : Reading) (b : ℕ) (x : Memory) {s : Stepped} {q : Reading} {n : ℕ} {new : Memory} → s ≡ Went q n → left s new ≡ stepBy r b x → n ≤ length (new .out)
+unfolding stepBy
+step-fits r b x {new = new} g e =
+    let y = lent (lineAfter (x .line) (r .n) b) (x .bytes) (x .samples) (x .store) (x .out) in
+    let f = fedOf (r .n) b in
+    said-fits x y (r .still) f (countFed f) (textFed (r .still) (y .line) (y .samples) (y .store) f) (ap (λ (a : Stepped). left a new) (sym g) ∙ e)
+
+pub finish-fits : (r : Reading) (x : Memory) {s : Stepped} {q : Reading} {n : ℕ} {new : Memory} → s ≡ Went q n → left s new ≡ finishBy r x → n ≤ length (new .out)
+unfolding finishBy
+finish-fits r x {new = new} g e =
+    let f = restOf (r .n) in
+    said-fits x x (r .still) f 0 (textEnded (r .still) (x .line) (x .samples) (x .store) f) (ap (λ (a : Stepped). left a new) (sym g) ∙ e)

@@ -7,15 +7,15 @@ use lib.IntN.{ℤ}
 use lib.ListN.{length}
 use Rattle.bits.specs.declared.cursor.Cursor.{Cursor}
 use Rattle.samples.proofs.LayoutLaws.{samples-long}
-use Rattle.texture.specs.Macroblock.{Parts}
-use Rattle.texture.specs.Reader.{Res, no, ok}
-use Rattle.block.specs.declared.error.Checked.{Checked}
-use Rattle.block.specs.declared.error.Checked.the-variants.{Bad, Fine}
+use Rattle.sentences.specs.Macroblock.{Parts}
+use Rattle.fields.specs.Reader.{Res, no, ok}
+use Rattle.assembly.specs.declared.error.Checked.{Checked}
+use Rattle.assembly.specs.declared.error.Checked.the-variants.{Bad, Fine}
 use Rattle.macroblock.specs.Answer.{keptBy}
-use Rattle.picture.proofs.StateLaws.{state-first}
+use Rattle.picture_state.proofs.StateLaws.{state-first}
 use Rattle.picture.specs.Call.{Input, answerBy, answerOut, answerTold, aroundHere, contextHere, samplesOut, samplesTold, sentenceHere, stateHere}
 use Rattle.picture.specs.declared.call.PictureDecoded.the-variants.{Decoded}
-use Rattle.picture.specs.declared.picture.Picture.{Picture}
+use Rattle.picture_state.specs.declared.picture.Picture.{Picture}
 
 -- a macroblock that is decoded has 384 samples
 pub decoded-roomy : (p : Picture) (x : Input) (store : List ℤ) {n : ℕ} {c : Cursor} {q : Picture} → answerOut p x store ≡ Decoded n c q → 384 ≤ length (x .samples)

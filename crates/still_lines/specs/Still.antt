@@ -4,9 +4,9 @@ use mathlib.Core.List.{List, []}
 use Prim.Native.Nat.{ℕ, _%_, _/_}
 use lib.Dec.{eqb}
 use lib.IntN.{ℤ}
-use Rattle.idct.specs.declared.rounding.HalfIntegerRounding.the-variants.{AwayFromZero}
-use Rattle.block.specs.Answer.{numberOf}
-use Rattle.block.specs.Matrix.{defaultIntra}
+use Rattle.rounding.specs.declared.HalfIntegerRounding.the-variants.{AwayFromZero}
+use Rattle.assembly.specs.Answer.{numberOf}
+use Rattle.assembly.specs.Matrix.{defaultIntra}
 use Rattle.forms.specs.Forms.{Form, formOf, malformed, mb, picture}
 use Rattle.forms.specs.declared.kind.Kind.{Kind}
 use Rattle.forms.specs.declared.kind.Kind.the-variants.{Inter, Inter4V, InterQ, Intra, IntraQ, Missing, Skipped}
@@ -14,13 +14,13 @@ use Rattle.macroblock.specs.declared.header.DerivedMbType.{DerivedMbType}
 use Rattle.macroblock.specs.declared.header.DerivedMbType.the-variants.{Inter as TypeInter, Inter4V as TypeInter4V, InterQ as TypeInterQ, Intra as TypeIntra, IntraQ as TypeIntraQ, Missing as NoType}
 use Rattle.macroblock.specs.declared.header.MacroblockHeader.{MacroblockHeader}
 use Rattle.picture.specs.Call.{Input, answerOut, given, samplesOut, storeOut}
-use Rattle.picture.specs.Picture.{openOf, pictureOf}
+use Rattle.picture_state.specs.Picture.{openOf, pictureOf}
 use Rattle.picture.specs.declared.call.PictureDecoded.{PictureDecoded}
 use Rattle.picture.specs.declared.call.PictureDecoded.the-variants.{Decoded, Refused}
-use Rattle.picture.specs.declared.picture.MacroblockContext.{MacroblockContext}
-use Rattle.picture.specs.declared.picture.Picture.{Picture}
-use Rattle.picture.specs.declared.picture.PictureOpened.{PictureOpened}
-use Rattle.picture.specs.declared.picture.PictureOpened.the-variants.{Opened, Refused as Unopened}
+use Rattle.picture_state.specs.declared.picture.MacroblockContext.{MacroblockContext}
+use Rattle.picture_state.specs.declared.picture.Picture.{Picture}
+use Rattle.picture_state.specs.declared.picture.PictureOpened.{PictureOpened}
+use Rattle.picture_state.specs.declared.picture.PictureOpened.the-variants.{Opened, Refused as Unopened}
 use Rattle.samples.specs.Samples.{macroblockSamples}
 use Rattle.still_lines.specs.Spans.{part, spanOf}
 use Rattle.still_lines.specs.Text.{endText, mbRefusedText, mbText, pictureRefusedText, pictureText}

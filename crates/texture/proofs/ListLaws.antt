@@ -9,41 +9,16 @@ use native.Mathlib.Omega.{arith}
 use lib.Dec.{eqb, ltb}
 use lib.ListN.{length, length-append}
 use borrow.Author.Tests.{eq-eqb, eqb-true, lt-ltb, ltb-false, ltb-true}
-use Rattle.bits.proofs.BitLaws.{length-bin}
-use Rattle.bits.specs.Bits.{Bits, bin}
+use Rattle.bits.specs.Bits.{Bits}
 use Rattle.codes.specs.declared.tcoef_tables.TcoefTable.{TcoefTable}
-use Rattle.texture.proofs.EventLaws.{plain-reads}
-use Rattle.texture.proofs.ReadLaws.{bind-by, bind-ok, cond-ok, no-ok}
-use Rattle.texture.proofs.RvlcLaws.{rvlc-reads}
-use Rattle.texture.specs.ComposeReader.{Reads}
-use Rattle.texture.specs.Event.{Event, plain, type1, type2, type3, rvlc, rvlcEscape, _▸_, vlcBits, rvlcBits, eventBits, GoodEvent, lastOf, runOf}
-use Rattle.texture.specs.EventReader.{event}
+use Rattle.events.proofs.EitherLaws.{event-complete, event-long, event-sound}
+use Rattle.events.specs.Event.{Event, _▸_, eventBits, GoodEvent, lastOf, runOf}
+use Rattle.events.specs.EventReader.{event}
+use Rattle.fields.proofs.ReadLaws.{bind-by, bind-ok, cond-ok, no-ok}
+use Rattle.fields.specs.Reader.{ok, no, bind}
+use Rattle.fields.specs.declared.error.TextureParseError.the-variants.{Overflow}
 use Rattle.texture.specs.Events.{Events, final, more, eventsBits, GoodEvents, Lands, GoodList}
 use Rattle.texture.specs.EventsReader.{eventsIn, bad, list}
-use Rattle.texture.specs.Reader.{ok, no, bind}
-use Rattle.texture.specs.declared.error.TextureParseError.the-variants.{Overflow}
-
--- either coding
-pub event-reads : (rev : Bool) → Reads (event rev) eventBits (GoodEvent rev)
-unfolding event
-event-reads false = plain-reads
-event-reads true = rvlc-reads
-
-pub event-sound : (rev : Bool) (b : Bits) {e : Event} {r : Bits} → event rev b ≡ ok e r → GoodEvent rev e × (b ≡ eventBits e ▸ r)
-event-sound rev b {e} {r} q = event-reads rev .sound b e r q
-
-pub event-complete : (rev : Bool) (e : Event) (r : Bits) → GoodEvent rev e → event rev (eventBits e ▸ r) ≡ ok e r
-event-complete rev e r g = event-reads rev .complete e r g
-
--- an event has a bit
-pub event-long : (e : Event) → 0 < length (eventBits e)
-unfolding eventBits
-event-long (plain i s) = rw (length-append (vlcBits i) (bin 1 s), length-bin 1 s) (omega arith)
-event-long (type1 i s) = simp (length-append, length-bin) (omega arith)
-event-long (type2 i s) = simp (length-append, length-bin) (omega arith)
-event-long (type3 l n v) = simp (length-append, length-bin) (omega arith)
-event-long (rvlc i s) = rw (length-append (rvlcBits i) (bin 1 s), length-bin 1 s) (omega arith)
-event-long (rvlcEscape l n m s) = simp (length-append, length-bin) (omega arith)
 
 module _ (rev : Bool) (m : TcoefTable) where
   -- ---- landings
@@ -143,6 +118,3 @@ module _ (rev : Bool) (m : TcoefTable) where
           let e₂ : s ≡ r = cc in
           subst₂ (λ (x : Events) (y : Bits). GoodList rev m place x × (b ≡ eventsBits x ▸ y)) e₁ e₂
           ((h .0, bad-lands place fs (eqb-true (bad m place fs) 0 t)), h .1)
-
-  pub list-reads : (place : ℕ) → Reads (list rev m place) eventsBits (GoodList rev m place)
-  list-reads place = record { sound = λ b es r q. list-sound place b q; complete = list-complete place }

@@ -8,35 +8,39 @@ use native.Mathlib.Omega.{arith}
 use lib.Dec.{ltb, eqb, leb}
 use lib.IntN.{pos, ℤ, _-ℤ_, natAbs, negℤ}
 use lib.ListN.{length, set, length-append, length-set}
-use borrow.Author.Tests.{eqb-true, le-ltb, lt-ltb, ltb-false, ne-eqb, leb-false, leb-true, ltb-true}
+use borrow.Author.Tests.{eqb-true, lt-ltb, ltb-false, ne-eqb, leb-false, leb-true, ltb-true}
 use Rattle.bits.proofs.BitLaws.{length-bitsFrom}
 use Rattle.bits.specs.Bits.{Bits, bitsFrom}
-use Rattle.bits.specs.Cursor.{inData}
+use Rattle.bits.specs.Cursor.{cursorAt, inData}
 use Rattle.bits.specs.declared.cursor.Cursor.{Cursor}
 use Rattle.codes.specs.Rvlc.{rvlcCodes, rvlcLens}
 use Rattle.codes.specs.Tcoef.{vlcCodes, vlcLens, lmaxBy, tcoefOf}
 use Rattle.codes.specs.declared.tcoef_tables.TcoefTable.{TcoefTable}
+use Rattle.events.proofs.ChainLaws.{event-says}
+use Rattle.events.proofs.EitherLaws.{event-long, event-sound}
+use Rattle.events.proofs.RowLaws.{level-at, lmax-at, rmax-at, run-at, rvlc-level-at, rvlc-run-at, rvlc-small, tcoef-small}
+use Rattle.events.specs.Answer.{eventAnswer}
+use Rattle.events.specs.Event.{Event, eventBits, lastOf, runOf, levelOf, valueOf, GoodEvent, plain, rvlc, rvlcEscape, signed12, signedBy, type1, type2, type3, rvlcRowOf, tcoefRow}
+use Rattle.events.specs.EventReader.{event, plainEvent, rvlcEvent, escaped, rvlcEscaped, sign}
+use Rattle.events.specs.Inside.{InsideEvent, saidEvent}
+use Rattle.events.specs.declared.event.AcEvent.{AcEvent}
+use Rattle.events.specs.declared.event.EventRead.{EventRead}
+use Rattle.events.specs.declared.event.EventRead.the-variants.{Event as EventIs, Refused as EventRefused}
+use Rattle.events.specs.declared.event.Spelling.the-variants.{Plain, Reversible}
+use Rattle.fields.proofs.ChainLaws.{place-is}
+use Rattle.fields.proofs.ReadLaws.{no-ok}
+use Rattle.fields.proofs.StepLaws.{code-empty}
+use Rattle.fields.specs.Reader.{Res, ok, no, bind, mapped}
+use Rattle.fields.specs.declared.error.TextureParseError.{TextureParseError}
+use Rattle.fields.specs.declared.error.TextureParseError.the-variants.{OutOfRange, Truncated, InvalidTcoef, Overflow}
 use Rattle.numbers.proofs.Integers.{diff-is, halves}
 use Rattle.numbers.proofs.Magnitudes.{abs-neg}
-use Rattle.texture.proofs.ChainLaws.{place-is}
-use Rattle.texture.proofs.ListLaws.{bad-lands, event-long, event-sound}
-use Rattle.texture.proofs.ReadLaws.{no-ok}
-use Rattle.texture.proofs.RowLaws.{level-at, lmax-at, rmax-at, run-at, rvlc-level-at, rvlc-run-at, rvlc-small, tcoef-small}
-use Rattle.texture.proofs.StepLaws.{code-empty}
+use Rattle.texture.proofs.ListLaws.{bad-lands}
 use Rattle.texture.specs.Answer.{listTold, placesTold, listAnswer, placesAfter}
-use Rattle.texture.specs.Inside.{State, putOf, InsideEvent, SaysEvent, closed, listedOf, refusedBy, saidEvent, keptOf, listedBy}
-use Rattle.texture.specs.Event.{Event, eventBits, lastOf, runOf, levelOf, valueOf, GoodEvent, plain, rvlc, rvlcEscape, signed12, signedBy, type1, type2, type3, rvlcRowOf, tcoefRow}
-use Rattle.texture.specs.EventReader.{event, plainEvent, rvlcEvent, escaped, rvlcEscaped, sign}
 use Rattle.texture.specs.Events.{Events, final, more, Lands, firstPlace}
 use Rattle.texture.specs.EventsReader.{eventsIn, bad, list}
+use Rattle.texture.specs.Inside.{State, putOf, closed, listedOf, refusedBy, keptOf, listedBy}
 use Rattle.texture.specs.Places.{zeros, placed, placesOf}
-use Rattle.texture.specs.Reader.{Res, ok, no, bind, mapped}
-use Rattle.texture.specs.declared.error.TextureParseError.{TextureParseError}
-use Rattle.texture.specs.declared.error.TextureParseError.the-variants.{OutOfRange, Truncated, InvalidTcoef, Overflow}
-use Rattle.texture.specs.declared.event.AcEvent.{AcEvent}
-use Rattle.texture.specs.declared.event.EventRead.{EventRead}
-use Rattle.texture.specs.declared.event.EventRead.the-variants.{Event as EventIs}
-use Rattle.texture.specs.declared.event.Spelling.the-variants.{Plain, Reversible}
 use Rattle.texture.specs.declared.list.EventsRead.the-variants.{Refused as EventsRefused, Read as EventsAre}
 use Rattle.texture.specs.declared.list.ListRead.{ListRead}
 use Rattle.codes.specs.Tcoef as R
@@ -79,12 +83,12 @@ event-none false b h = ap (λ (x : Res ℕ). bind x (λ i r. cond (eqb i 102) (e
 event-none true b h = ap (λ (x : Res ℕ). bind x (λ i r. cond (eqb i 169) (rvlcEscaped r) (sign Reversible i r))) (code-empty rvlcCodes rvlcLens 16 170 InvalidTcoef b h)
 
 -- a step of the event's value is a step of the event
-pub record Behind (m : TcoefTable) (x : Res Event) (v : AcEvent) (r : Bits) : Type 0 where
+record Behind (m : TcoefTable) (x : Res Event) (v : AcEvent) (r : Bits) : Type 0 where
   pub event : Event
   pub read : x ≡ ok event r
   pub value : valueOf m event ≡ v
 
-pub behind : (m : TcoefTable) (x : Res Event) {v : AcEvent} {r : Bits} → mapped (valueOf m) x ≡ ok v r → Behind m x v r
+behind : (m : TcoefTable) (x : Res Event) {v : AcEvent} {r : Bits} → mapped (valueOf m) x ≡ ok v r → Behind m x v r
 unfolding valueIn bitsIn
 behind m (ok e s) {v} {r} q =
     let e₁ : valueOf m e ≡ v = ap (valueIn v) q in
@@ -92,7 +96,7 @@ behind m (ok e s) {v} {r} q =
     record { event = e; read = ap (λ (k : Bits). ok e k) e₂; value = e₁ }
 behind m (no n) q = absurd (no-ok q)
 
-pub behind-no : (m : TcoefTable) (x : Res Event) {n : TextureParseError} → mapped (valueOf m) x ≡ no n → x ≡ no n
+behind-no : (m : TcoefTable) (x : Res Event) {n : TextureParseError} → mapped (valueOf m) x ≡ no n → x ≡ no n
 behind-no m (ok e s) {n} q = absurd (let z : _≡_ {A = ℕ} 0 1 = cc in omega arith)
 behind-no m (no a) {n} q = let e₁ : a ≡ n = cc in ap no e₁
 
@@ -161,9 +165,6 @@ module _ (rev : Bool) (m : TcoefTable) where
 
   put-good : (place x : ℕ) (c : ℤ) (xs : List ℤ) → place + x < 64 → putOf (st place 0 xs) x c ≡ st (place + x + 1) 0 (set xs (place + x) c)
   put-good place x c xs h = rw (lt-ltb (place + x) 64 h)
-
-  put-bad : (place x : ℕ) (c : ℤ) (xs : List ℤ) → 64 ≤ place + x → putOf (st place 0 xs) x c ≡ st place (place + x) xs
-  put-bad place x c xs h = rw (le-ltb (place + x) 64 h)
 
   pub folded-bad : (place : ℕ) (xs : List ℤ) (es : Events) → folded m (st place 0 xs) es .bad ≡ bad m place es
   unfolding folded bad
@@ -282,19 +283,24 @@ pub record Turn (d : List ℕ) (rev : Bool) (m : TcoefTable) (at : ℕ) (v : AcE
   pub inside : next .«bit_pos» ≤ 8 * length d
   pub less : 8 * length d - next .«bit_pos» < 8 * length d - at
 
-pub turn : (d : List ℕ) (rev : Bool) (m : TcoefTable) (at : ℕ) (x : EventRead) {v : AcEvent} {next : Cursor} → SaysEvent d x (mapped (valueOf m) (event rev (bitsFrom d at))) → x ≡ EventIs v next
-    → Turn d rev m at v next
-turn d rev m at x {v} {next} h q =
-    let b = behind m (event rev (bitsFrom d at)) (sym (h .is) ∙ ap (saidEvent d) q) in
-    let good = event-sound rev (bitsFrom d at) (b .read) .0 in
-    record {
-      e = b .event;
-      read = b .read;
-      is = b .value;
-      bounds = subst (λ (w : AcEvent). Small (w .run) (w .level)) (b .value) (small rev m (b .event) good);
-      inside = subst (InsideEvent d) q (h .inside);
-      less = subst₂ (λ (i j : ℕ). i < j) (length-bitsFrom d (next .«bit_pos»)) (length-bitsFrom d at) (event-less rev (bitsFrom d at) (b .event) (bitsFrom d (next .«bit_pos»)) (b .read));
-    }
+module _ (d : List ℕ) (rev : Bool) (m : TcoefTable) (at : ℕ) (l : at ≤ 8 * length d) (k : length d ≤ 1048576) (x : EventRead) (h : x ≡ eventAnswer d at rev m) where
+  -- the event was refused, and so is the list
+  pub turn-no : {e : TextureParseError} → x ≡ EventRefused e → event rev (bitsFrom d at) ≡ no e
+  turn-no q = let s = event-says d (cursorAt at) (l, k) x rev m h in behind-no m (event rev (bitsFrom d at)) (sym (s .is) ∙ ap (saidEvent d) q)
+
+  pub turn : {v : AcEvent} {next : Cursor} → x ≡ EventIs v next → Turn d rev m at v next
+  turn {v} {next} q =
+      let s = event-says d (cursorAt at) (l, k) x rev m h in
+      let b = behind m (event rev (bitsFrom d at)) (sym (s .is) ∙ ap (saidEvent d) q) in
+      let good = event-sound rev (bitsFrom d at) (b .read) .0 in
+      record {
+        e = b .event;
+        read = b .read;
+        is = b .value;
+        bounds = subst (λ (w : AcEvent). Small (w .run) (w .level)) (b .value) (small rev m (b .event) good);
+        inside = subst (InsideEvent d) q (s .inside);
+        less = subst₂ (λ (i j : ℕ). i < j) (length-bitsFrom d (next .«bit_pos»)) (length-bitsFrom d at) (event-less rev (bitsFrom d at) (b .event) (bitsFrom d (next .«bit_pos»)) (b .read));
+      }
 
 pub ended-is : (d : List ℕ) (s : State) (next : Cursor) → next .«bit_pos» ≤ 8 * length d → closed s next ≡ listedOf d (ended s (bitsFrom d (next .«bit_pos»)))
 ended-is d s next h = go (eqb (s .bad) 0)

@@ -4,7 +4,7 @@ use mathlib.Core.Bool.{Bool, true, false, cond}
 use Prim.Native.Nat.{ℕ, _+_, _<_}
 use Rattle.bits.specs.Bits.{Bits}
 use Rattle.codes.specs.declared.tcoef_tables.TcoefTable.{TcoefTable}
-use Rattle.texture.specs.Event.{Event, _▸_, eventBits, GoodEvent, lastOf, runOf}
+use Rattle.events.specs.Event.{Event, _▸_, eventBits, GoodEvent, lastOf, runOf}
 
 pub data Events : Type 0 where
   final : Event → Events

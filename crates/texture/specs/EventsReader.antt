@@ -5,11 +5,11 @@ use lib.Dec.{ltb, eqb}
 use lib.ListN.{length}
 use Rattle.bits.specs.Bits.{Bits}
 use Rattle.codes.specs.declared.tcoef_tables.TcoefTable.{TcoefTable}
-use Rattle.texture.specs.declared.error.TextureParseError.the-variants.{Truncated, Overflow}
-use Rattle.texture.specs.Event.{lastOf, runOf}
-use Rattle.texture.specs.EventReader.{event}
+use Rattle.events.specs.Event.{lastOf, runOf}
+use Rattle.events.specs.EventReader.{event}
+use Rattle.fields.specs.Reader.{Res, ok, no, bind}
+use Rattle.fields.specs.declared.error.TextureParseError.the-variants.{Truncated, Overflow}
 use Rattle.texture.specs.Events.{Events, final, more}
-use Rattle.texture.specs.Reader.{Res, ok, no, bind}
 
 -- the events through the one with last; the fuel is the number of bits, of which each event takes one at least
 unfoldable pub eventsIn : Bool → TcoefTable → ℕ → Bits → Res Events

@@ -4,7 +4,7 @@ use Prim.Native.Nat.{ℕ, _+_}
 use lib.ListN.{set, replicate}
 use lib.IntN.{ℤ, pos}
 use Rattle.codes.specs.declared.tcoef_tables.TcoefTable.{TcoefTable}
-use Rattle.texture.specs.Event.{runOf, levelOf}
+use Rattle.events.specs.Event.{runOf, levelOf}
 use Rattle.texture.specs.Events.{Events, final, more}
 
 abbrev pub zeros : List ℤ

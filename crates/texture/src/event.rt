@@ -1,38 +1,22 @@
-// One plain event: a code and its sign, or an escape of type 1, 2 or 3 (7.4.1.3).
+// One event: a code and its sign, or an escape (7.4.1.3), by lent tables.
 ghost use mathlib.Core.Path.{_≡_};
-ghost use Prim.Native.Nat.{_<_};
+ghost use mathlib.Core.Bool.{false, true};
 ghost use Rattle.bits.specs.Bits.{bitsFrom};
-ghost use Rattle.codes.specs.Tcoef.{eventColumns, tcoefOf, vlcCodes, vlcLens};
-ghost use Rattle.texture.specs.Reader.{mapped};
-ghost use Rattle.texture.specs.Event.{valueOf};
-ghost use Rattle.texture.specs.EventReader.{escaped, fixed, level, longer, plainEvent, runAndLevel, signed};
-ghost use Rattle.texture.specs.Inside.{Readable, RowSpelling, SaysEvent, settled};
-use crate::error::TextureParseError;
-use crate::field::CodeKind;
-use crate::field::Got;
+ghost use Rattle.events.specs.Answer.{eventAnswer};
+ghost use Rattle.events.specs.Event.{valueOf};
+ghost use Rattle.events.specs.EventReader.{escaped, longer, signed};
+ghost use Rattle.events.specs.Inside.{SaysEvent};
+ghost use Rattle.events.specs.Outcomes.{eventDue, eventOutcome};
+ghost use Rattle.events.specs.Rows.{RowSpelling};
+ghost use Rattle.fields.specs.Inside.{Readable};
+ghost use Rattle.fields.specs.Reader.{mapped};
+ghost use Rattle.texture.specs.Inside.{TablesOf};
 use bits::Cursor;
 use codes::TcoefTable;
-
-// Last, run and signed level.
-pub struct AcEvent {
-    pub last: bool,
-    pub run: u32,
-    pub level: i32,
-}
-
-// An event and the cursor after it, or a refusal.
-pub enum EventRead {
-    Event(AcEvent, Cursor),
-    Refused(TextureParseError),
-}
-
-// How a row and its sign stand for an event.
-pub enum Spelling {
-    Plain,
-    Type1,
-    Type2,
-    Reversible,
-}
+use events::EventRead;
+use events::Spelling;
+use fields::CodeKind;
+use fields::Got;
 
 // A code and its sign, with no escape among the codes.
 fn read_signed(
@@ -44,87 +28,13 @@ fn read_signed(
     events: &[u8],
     spelling: Spelling,
 ) -> EventRead
-    requires { ⌜ Readable (now «data») c × (now codes ≡ vlcCodes) × (now lens ≡ vlcLens) × (now events ≡ eventColumns (tcoefOf table)) × RowSpelling spelling ⌝ }
+    requires { ⌜ Readable (now «data») c × TablesOf false table (now codes) (now lens) (now events) × RowSpelling spelling ⌝ }
     ensures { λ r. ⌜ SaysEvent (now («data» .entry)) r (mapped (valueOf table) (signed spelling (bitsFrom (now («data» .entry)) (c .«bit_pos»)))) ⌝ }
 {
-    let g = crate::field::read_code(data, c, codes, lens, 13, 102, CodeKind::Tcoef);
+    let g = fields::read_code(data, c, codes, lens, 13, 102, CodeKind::Tcoef);
     match g {
         Got::Refused(e) => EventRead::Refused(e),
-        Got::Number(row, next) => {
-            crate::row::read_sign(data, next, table, events, row as usize, spelling)
-        }
-    }
-}
-
-// The event of a type 3 escape, or 6.
-fn settle(last: u32, run: u32, v: u32, next: Cursor) -> EventRead
-    requires { ⌜ v < 4096 ⌝ }
-    ensures { λ r. ⌜ r ≡ settled last run v next ⌝ }
-{
-    if v == 0 {
-        return EventRead::Refused(TextureParseError::ReservedEscapeLevel);
-    }
-    if v == 2048 {
-        return EventRead::Refused(TextureParseError::ReservedEscapeLevel);
-    }
-    let level = crate::row::sign_extend12(v);
-    EventRead::Event(
-        AcEvent {
-            last: last == 1,
-            run,
-            level,
-        },
-        next,
-    )
-}
-
-// A type 3 level and its second marker.
-fn read_level(data: &[u8], c: Cursor, table: TcoefTable, last: u32, run: u32) -> EventRead
-    requires { ⌜ Readable (now «data») c ⌝ }
-    ensures { λ r. ⌜ SaysEvent (now («data» .entry)) r (mapped (valueOf table) (level last run (bitsFrom (now («data» .entry)) (c .«bit_pos»)))) ⌝ }
-{
-    let g = crate::field::read_field(data, c, 12);
-    match g {
-        Got::Refused(e) => EventRead::Refused(e),
-        Got::Number(v, next) => {
-            let missing = TextureParseError::EscapeMarkerBitMissing;
-            let h = crate::field::read_marker(data, next, missing);
-            match h {
-                Got::Refused(e) => EventRead::Refused(e),
-                Got::Number(_, after) => settle(last, run, v, after),
-            }
-        }
-    }
-}
-
-// The run of a type 3 escape, its first marker and the rest.
-fn read_run(data: &[u8], c: Cursor, table: TcoefTable, last: u32) -> EventRead
-    requires { ⌜ Readable (now «data») c ⌝ }
-    ensures { λ r. ⌜ SaysEvent (now («data» .entry)) r (mapped (valueOf table) (runAndLevel last (bitsFrom (now («data» .entry)) (c .«bit_pos»)))) ⌝ }
-{
-    let g = crate::field::read_field(data, c, 6);
-    match g {
-        Got::Refused(e) => EventRead::Refused(e),
-        Got::Number(run, next) => {
-            let missing = TextureParseError::EscapeMarkerBitMissing;
-            let h = crate::field::read_marker(data, next, missing);
-            match h {
-                Got::Refused(e) => EventRead::Refused(e),
-                Got::Number(_, after) => read_level(data, after, table, last, run),
-            }
-        }
-    }
-}
-
-// A type 3 escape, after its mode.
-fn read_fixed(data: &[u8], c: Cursor, table: TcoefTable) -> EventRead
-    requires { ⌜ Readable (now «data») c ⌝ }
-    ensures { λ r. ⌜ SaysEvent (now («data» .entry)) r (mapped (valueOf table) (fixed (bitsFrom (now («data» .entry)) (c .«bit_pos»)))) ⌝ }
-{
-    let g = crate::field::read_field(data, c, 1);
-    match g {
-        Got::Refused(e) => EventRead::Refused(e),
-        Got::Number(last, next) => read_run(data, next, table, last),
+        Got::Number(row, next) => events::read_sign(data, next, events, row, spelling),
     }
 }
 
@@ -137,17 +47,17 @@ fn read_longer(
     lens: &[u32],
     events: &[u8],
 ) -> EventRead
-    requires { ⌜ Readable (now «data») c × (now codes ≡ vlcCodes) × (now lens ≡ vlcLens) × (now events ≡ eventColumns (tcoefOf table)) ⌝ }
+    requires { ⌜ Readable (now «data») c × TablesOf false table (now codes) (now lens) (now events) ⌝ }
     ensures { λ r. ⌜ SaysEvent (now («data» .entry)) r (mapped (valueOf table) (longer (bitsFrom (now («data» .entry)) (c .«bit_pos»)))) ⌝ }
 {
-    let g = crate::field::read_field(data, c, 1);
+    let g = fields::read_field(data, c, 1);
     match g {
         Got::Refused(e) => EventRead::Refused(e),
         Got::Number(a, next) => {
             if a == 0 {
                 return read_signed(data, next, table, codes, lens, events, Spelling::Type2);
             }
-            read_fixed(data, next, table)
+            events::read_fixed(data, next, table)
         }
     }
 }
@@ -161,10 +71,10 @@ fn read_escape(
     lens: &[u32],
     events: &[u8],
 ) -> EventRead
-    requires { ⌜ Readable (now «data») c × (now codes ≡ vlcCodes) × (now lens ≡ vlcLens) × (now events ≡ eventColumns (tcoefOf table)) ⌝ }
+    requires { ⌜ Readable (now «data») c × TablesOf false table (now codes) (now lens) (now events) ⌝ }
     ensures { λ r. ⌜ SaysEvent (now («data» .entry)) r (mapped (valueOf table) (escaped (bitsFrom (now («data» .entry)) (c .«bit_pos»)))) ⌝ }
 {
-    let g = crate::field::read_field(data, c, 1);
+    let g = fields::read_field(data, c, 1);
     match g {
         Got::Refused(e) => EventRead::Refused(e),
         Got::Number(a, next) => {
@@ -185,17 +95,63 @@ pub(crate) fn read_plain(
     lens: &[u32],
     events: &[u8],
 ) -> EventRead
-    requires { ⌜ Readable (now «data») c × (now codes ≡ vlcCodes) × (now lens ≡ vlcLens) × (now events ≡ eventColumns (tcoefOf table)) ⌝ }
-    ensures { λ r. ⌜ SaysEvent (now («data» .entry)) r (mapped (valueOf table) (plainEvent (bitsFrom (now («data» .entry)) (c .«bit_pos»)))) ⌝ }
+    requires { ⌜ TablesOf false table (now codes) (now lens) (now events) ⌝ }
+    ensures { λ r. ⌜ r ≡ eventAnswer (now («data» .entry)) (c .«bit_pos») false table ⌝ }
 {
-    let g = crate::field::read_code(data, c, codes, lens, 13, 103, CodeKind::Tcoef);
+    let g = fields::read_code(data, c, codes, lens, 13, 103, CodeKind::Tcoef);
     match g {
         Got::Refused(e) => EventRead::Refused(e),
         Got::Number(row, next) => {
             if row == 102 {
                 return read_escape(data, next, table, codes, lens, events);
             }
-            crate::row::read_sign(data, next, table, events, row as usize, Spelling::Plain)
+            events::read_sign(data, next, events, row, Spelling::Plain)
         }
     }
+}
+
+// One reversible event (Table B.23).
+pub(crate) fn read_rvlc(
+    data: &[u8],
+    c: Cursor,
+    table: TcoefTable,
+    codes: &[u32],
+    lens: &[u32],
+    events: &[u8],
+) -> EventRead
+    requires { ⌜ TablesOf true table (now codes) (now lens) (now events) ⌝ }
+    ensures { λ r. ⌜ r ≡ eventAnswer (now («data» .entry)) (c .«bit_pos») true table ⌝ }
+{
+    let g = fields::read_code(data, c, codes, lens, 16, 170, CodeKind::Tcoef);
+    match g {
+        Got::Refused(e) => EventRead::Refused(e),
+        Got::Number(row, next) => {
+            if row == 169 {
+                return events::read_rvlc_escape(data, next, table);
+            }
+            events::read_sign(data, next, events, row, Spelling::Reversible)
+        }
+    }
+}
+
+// One plain event at a cursor.
+pub fn decode_ac_event(data: &[u8], c: Cursor, table: TcoefTable) -> EventRead
+    ensures { λ r. ⌜ r ≡ eventAnswer (now («data» .entry)) (c .«bit_pos») false table ⌝ }
+    ensures outcome { λ r. ⌜ eventOutcome r ≡ eventDue (now («data» .entry)) (c .«bit_pos») false table ⌝ }
+{
+    let codes = codes::tcoef_codes();
+    let lens = codes::tcoef_lens();
+    let events = codes::tcoef_events(table);
+    read_plain(data, c, table, &codes, &lens, &events)
+}
+
+// One reversible event at a cursor.
+pub fn decode_ac_event_rvlc(data: &[u8], c: Cursor, table: TcoefTable) -> EventRead
+    ensures { λ r. ⌜ r ≡ eventAnswer (now («data» .entry)) (c .«bit_pos») true table ⌝ }
+    ensures outcome { λ r. ⌜ eventOutcome r ≡ eventDue (now («data» .entry)) (c .«bit_pos») true table ⌝ }
+{
+    let codes = codes::rvlc_codes();
+    let lens = codes::rvlc_lens();
+    let events = codes::rvlc_events(table);
+    read_rvlc(data, c, table, &codes, &lens, &events)
 }

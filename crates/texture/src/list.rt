@@ -1,21 +1,19 @@
-// Event lists into 64 places, and events one at a time.
+// Event lists into 64 places.
 ghost use mathlib.Core.Path.{_≡_};
 ghost use mathlib.Core.Bool.{false, true};
 ghost use Prim.Native.Nat.{_≤_};
 ghost use lib.ListN.{length};
 ghost use Rattle.bits.specs.Bits.{bitsFrom};
-ghost use Rattle.bits.specs.Cursor.{inData};
-ghost use Rattle.texture.specs.Reader.{mapped};
-ghost use Rattle.texture.specs.Event.{valueOf};
-ghost use Rattle.texture.specs.EventReader.{event};
+ghost use Rattle.events.specs.Answer.{eventAnswer};
+ghost use Rattle.fields.specs.Inside.{Readable};
+ghost use Rattle.texture.specs.Answer.{listAnswer, placesAfter};
 ghost use Rattle.texture.specs.Events.{firstPlace};
-ghost use Rattle.texture.specs.Answer.{eventAnswer, listAnswer, placesAfter};
-ghost use Rattle.texture.specs.Outcomes.{eventDue, eventOutcome, listDue, listOutcome};
-ghost use Rattle.texture.specs.Inside.{Readable, SaysEvent, TablesOf, closed, keptOf, listedBy, putOf, refusedBy, stateOf};
-use crate::error::TextureParseError;
-use crate::event::EventRead;
+ghost use Rattle.texture.specs.Inside.{TablesOf, closed, keptOf, listedBy, putOf, refusedBy, stateOf};
+ghost use Rattle.texture.specs.Outcomes.{listDue, listOutcome};
 use bits::Cursor;
 use codes::TcoefTable;
+use events::EventRead;
+use fields::TextureParseError;
 
 // The cursor after a list, or a refusal.
 pub enum EventsRead {
@@ -35,16 +33,6 @@ pub struct Landing {
     pub bad: usize,
 }
 
-// Whether data may be read from a cursor on.
-pub(crate) fn readable(data: &[u8], c: Cursor) -> bool
-    ensures { λ r. ⌜ r ≡ inData (length (now («data» .entry))) (c .«bit_pos») ⌝ }
-{
-    if Cursor::MOST_BYTES < data.len() {
-        return false;
-    }
-    c.bit_pos <= 8 * data.len()
-}
-
 // One event of the coding in use.
 fn read_event(
     data: &[u8],
@@ -55,11 +43,11 @@ fn read_event(
     lens: &[u32],
     events: &[u8],
 ) -> EventRead
-    requires { ⌜ Readable (now «data») c × TablesOf reversible table (now codes) (now lens) (now events) ⌝ }
-    ensures { λ r. ⌜ SaysEvent (now («data» .entry)) r (mapped (valueOf table) (event reversible (bitsFrom (now («data» .entry)) (c .«bit_pos»)))) ⌝ }
+    requires { ⌜ TablesOf reversible table (now codes) (now lens) (now events) ⌝ }
+    ensures { λ r. ⌜ r ≡ eventAnswer (now («data» .entry)) (c .«bit_pos») reversible table ⌝ }
 {
     if reversible {
-        return crate::rvlc::read_rvlc(data, c, table, codes, lens, events);
+        return crate::event::read_rvlc(data, c, table, codes, lens, events);
     }
     crate::event::read_plain(data, c, table, codes, lens, events)
 }
@@ -158,34 +146,6 @@ fn first_place(dc_coded: bool) -> usize
     0
 }
 
-// One plain event at a cursor.
-pub fn decode_ac_event(data: &[u8], c: Cursor, table: TcoefTable) -> EventRead
-    ensures { λ r. ⌜ r ≡ eventAnswer (now («data» .entry)) (c .«bit_pos») false table ⌝ }
-    ensures outcome { λ r. ⌜ eventOutcome r ≡ eventDue (now («data» .entry)) (c .«bit_pos») false table ⌝ }
-{
-    if !readable(data, c) {
-        return EventRead::Refused(TextureParseError::OutOfRange);
-    }
-    let codes = codes::tcoef_codes();
-    let lens = codes::tcoef_lens();
-    let events = codes::tcoef_events(table);
-    read_event(data, c, false, table, &codes, &lens, &events)
-}
-
-// One reversible event at a cursor.
-pub fn decode_ac_event_rvlc(data: &[u8], c: Cursor, table: TcoefTable) -> EventRead
-    ensures { λ r. ⌜ r ≡ eventAnswer (now («data» .entry)) (c .«bit_pos») true table ⌝ }
-    ensures outcome { λ r. ⌜ eventOutcome r ≡ eventDue (now («data» .entry)) (c .«bit_pos») true table ⌝ }
-{
-    if !readable(data, c) {
-        return EventRead::Refused(TextureParseError::OutOfRange);
-    }
-    let codes = codes::rvlc_codes();
-    let lens = codes::rvlc_lens();
-    let events = codes::rvlc_events(table);
-    read_event(data, c, true, table, &codes, &lens, &events)
-}
-
 // The places of a list that was accepted, into lent ones.
 fn keep(one: ListRead, qfs: &mut [i32; 64]) -> EventsRead
     ensures { λ r. ⌜ (r ≡ one .answer) × (now (qfs .exit) ≡ keptOf one (now (qfs .entry))) ⌝ }
@@ -201,6 +161,29 @@ fn keep(one: ListRead, qfs: &mut [i32; 64]) -> EventsRead
     }
 }
 
+// A list of either coding at a cursor, into 64 places that start at 1 after a DC code.
+fn read_events(
+    data: &[u8],
+    c: Cursor,
+    reversible: bool,
+    table: TcoefTable,
+    codes: &[u32],
+    lens: &[u32],
+    events: &[u8],
+    dc_coded: bool,
+    qfs: &mut [i32; 64],
+) -> EventsRead
+    requires { ⌜ TablesOf reversible table (now codes) (now lens) (now events) ⌝ }
+    ensures { λ r. ⌜ (r ≡ listAnswer (now («data» .entry)) (c .«bit_pos») reversible table «dc_coded») × (now (qfs .exit) ≡ placesAfter (now («data» .entry)) (c .«bit_pos») reversible table «dc_coded» (now (qfs .entry))) ⌝ }
+{
+    if !fields::readable(data, c) {
+        return EventsRead::Refused(TextureParseError::OutOfRange);
+    }
+    let first = first_place(dc_coded);
+    let one = read_list(data, c, reversible, table, codes, lens, events, first);
+    keep(one, qfs)
+}
+
 // A list of plain events at a cursor, into 64 places that start at 1 after a DC code.
 pub fn decode_ac_events(
     data: &[u8],
@@ -213,15 +196,10 @@ pub fn decode_ac_events(
     ensures places { λ r. ⌜ now (qfs .exit) ≡ placesAfter (now («data» .entry)) (c .«bit_pos») false table «dc_coded» (now (qfs .entry)) ⌝ }
     ensures outcome { λ r. ⌜ listOutcome r ≡ listDue (now («data» .entry)) (c .«bit_pos») false table «dc_coded» ⌝ }
 {
-    if !readable(data, c) {
-        return EventsRead::Refused(TextureParseError::OutOfRange);
-    }
     let codes = codes::tcoef_codes();
     let lens = codes::tcoef_lens();
     let events = codes::tcoef_events(table);
-    let first = first_place(dc_coded);
-    let one = read_list(data, c, false, table, &codes, &lens, &events, first);
-    keep(one, qfs)
+    read_events(data, c, false, table, &codes, &lens, &events, dc_coded, qfs)
 }
 
 // A list of reversible events at a cursor, into 64 places that start at 1 after a DC code.
@@ -236,13 +214,8 @@ pub fn decode_ac_events_rvlc(
     ensures places { λ r. ⌜ now (qfs .exit) ≡ placesAfter (now («data» .entry)) (c .«bit_pos») true table «dc_coded» (now (qfs .entry)) ⌝ }
     ensures outcome { λ r. ⌜ listOutcome r ≡ listDue (now («data» .entry)) (c .«bit_pos») true table «dc_coded» ⌝ }
 {
-    if !readable(data, c) {
-        return EventsRead::Refused(TextureParseError::OutOfRange);
-    }
     let codes = codes::rvlc_codes();
     let lens = codes::rvlc_lens();
     let events = codes::rvlc_events(table);
-    let first = first_place(dc_coded);
-    let one = read_list(data, c, true, table, &codes, &lens, &events, first);
-    keep(one, qfs)
+    read_events(data, c, true, table, &codes, &lens, &events, dc_coded, qfs)
 }

@@ -9,7 +9,7 @@ use Rattle.macroblock.specs.Outcomes.{macroblockOutcome}
 use Rattle.macroblock.specs.declared.decode.MacroblockDecoded.{MacroblockDecoded}
 use Rattle.picture.specs.Outcomes.{pictureOutcome}
 use Rattle.picture.specs.declared.call.PictureDecoded.{PictureDecoded}
-use Rattle.picture.specs.declared.picture.Picture.{Picture}
+use Rattle.picture_state.specs.declared.picture.Picture.{Picture}
 use Rattle.vaxembro.specs.declared.answer.Told.{Told}
 
 -- accepted: no number and no figure; refused: no bits, and the position is the start

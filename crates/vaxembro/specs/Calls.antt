@@ -5,20 +5,20 @@ use Prim.Native.Nat.{ℕ}
 use lib.Dec.{eqb, leb}
 use lib.IntN.{ℤ}
 use lib.ListN.{length}
-use Rattle.block.specs.declared.error.BlockAssemblyError.the-variants.{TooShort}
-use Rattle.block.specs.declared.context.MacroblockTextureContext.{MacroblockTextureContext}
-use Rattle.coefficients.specs.declared.predictor.BlockPredictors.{BlockPredictors}
+use Rattle.assembly.specs.declared.error.BlockAssemblyError.the-variants.{TooShort}
+use Rattle.assembly.specs.declared.context.MacroblockTextureContext.{MacroblockTextureContext}
+use Rattle.prediction.specs.declared.predictor.BlockPredictors.{BlockPredictors}
 use Rattle.macroblock.specs.Answer.{macroblockAnswer, samplesOut as samplesAlone}
 use Rattle.macroblock.specs.declared.decode.MacroblockDecoded.{MacroblockDecoded}
 use Rattle.macroblock.specs.declared.decode.MacroblockDecoded.the-variants.{Refused as RefusedAlone}
 use Rattle.macroblock.specs.declared.header.MacroblockHeader.{MacroblockHeader}
 use Rattle.picture.specs.Call.{Input, answerOut, given, samplesOut, storeOut}
-use Rattle.picture.specs.Outcomes.{openedOutcome}
-use Rattle.picture.specs.Picture.{openOf}
+use Rattle.picture_state.specs.Outcomes.{openedOutcome}
+use Rattle.picture_state.specs.Picture.{openOf}
 use Rattle.picture.specs.declared.call.PictureDecoded.{PictureDecoded}
 use Rattle.picture.specs.declared.call.PictureDecoded.the-variants.{Decoded, Refused}
-use Rattle.picture.specs.declared.picture.PictureOpened.{PictureOpened}
-use Rattle.picture.specs.declared.picture.PictureOpened.the-variants.{Opened, Refused as Unopened}
+use Rattle.picture_state.specs.declared.picture.PictureOpened.{PictureOpened}
+use Rattle.picture_state.specs.declared.picture.PictureOpened.the-variants.{Opened, Refused as Unopened}
 use Rattle.vaxembro.specs.Answer.{answerAfter, numberIn, toldAlone, toldOf}
 use Rattle.vaxembro.specs.Lent.{contextBy, dcCoded, headerBy, matrixOf, neighboursOf, pictureOf, reversible, stateAfter, textureContextBy}
 
@@ -102,7 +102,7 @@ module _ (x : Lent) where
         state = stateOut decodedIn (x .state);
         samples = cond roomIn (samplesOut (pictureOf (x .state)) broughtIn (x .store)) (x .samples);
         store = cond roomIn (storeOut (pictureOf (x .state)) broughtIn (x .store)) (x .store);
-        answer = answerAfter (toldOf decodedIn (x .start)) (x .answer)
+        answer = answerAfter (toldOf decodedIn (x .start)) (x .answer);
       }
 
 -- ---- a macroblock read alone
@@ -153,5 +153,5 @@ module _ (x : LentAlone) where
       record {
         number = toldAlone decodedAlone (x .start) .number;
         samples = cond roomAlone (brought (λ h t n w. samplesAlone (x .bytes) (x .start) h (dcCoded (x .flags)) (reversible (x .flags)) t n w (x .samples))) (x .samples);
-        answer = answerAfter (toldAlone decodedAlone (x .start)) (x .answer)
+        answer = answerAfter (toldAlone decodedAlone (x .start)) (x .answer);
       }

@@ -6,16 +6,16 @@ use lib.Dec.{eqb}
 use lib.IntN.{natAbs, pos, ℤ}
 use lib.ListN.{drop, getD}
 use Rattle.numbers.specs.Grid.{block}
-use Rattle.idct.specs.declared.rounding.HalfIntegerRounding.{HalfIntegerRounding}
-use Rattle.idct.specs.declared.rounding.HalfIntegerRounding.the-variants.{AwayFromZero, ToEven}
-use Rattle.coefficients.specs.declared.predictor.BlockPredictors.{BlockPredictors}
-use Rattle.block.specs.declared.context.MacroblockTextureContext.{MacroblockTextureContext}
+use Rattle.rounding.specs.declared.HalfIntegerRounding.{HalfIntegerRounding}
+use Rattle.rounding.specs.declared.HalfIntegerRounding.the-variants.{AwayFromZero, ToEven}
+use Rattle.prediction.specs.declared.predictor.BlockPredictors.{BlockPredictors}
+use Rattle.assembly.specs.declared.context.MacroblockTextureContext.{MacroblockTextureContext}
 use Rattle.macroblock.specs.declared.header.DerivedMbType.{DerivedMbType}
 use Rattle.macroblock.specs.declared.header.DerivedMbType.the-variants.{Inter, Inter4V, InterQ, Intra, IntraQ, Missing}
 use Rattle.macroblock.specs.declared.header.MacroblockHeader.{MacroblockHeader}
-use Rattle.neighbours.specs.Record.{quantiserOf, sevenFrom}
-use Rattle.picture.specs.declared.picture.MacroblockContext.{MacroblockContext}
-use Rattle.picture.specs.declared.picture.Picture.{Picture}
+use Rattle.record.specs.Record.{quantiserOf, sevenFrom}
+use Rattle.picture_state.specs.declared.picture.MacroblockContext.{MacroblockContext}
+use Rattle.picture_state.specs.declared.picture.Picture.{Picture}
 
 -- ---- flags: one bit each, from the lowest
 

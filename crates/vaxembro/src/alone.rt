@@ -33,7 +33,17 @@ pub extern "C" fn vaxembro_decode_intra_macroblock(
     let near = crate::lent::neighbours_of(neighbours);
     let w = crate::lent::matrix_of(matrix);
     let c = Cursor { bit_pos: at };
-    let d = macroblock::decode_intra_macroblock(data, c, header, dc_coded, rev, ctx, near, w, samples);
+    let d = macroblock::decode_intra_macroblock(
+        data,
+        c,
+        header,
+        dc_coded,
+        rev,
+        ctx,
+        near,
+        w,
+        samples,
+    );
     let t = crate::answer::told_alone(d, at);
     crate::answer::tell(answer, t)
 }

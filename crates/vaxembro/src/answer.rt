@@ -1,7 +1,7 @@
 // An answer as four numbers: the refusal's number or 0, its figure, the bits taken and the position after them.
 ghost use mathlib.Core.Path.{_≡_};
 ghost use Prim.Native.Nat.{_≤_};
-ghost use Rattle.block.specs.Answer.{figureOf, numberOf};
+ghost use Rattle.assembly.specs.Answer.{figureOf, numberOf};
 ghost use Rattle.vaxembro.specs.Answer.{acceptedAs, answerAfter, low, refusedAs, toldAlone, toldAt, toldOf};
 ghost use Rattle.vaxembro.specs.Calls.{allLong};
 use block::BlockAssemblyError;

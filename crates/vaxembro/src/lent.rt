@@ -3,7 +3,7 @@ ghost use mathlib.Core.Bool.{cond};
 ghost use mathlib.Core.Path.{_≡_};
 ghost use Prim.Native.Nat.{_<_, _≤_};
 ghost use lib.ListN.{length};
-ghost use Rattle.neighbours.specs.Record.{quantiserOf, sevenFrom};
+ghost use Rattle.record.specs.Record.{quantiserOf, sevenFrom};
 ghost use Rattle.vaxembro.specs.Lent.{acPred, alternateScan, contextBy, dcCoded, flagAt, headerBy, matrixOf, methodOne, mismatchExempt, neighboursOf, notCoded, pictureOf, reversible, rounding, stateAfter, textureContextBy, there, typeOf};
 use block::MacroblockTextureContext;
 use coefficients::BlockPredictors;

@@ -18,13 +18,13 @@ use Rattle.numbers.proofs.Words.{fits-mag}
 use Rattle.bits.proofs.AheadLaws.{field-bits, window-begins, window-length}
 use Rattle.bits.specs.Ahead.{aheadOf, window}
 use Rattle.bits.specs.Bits.{Bits, bin, bitsFrom}
-use Rattle.block.proofs.PlaceLaws.{difference-small}
+use Rattle.block_reader.proofs.PlaceLaws.{difference-small}
 use Rattle.codes.proofs.FirstBitsLaws.{SizeSymbol, size-symbol}
 use Rattle.codes.specs.DcSize.{dcCodes, dcLens, dcSizes}
 use Rattle.codes.specs.FirstBits.{sizePlain}
 use Rattle.codes.specs.Table.{codeBits}
 use Rattle.codes.specs.declared.dc_size.DcComponent.{DcComponent}
-use Rattle.texture.specs.Dc.{GoodDc, dc, dcBits, differenceOf, differentialOf}
+use Rattle.dc_parts.specs.Dc.{GoodDc, dc, dcBits, differenceOf, differentialOf}
 use Rattle.window_reader.proofs.SymbolLaws.{let-through}
 use Rattle.window_reader.specs.Told.{DcSettled}
 use Rattle.window_reader.specs.declared.symbol.DcAt.{DcAt}

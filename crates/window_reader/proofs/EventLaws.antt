@@ -18,8 +18,8 @@ use Rattle.codes.proofs.FirstBitsLaws.{intraRow, lmax-by, rmax-by, row-small}
 use Rattle.codes.specs.FirstBits.{lmaxRows, rmaxRows}
 use Rattle.codes.specs.Tcoef.{tcoefIntra, vlcCodes, vlcLens}
 use Rattle.codes.specs.Tcoef as T
-use Rattle.texture.specs.Event.{GoodEvent, _▸_, escape, eventBits, lastNumber, levelOf, plain, runOf, signed12, signedBy, type1, type2, type3, vlcBits}
-use Rattle.texture.specs.declared.event.AcEvent.{AcEvent}
+use Rattle.events.specs.Event.{GoodEvent, _▸_, escape, eventBits, lastNumber, levelOf, plain, runOf, signed12, signedBy, type1, type2, type3, vlcBits}
+use Rattle.events.specs.declared.event.AcEvent.{AcEvent}
 use Rattle.window_reader.proofs.SymbolLaws.{let-through}
 use Rattle.window_reader.specs.Told.{EventSettled, EventTold, RowTold}
 use Rattle.window_reader.specs.declared.symbol.EventAt.{EventAt}

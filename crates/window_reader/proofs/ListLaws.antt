@@ -17,14 +17,14 @@ use Rattle.codes.proofs.FirstBitsLaws.{intraRow, row-small}
 use Rattle.codes.specs.Tcoef.{lmaxBy, tcoefIntra}
 use Rattle.codes.specs.Tcoef as T
 use Rattle.codes.specs.declared.tcoef_tables.TcoefTable.the-variants.{Intra}
-use Rattle.texture.proofs.ListLaws.{event-complete}
+use Rattle.events.proofs.EitherLaws.{event-complete}
 use Rattle.texture.proofs.LoopLaws.{ended, event-less, rest, rest-last, rest-more, rest-start, small, startOf}
-use Rattle.texture.specs.Event.{Event, GoodEvent, lastOf, levelOf, plain, runOf, rvlc, rvlcEscape, signed12, signedBy, type1, type2, type3}
-use Rattle.texture.specs.EventReader.{event}
+use Rattle.events.specs.Event.{Event, GoodEvent, lastOf, levelOf, plain, runOf, rvlc, rvlcEscape, signed12, signedBy, type1, type2, type3}
+use Rattle.events.specs.EventReader.{event}
 use Rattle.texture.specs.Inside.{State, putOf}
 use Rattle.texture.specs.Places.{zeros}
-use Rattle.texture.specs.Reader.{ok}
-use Rattle.texture.specs.declared.event.AcEvent.{AcEvent}
+use Rattle.fields.specs.Reader.{ok}
+use Rattle.events.specs.declared.event.AcEvent.{AcEvent}
 use Rattle.window_reader.proofs.EndLaws.{end-last}
 use Rattle.window_reader.specs.Told.{EventTold, ListTold}
 use Rattle.window_reader.specs.declared.symbol.EventAt.{EventAt}

@@ -17,25 +17,25 @@ use Rattle.numbers.proofs.Tests.{both-true}
 use Rattle.numbers.proofs.Words.{fits-mag}
 use Rattle.bits.specs.Bits.{Bits, bitsFrom}
 use Rattle.bits.specs.Cursor.{cursorAt, inData}
-use Rattle.block.proofs.PlaceLaws.{difference-small}
-use Rattle.block.proofs.RowLaws.{blocks-read, place-at}
-use Rattle.block.specs.Reading.{qfsOf}
-use Rattle.block.specs.Rows.{RowsSay, blocksAnswer, readRow, readRows, rowsAfter}
+use Rattle.block_reader.proofs.PlaceLaws.{difference-small}
+use Rattle.block_reader.proofs.RowLaws.{blocks-read, place-at}
+use Rattle.block_reader.specs.Reading.{qfsOf}
+use Rattle.block_reader.specs.Rows.{RowsSay, blocksAnswer, readRow, readRows, rowsAfter}
 use Rattle.codes.specs.Component.{componentAt}
 use Rattle.codes.specs.declared.dc_size.DcComponent.{DcComponent}
 use Rattle.codes.specs.declared.dc_size.DcComponent.the-variants.{Luminance}
 use Rattle.codes.specs.declared.tcoef_tables.TcoefTable.the-variants.{Intra}
-use Rattle.texture.proofs.DcLaws.{dc-reads}
-use Rattle.texture.proofs.EachLaws.{each-begins, each-ends, each-goes-on, leftOf}
-use Rattle.texture.proofs.ReadLaws.{no-ok}
-use Rattle.texture.specs.ComposeReader.{readOpt}
-use Rattle.texture.specs.Dc.{Dc, differenceOf}
-use Rattle.texture.specs.DcReader.{readDc}
+use Rattle.sentences.proofs.Reading.{dc-reads}
+use Rattle.sentences.proofs.EachLaws.{each-begins, each-ends, each-goes-on, leftOf}
+use Rattle.fields.proofs.ReadLaws.{no-ok}
+use Rattle.sentences.specs.ComposeReader.{readOpt}
+use Rattle.dc_parts.specs.Dc.{Dc, differenceOf}
+use Rattle.dc_parts.specs.DcReader.{readDc}
 use Rattle.texture.specs.Events.{Events}
 use Rattle.texture.specs.EventsReader.{list}
-use Rattle.texture.specs.Macroblock.{Place, placesOfPattern}
+use Rattle.sentences.specs.Macroblock.{Place, placesOfPattern}
 use Rattle.texture.specs.Places.{placesOf, zeros}
-use Rattle.texture.specs.Reader.{Res, bind, mapped, no, ok}
+use Rattle.fields.specs.Reader.{Res, bind, mapped, no, ok}
 use Rattle.texture.specs.declared.list.EventsRead.the-variants.{Read as EventsAre}
 use Rattle.window_reader.proofs.EndLaws.{end-set, end-zeros, ends-all, ends-more}
 use Rattle.window_reader.specs.Ends.{endOf, endsOf}

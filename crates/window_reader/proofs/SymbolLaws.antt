@@ -23,7 +23,7 @@ use Rattle.bits.specs.Bits.{Bits, bin, bitsFrom, bitsOf, val}
 use Rattle.codes.proofs.FirstBitsLaws.{Symbol, intraRow, row-small, symbol, unpacked}
 use Rattle.codes.specs.FirstBits.{longRows, plainIn, shortRows}
 use Rattle.codes.specs.Tcoef as T
-use Rattle.texture.specs.Event.{_▸_, signed12, signedBy, vlcBits}
+use Rattle.events.specs.Event.{_▸_, signed12, signedBy, vlcBits}
 use Rattle.window_reader.specs.Told.{RowSettled, RowTold, moved}
 use Rattle.window_reader.specs.declared.symbol.RowAt.{RowAt}
 

@@ -7,17 +7,17 @@ use lib.IntN.{ℤ}
 use lib.ListN.{drop, length, replicate}
 use Rattle.bits.specs.Ahead.{window}
 use Rattle.bits.specs.Bits.{Bits, bin, bitsFrom}
-use Rattle.block.specs.Rows.{readRow, readRows}
+use Rattle.block_reader.specs.Rows.{readRow, readRows}
 use Rattle.codes.specs.FirstBits.{longRows, shortRows}
 use Rattle.codes.specs.Tcoef as T
 use Rattle.codes.specs.declared.dc_size.DcComponent.{DcComponent}
 use Rattle.codes.specs.declared.tcoef_tables.TcoefTable.the-variants.{Intra}
-use Rattle.texture.specs.Dc.{Dc, GoodDc, dcBits, differenceOf}
-use Rattle.texture.specs.Event.{Event, GoodEvent, _▸_, eventBits, tcoefRow, valueOf, vlcBits}
+use Rattle.dc_parts.specs.Dc.{Dc, GoodDc, dcBits, differenceOf}
+use Rattle.events.specs.Event.{Event, GoodEvent, _▸_, eventBits, tcoefRow, valueOf, vlcBits}
 use Rattle.texture.specs.EventsReader.{list}
 use Rattle.texture.specs.Places.{placesOf}
-use Rattle.texture.specs.Reader.{mapped, ok}
-use Rattle.texture.specs.declared.event.AcEvent.{AcEvent}
+use Rattle.fields.specs.Reader.{mapped, ok}
+use Rattle.events.specs.declared.event.AcEvent.{AcEvent}
 use Rattle.window_reader.specs.Ends.{endOf, endsOf}
 use Rattle.window_reader.specs.declared.list.ListAt.{ListAt}
 use Rattle.window_reader.specs.declared.symbol.DcAt.{DcAt}

@@ -1,8 +1,8 @@
 // The six blocks of a macroblock, each into its row of 64 places, with the end of each row.
 ghost use mathlib.Core.Path.{_≡_};
 ghost use lib.ListN.{length, replicate};
-ghost use Rattle.block.specs.Outcomes.{blocksDue};
-ghost use Rattle.block.specs.Rows.{blocksAnswer, rowsAfter};
+ghost use Rattle.block_reader.specs.Outcomes.{blocksDue};
+ghost use Rattle.block_reader.specs.Rows.{blocksAnswer, rowsAfter};
 ghost use Rattle.codes.specs.Component.{componentAt};
 ghost use Rattle.texture.specs.Outcomes.{listOutcome};
 ghost use Rattle.texture.specs.Places.{zeros};
@@ -129,7 +129,7 @@ fn six_plainly(
 {
     *rows = [[0i32; 64]; 6];
     *ends = [1usize; 6];
-    let answer = block::read_blocks(data, c, pattern, dc_coded, reversible, rows);
+    let answer = block_reader::read_blocks(data, c, pattern, dc_coded, reversible, rows);
     let read = *rows;
     ends_of(read, ends);
     answer

@@ -6,8 +6,8 @@ ghost use lib.Dec.{leb};
 ghost use lib.ListN.{length};
 ghost use Rattle.bits.specs.Ahead.{aheadOf};
 ghost use Rattle.bits.specs.Bits.{val};
-ghost use Rattle.texture.specs.Dc.{differentialOf};
-ghost use Rattle.texture.specs.Event.{signed12, signedBy};
+ghost use Rattle.dc_parts.specs.Dc.{differentialOf};
+ghost use Rattle.events.specs.Event.{signed12, signedBy};
 ghost use Rattle.window_reader.specs.Told.{DcSettled, EventSettled, Readable, RowSettled, Tables, moved};
 use codes::DcComponent;
 

@@ -1,10 +1,8 @@
 -- `still::byte`: what is said lies within the lent bytes. Assumes nothing.
-use mathlib.Core.Path.{ap, sym, _∙_}
+use mathlib.Core.Path.{sym}
 use borrow.Author.Needs.{needs}
 use lib.Seq.{length-take-le}
-use Rattle.still_lines.proofs.StepLaws.{said-fits}
-use Rattle.still_lines.specs.Steps.{left, stepBy}
-use Rattle.still_lines.specs.declared.steps.Stepped.{Stepped}
+use Rattle.still_lines.proofs.StepLaws.{step-fits}
 use Rattle.still.proofs.byte.Statement.{statement}
 use Rattle.still.proofs.byte.Tie as tie
 
@@ -18,16 +16,14 @@ enum-known-s : tie.Need-enum-known-s
 enum-known-s c = search needs
 
 slice-reshare-prefix-write-all : tie.Need-slice-reshare-prefix-write-all
-unfolding stepBy
 slice-reshare-prefix-write-all c =
     let k = c .before .before .before .before .before .before .before .before .before .before .before in
-    said-fits _ _ _ _ _ _ (ap (λ (s : Stepped). left s _) (sym (c .before .s .given .1)) ∙ k .step .ensures)
+    step-fits _ _ _ (c .before .s .given .1) (k .step .ensures)
 
 slice-aggregate-write-all : tie.Need-slice-aggregate-write-all
-unfolding stepBy
 slice-aggregate-write-all c =
     let k = c .before .before .before .before .before .before .before .before .before .before .before .before in
-    sym (length-take-le _ _ (said-fits _ _ _ _ _ _ (ap (λ (s : Stepped). left s _) (sym (c .before .before .s .given .1)) ∙ k .step .ensures)))
+    sym (length-take-le _ _ (step-fits _ _ _ (c .before .before .s .given .1) (k .step .ensures)))
 
 write-all-requires : tie.Need-write-all-requires
 write-all-requires c κs = search needs

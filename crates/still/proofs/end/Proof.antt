@@ -1,10 +1,8 @@
 -- `still::end`: what is said lies within the lent bytes. Assumes nothing.
-use mathlib.Core.Path.{ap, sym, _∙_}
+use mathlib.Core.Path.{sym}
 use borrow.Author.Needs.{needs}
 use lib.Seq.{length-take-le}
-use Rattle.still_lines.proofs.StepLaws.{said-fits}
-use Rattle.still_lines.specs.Steps.{finishBy, left}
-use Rattle.still_lines.specs.declared.steps.Stepped.{Stepped}
+use Rattle.still_lines.proofs.StepLaws.{finish-fits}
 use Rattle.still.proofs.end.Statement.{statement}
 use Rattle.still.proofs.end.Tie as tie
 
@@ -18,16 +16,14 @@ enum-known-s : tie.Need-enum-known-s
 enum-known-s c = search needs
 
 slice-reshare-prefix-write-all : tie.Need-slice-reshare-prefix-write-all
-unfolding finishBy
 slice-reshare-prefix-write-all c =
     let k = c .before .before .before .before .before .before .before .before .before in
-    said-fits _ _ _ _ _ _ (ap (λ (s : Stepped). left s _) (sym (c .before .s .given .1)) ∙ k .finish .ensures)
+    finish-fits _ _ (c .before .s .given .1) (k .finish .ensures)
 
 slice-aggregate-write-all : tie.Need-slice-aggregate-write-all
-unfolding finishBy
 slice-aggregate-write-all c =
     let k = c .before .before .before .before .before .before .before .before .before .before in
-    sym (length-take-le _ _ (said-fits _ _ _ _ _ _ (ap (λ (s : Stepped). left s _) (sym (c .before .before .s .given .1)) ∙ k .finish .ensures)))
+    sym (length-take-le _ _ (finish-fits _ _ (c .before .before .s .given .1) (k .finish .ensures)))
 
 write-all-requires : tie.Need-write-all-requires
 write-all-requires c κs = search needs

@@ -5,9 +5,9 @@ use denote.Ref.{now}
 use lib.ListN.{length}
 use Rattle.bits.proofs.CursorLaws.{in-data-yes}
 use Rattle.codes.specs.declared.dc_size.BlockComponent.{BlockComponent}
-use Rattle.block.proofs.StateLaws.{all-fine}
-use Rattle.block.specs.Answer.{answerOf, levelsOut, samplesOut}
-use Rattle.block.specs.declared.error.Checked.{Checked}
+use Rattle.assembly.proofs.StateLaws.{all-fine}
+use Rattle.block.specs.Decoded.{answerOf, levelsOut, samplesOut}
+use Rattle.assembly.specs.declared.error.Checked.{Checked}
 use Rattle.block.proofs.intra.decode_intra_block_full.Statement.{statement}
 use Rattle.numbers.proofs.OutcomeLaws.{then-2}
 use Rattle.block.specs.Outcomes.{blockOutcome}

@@ -1,57 +1,28 @@
--- `block::reconstruct::reconstruct_block` meets its contract: the index, the context, then the block. Assumes nothing.
+-- `block::reconstruct::reconstruct_block` meets its contract: the block by what its levels need is the whole block. Assumes nothing.
+use mathlib.Core.Path.{sym}
 use borrow.Author.Needs.{needs}
 use denote.Ref.{now}
-use Rattle.numbers.proofs.Tests.{flag-passes, flag-refuses}
-use Rattle.block.proofs.RebuildLaws.{no-block, no-context, whole-block}
+use Rattle.block.proofs.HandedLaws.{whole}
 use Rattle.block.proofs.reconstruct.reconstruct_block.Statement.{statement}
 use Rattle.block.proofs.reconstruct.reconstruct_block.Tie as tie
 
-from-block-index-requires : tie.Need-from-block-index-requires
-from-block-index-requires c κs = search needs
+handed-requires : tie.Need-handed-requires
+handed-requires c κs = search needs
 
-enum-told : tie.Need-enum-told
-enum-told c = search needs
+slice-aggregate-reconstruct-up-to : tie.Need-slice-aggregate-reconstruct-up-to
+slice-aggregate-reconstruct-up-to c = search needs
 
-enum-known-component : tie.Need-enum-known-component
-enum-known-component c = search needs
-
-context-fine-requires : tie.Need-context-fine-requires
-context-fine-requires c κs = search needs
+reconstruct-up-to-requires : tie.Need-reconstruct-up-to-requires
+reconstruct-up-to-requires c κs = search needs
 
 returns : tie.Need-returns
 returns c =
-    let k = c .before .before .before in
-    let f = k .before .before in
-    let a = f .before .args in
-    no-context (a .i) (a .ctx) (a .predictors) (a .w) (a .qfs) _ (f .from-block-index .result) (now (a .spatial)) (now (a .qf)) (f .from-block-index .ensures .1) (k .component .given .1) (flag-refuses (c .before .context-fine .ensures) (c .if1 .taken))
-
-rebuild-requires : tie.Need-rebuild-requires
-rebuild-requires c κs = flag-passes (c .before .before .before .context-fine .ensures) (c .before .before .if1 .left)
-
-returns-2 : tie.Need-returns-2
-returns-2 c =
-    let f = c .before .before in
-    let a = f .before .args in
-    no-block (a .i) (a .ctx) (a .predictors) (a .w) (a .qfs) (f .from-block-index .result) (now (a .spatial)) (now (a .qf)) (f .from-block-index .ensures .1) (c .enum-told .given .1)
-
-returns-3 : tie.Need-returns-3
-returns-3 c =
-    let e = c .before .before .before in
-    let k = e .before .before .before in
-    let f = k .before .before in
-    let a = f .before .args in
-    whole-block (a .i) (a .ctx) (a .predictors) (a .w) (a .qfs) _ (f .from-block-index .result) (now (a .spatial)) (now (a .qf)) (f .from-block-index .ensures .1) (k .component .given .1)
-    (flag-passes (e .before .context-fine .ensures) (e .if1 .left)) (c .rebuild .ensures)
+    let q = c .before .before .before .before in
+    let h = q .before in
+    let a = h .before .args in
+    whole (a .i) (a .ctx) (a .predictors) (a .w) (a .t2) (sym (slice-aggregate-reconstruct-up-to q)) (h .handed .result) (h .handed .ensures) (c .reconstruct-up-to .result) _ (now (a .spatial)) _ (now (a .qf)) (c .reconstruct-up-to .ensures)
 
 pub reconstruct-block-spec : {M : Type 1} → statement M
 reconstruct-block-spec =
     tie.close
-    (tie.spec
-    from-block-index-requires
-    enum-told
-    enum-known-component
-    context-fine-requires
-    returns
-    rebuild-requires
-    returns-2
-    returns-3)
+    (tie.spec handed-requires slice-aggregate-reconstruct-up-to reconstruct-up-to-requires returns)

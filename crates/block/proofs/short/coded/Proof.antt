@@ -8,11 +8,11 @@ use Rattle.numbers.specs.Grid.{cell}
 use Rattle.coefficients.proofs.LevelLaws.{levels-fine}
 use Rattle.coefficients.specs.Level.{blockFine, levelsAnswer}
 use Rattle.coefficients.specs.Needed.{numbered}
-use Rattle.coefficients.specs.UpTo.{upTo}
-use Rattle.block.proofs.RebuildLaws.{handed-fine, handed-not, rebuilt-as, thirteen}
+use Rattle.scan_rows.specs.UpTo.{upTo}
+use Rattle.block.proofs.RebuildLaws.{handed-fine, handed-not, rebuilt, thirteen}
 use Rattle.block.proofs.ValueLaws.{done-leaves, refused-leaves}
 use Rattle.block.specs.Rebuilt.{levelsHere}
-use Rattle.block.specs.Values.{samplesOf, valuesOf}
+use Rattle.assembly.specs.Values.{samplesOf, valuesOf}
 use Rattle.block.specs.declared.reconstruct.BlockRebuilt.the-variants.{Rebuilt}
 use Rattle.block.proofs.short.coded.Statement.{statement}
 use Rattle.block.proofs.short.coded.Tie as tie
@@ -68,7 +68,7 @@ returns-2 c =
     let qfs = upTo (a .end) (now (a .qfs)) in
     let e = levels-are t in
     let f = c .from-levels .ensures in
-    rebuilt-as (a .component) x (numbered (now (a .n))) (a .w) qfs (now (a .spatial)) (now (a .qf)) _ _ _
+    rebuilt (a .component) x (numbered (now (a .n))) (a .w) qfs (now (a .spatial)) (now (a .qf)) _ _ _
     (handed-fine (a .component) x (numbered (now (a .n))) (a .w) qfs (s .pre) (l .intra-levels-up-to .result) (l .intra-levels-up-to .ensures .0 .0) (t .enum-told2 .given .1))
     (f .0 ∙ ap (λ (b : List (List ℤ)). Rebuilt (cell (valuesOf (a .component) x (a .w) b) 0 0)) e)
     (f .1 ∙ ap (λ (b : List (List ℤ)). samplesOf x (valuesOf (a .component) x (a .w) b)) e)

@@ -14,9 +14,9 @@ use Rattle.ranges.specs.Range.{differenceFine, levelFine}
 use Rattle.coefficients.proofs.LevelLaws.{saturated-fine}
 use Rattle.coefficients.specs.Level.{saturated}
 use Rattle.coefficients.specs.Needed.{numbered}
-use Rattle.coefficients.specs.Prediction.{dcPrediction, dcScaler, directionBy}
-use Rattle.coefficients.specs.Stages.{valueUnless}
-use Rattle.coefficients.specs.declared.refusal.Scaler.the-variants.{Is as ScalerIs}
+use Rattle.prediction.specs.Prediction.{dcPrediction, dcScaler, directionBy}
+use Rattle.prediction.specs.Stages.{valueUnless}
+use Rattle.prediction.specs.declared.refusal.Scaler.the-variants.{Is as ScalerIs}
 use Rattle.block.proofs.ShortAnswers.{dc-rebuilt, dc-refused, difference-is, difference-not, difference-told, scaler-is, scaler-never, scaler-told}
 use Rattle.block.proofs.short.dc_alone.Statement.{statement}
 use Rattle.block.proofs.short.dc_alone.Tie as tie

@@ -13,9 +13,9 @@ use Rattle.numbers.specs.Grid.{build}
 use Rattle.idct.proofs.Refusals.{limited-inside}
 use Rattle.idct.specs.Clipped.{dcBlock}
 use Rattle.idct.specs.Limits.{inBounds}
-use Rattle.inverse_quant.specs.Dequantised.{intraDc}
+use Rattle.dequantise.specs.Methods.{intraDc}
 use Rattle.block.specs.Short.{dcValue, dcValues}
-use Rattle.block.specs.Values.{samplesOf}
+use Rattle.assembly.specs.Values.{samplesOf}
 use Rattle.block.specs.declared.reconstruct.BlockRebuilt.the-variants.{Rebuilt}
 use Rattle.block.proofs.short.from_level.Statement.{statement}
 use Rattle.block.proofs.short.from_level.Tie as tie

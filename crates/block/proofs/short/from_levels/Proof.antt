@@ -9,13 +9,14 @@ use lib.IntN.{natAbs, ℤ}
 use mir.Facts.{toZ-ofZ}
 use Rattle.numbers.proofs.Words.{fits-mag}
 use Rattle.numbers.specs.Grid.{cell}
-use Rattle.coefficients.specs.declared.refusal.Stage.the-variants.{Done}
+use Rattle.prediction.specs.declared.refusal.Stage.the-variants.{Done}
 use Rattle.idct.specs.Limits.{valuesFine}
 use Rattle.idct.specs.declared.limits.IdctAnswer.the-variants.{Transformed}
 use Rattle.block.proofs.AnswerLaws.{values-fine, values-small}
 use Rattle.block.proofs.ShortAnswers.{samples-told, transformed-is}
-use Rattle.block.proofs.ValueLaws.{by-rows, depth-fine, rows-done}
-use Rattle.block.specs.Values.{valuesOf}
+use Rattle.block.proofs.ValueLaws.{by-rows, rows-done}
+use Rattle.assembly.proofs.ContextLaws.{depth-fine}
+use Rattle.assembly.specs.Values.{valuesOf}
 use Rattle.block.specs.declared.reconstruct.BlockRebuilt.the-variants.{Rebuilt}
 use Rattle.block.proofs.short.from_levels.Statement.{statement}
 use Rattle.block.proofs.short.from_levels.Tie as tie

@@ -12,12 +12,12 @@ use mir.Val.{ofZ, toZ}
 use Rattle.numbers.proofs.Tests.{flag-passes, flag-refuses}
 use Rattle.numbers.proofs.Words.{held}
 use Rattle.coefficients.specs.Needed.{numbered}
-use Rattle.coefficients.specs.Prediction.{directionBy}
-use Rattle.coefficients.specs.UpTo.{upTo}
-use Rattle.coefficients.specs.declared.refusal.Direction.the-variants.{Is as DirectionIs}
+use Rattle.prediction.specs.Prediction.{directionBy}
+use Rattle.scan_rows.specs.UpTo.{upTo}
+use Rattle.prediction.specs.declared.refusal.Direction.the-variants.{Is as DirectionIs}
 use Rattle.block.proofs.RebuildLaws.{thirteen}
 use Rattle.block.proofs.ShortAnswers.{alone-tells, dc-given, direction-is, direction-never, direction-told, not-handed}
-use Rattle.block.proofs.ValueLaws.{depth-fine, quantiser-fine}
+use Rattle.assembly.proofs.ContextLaws.{depth-fine, quantiser-fine}
 use Rattle.block.proofs.short.rebuild_up_to.Statement.{statement}
 use Rattle.block.proofs.short.rebuild_up_to.Tie as tie
 

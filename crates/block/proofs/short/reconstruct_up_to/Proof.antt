@@ -3,7 +3,7 @@ use borrow.Author.Needs.{needs}
 use denote.Ref.{now}
 use Rattle.numbers.proofs.Tests.{flag-passes, flag-refuses}
 use Rattle.coefficients.specs.Needed.{numbered}
-use Rattle.coefficients.specs.UpTo.{upTo}
+use Rattle.scan_rows.specs.UpTo.{upTo}
 use Rattle.block.proofs.RebuildLaws.{no-block, no-context, whole-block}
 use Rattle.block.proofs.short.reconstruct_up_to.Statement.{statement}
 use Rattle.block.proofs.short.reconstruct_up_to.Tie as tie

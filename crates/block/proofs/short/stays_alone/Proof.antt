@@ -4,7 +4,7 @@ use lib.IntN.{pos}
 use mir.Facts.{toZ-ofZ}
 use borrow.Author.Tests.{not-false, not-true}
 use Rattle.numbers.proofs.Expressions.{any, fits, lit, _⊘_}
-use Rattle.inverse_quant.proofs.MismatchLaws.{rem-tells}
+use Rattle.mismatch.proofs.ParityLaws.{rem-tells}
 use Rattle.block.proofs.short.stays_alone.Statement.{statement}
 use Rattle.block.proofs.short.stays_alone.Tie as tie
 

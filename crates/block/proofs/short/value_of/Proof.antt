@@ -3,7 +3,7 @@ use mathlib.Core.Path.{ap, _∙_}
 use mir.Facts.{toZ-ofZ}
 use borrow.Author.Needs.{needs}
 use Rattle.numbers.proofs.Words.{held}
-use Rattle.inverse_quant.specs.Dequantised.{limitedF}
+use Rattle.dequantise.specs.Methods.{limitedF}
 use Rattle.block.proofs.ShortAnswers.{intra-told, value-is, value-never}
 use Rattle.block.proofs.short.value_of.Statement.{statement}
 use Rattle.block.proofs.short.value_of.Tie as tie

@@ -4,7 +4,7 @@ use mir.Syntax.{w32}
 use mir.Val.{ofZ, toZ}
 use borrow.Author.Needs.{needs}
 use borrow.Author.Tests.{not-false, not-true}
-use Rattle.coefficients.specs.Stages.{directionAnswer}
+use Rattle.prediction.specs.Stages.{directionAnswer}
 use Rattle.coefficients.proofs.HandedLaws.{needed-dcs, needed-none, needed-side}
 use Rattle.coefficients.proofs.handed.needed.Statement.{statement}
 use Rattle.coefficients.proofs.handed.needed.Tie as tie

@@ -11,7 +11,7 @@ use mir.Val.{ofZ}
 use borrow.Kind.Array.{eSInt, good-length}
 use Rattle.numbers.specs.Every.{every}
 use Rattle.numbers.proofs.Words.{fits-ok}
-use Rattle.coefficients.proofs.EveryLaws.{test-done, test-more}
+use Rattle.numbers.proofs.EveryLaws.{test-done, test-more}
 use Rattle.coefficients.proofs.HandedLaws.{zero-bits}
 use Rattle.coefficients.proofs.handed.some_value.Statement.{statement}
 use Rattle.coefficients.proofs.handed.some_value.Tie as tie

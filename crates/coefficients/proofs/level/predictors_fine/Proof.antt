@@ -6,8 +6,8 @@ use mir.Val.{ofZ, toZ}
 use borrow.Author.Needs.{needs}
 use Rattle.numbers.proofs.Tests.{flag-passes, flag-refuses}
 use Rattle.coefficients.proofs.level.predictors_fine.Statement.{statement}
-use Rattle.coefficients.specs.Level.{valuesFine}
-use Rattle.coefficients.specs.declared.predictor.BlockPredictors.{BlockPredictors}
+use Rattle.prediction.specs.Refusal.{valuesFine}
+use Rattle.prediction.specs.declared.predictor.BlockPredictors.{BlockPredictors}
 use Rattle.ranges.specs.Range.{dcFine, quantiserFine}
 use Rattle.coefficients.proofs.level.predictors_fine.Tie as tie
 

@@ -9,7 +9,7 @@ use borrow.Author.Tests.{eq-eqb, ne-eqb}
 use Rattle.numbers.specs.Every.{every}
 use Rattle.numbers.proofs.Words.{held}
 use Rattle.ranges.specs.Range.{levelFine}
-use Rattle.coefficients.proofs.EveryLaws.{test-done, test-more}
+use Rattle.numbers.proofs.EveryLaws.{test-done, test-more}
 use Rattle.coefficients.proofs.short.all_fine.Statement.{statement}
 use Rattle.coefficients.proofs.short.all_fine.Tie as tie
 

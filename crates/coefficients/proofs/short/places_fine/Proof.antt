@@ -6,7 +6,7 @@ use borrow.Author.Needs.{needs}
 use Rattle.numbers.proofs.Tests.{flag-passes, flag-refuses}
 use Rattle.numbers.proofs.Words.{held}
 use Rattle.ranges.specs.Range.{differenceFine}
-use Rattle.coefficients.specs.UpTo.{upTo}
+use Rattle.scan_rows.specs.UpTo.{upTo}
 use Rattle.coefficients.proofs.short.places_fine.Statement.{statement}
 use Rattle.coefficients.proofs.short.places_fine.Tie as tie
 

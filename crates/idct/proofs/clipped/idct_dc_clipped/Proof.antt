@@ -13,11 +13,11 @@ use Rattle.numbers.specs.Grid.{build}
 use Rattle.numbers.specs.Limit.{clampZ}
 use Rattle.ranges.proofs.DepthLaws.{samples-never}
 use Rattle.ranges.specs.Range.{depthFine, highest, lowest}
-use Rattle.idct.specs.Clipped.{dcBlock}
+use Rattle.rounding.specs.Rounding.{wholeOf}
 use Rattle.idct.specs.Limits.{inBounds}
 use Rattle.idct.proofs.ClippedArms.{all-taken, depth-lost, limits-told, no-depth, no-value, top-told, value-test}
-use Rattle.idct.proofs.DcAlone.{dcValue, dc-bounded, dc-samples-are}
-use Rattle.idct.proofs.ShortBlocks.{dc-alone, dc-modest, dc-value}
+use Rattle.idct.proofs.DcAlone.{dcValue, dc-bounded, dc-samples-are, dc-value}
+use Rattle.idct.proofs.ShortBlocks.{dc-modest}
 use Rattle.idct.proofs.clipped.idct_dc_clipped.Statement.{statement}
 use Rattle.idct.proofs.clipped.idct_dc_clipped.Tie as tie
 
@@ -48,7 +48,7 @@ tested c =
     c .inside .ensures ∙ value-test (s .args .bits-per-pixel) _ _ (l .1) (l .2) (s .args .dc) _ (toZ-ofZ {w = w32} {z = s .args .dc} (s .fits .dc))
 
 -- the value at every place
-value : (c : tie.After-dc-pass2) → let s = c .before .before .before .before .before .before .before .before .before .before .before .before .before in c .dc-pass2 .result ≡ dcValue (dcBlock (s .args .dc))
+value : (c : tie.After-dc-pass2) → let s = c .before .before .before .before .before .before .before .before .before .before .before .before .before in c .dc-pass2 .result ≡ dcValue (s .args .dc)
 value c =
     let s = c .before .before .before .before .before .before .before .before .before .before .before .before .before in
     dc-value (s .args .dc) _ (c .before .dc-pass .result) (c .dc-pass2 .result) (toZ-ofZ {w = w32} {z = s .args .dc} (s .fits .dc)) (c .before .dc-pass .ensures) (c .dc-pass2 .ensures)
@@ -87,16 +87,13 @@ dc-pass-requires c κs = search needs
 dc-pass-requires-2 : tie.Need-dc-pass-requires-2
 dc-pass-requires-2 c κs = search needs
 
-round-to-integer-requires : tie.Need-round-to-integer-requires
-round-to-integer-requires c κs =
+ruled-sample-requires : tie.Need-ruled-sample-requires
+ruled-sample-requires c κs =
     let n = c .before .before .before .before .before .before .before in
     let t = n .before .before in
     let s = t .before .before .before .before in
     let h = sym (tested (n .before)) ∙ not-false _ (n .if1 .left) in
-    dc-bounded (dcBlock (s .args .dc)) (dc-alone (s .args .dc)) (c .dc-pass2 .result) (dc-modest (s .args .bits-per-pixel) (s .args .dc) h (limits t .0)) (value c)
-
-clamp-requires : tie.Need-clamp-requires
-clamp-requires c κs = search needs
+    dc-bounded (s .args .dc) (c .dc-pass2 .result) (dc-modest (s .args .bits-per-pixel) (s .args .dc) h (limits t .0)) (value c)
 
 enum-told-2 : tie.Need-enum-told-2
 enum-told-2 c = search needs
@@ -111,19 +108,17 @@ returns-2 c =
 returns-3 : tie.Need-returns-3
 unfolding build
 returns-3 c =
-    let m = c .before in
-    let r = m .before in
+    let r = c .before in
     let v = r .before in
     let u = v .before .before .before in
     let n = u .before .before .before .before in
     let t = n .before .before in
     let s = t .before .before .before .before in
     let d = s .args .bits-per-pixel in
-    let dc = s .args .dc in
-    let w = held (r .round-to-integer .result) (r .round-to-integer .ok) ∙ r .round-to-integer .ensures in (
+    let dc = s .args .dc in (
       all-taken d (inBounds (d + 3) dc) (limits t .0) (sym (tested (n .before)) ∙ not-false _ (n .if1 .left)),
-      dc-samples-are (dcBlock dc) (dc-alone dc) (pos 0) (highest d) (s .args .rounding) (v .dc-pass2 .result) _ (value v)
-          (held (m .clamp .result) (m .clamp .ok) ∙ m .clamp .ensures ∙ (λ i. clampZ (w i) (pos 0) (top u i))),
+      dc-samples-are dc (pos 0) (highest d) (s .args .rounding) (v .dc-pass2 .result) _ (value v)
+          (held (r .ruled-sample .result) (r .ruled-sample .ok) ∙ r .ruled-sample .ensures ∙ (λ i. clampZ (wholeOf (s .args .rounding) (v .dc-pass2 .result)) (pos 0) (top u i))),
     )
 
 returns-4 : tie.Need-returns-4
@@ -147,8 +142,7 @@ idct-dc-clipped-spec =
     int-to-float-dc-pass
     dc-pass-requires
     dc-pass-requires-2
-    round-to-integer-requires
-    clamp-requires
+    ruled-sample-requires
     enum-told-2
     returns-2
     returns-3

@@ -11,7 +11,7 @@ use mir.Val.{ofZ, toZ}
 use borrow.Author.Needs.{needs}
 use Rattle.numbers.specs.Every.{every}
 use Rattle.ranges.specs.Range.{within}
-use Rattle.idct.proofs.Scans.{adds, has-all}
+use Rattle.numbers.proofs.EveryLaws.{test-done, test-more}
 use Rattle.idct.proofs.limits.row_within.Statement.{statement}
 use Rattle.idct.proofs.limits.row_within.Tie as tie
 
@@ -44,14 +44,14 @@ loop-again c =
     let l = c .before .before .before .loop in
     let a = c .before .before .before .before .args in
     let k = c .before .inside-arg .given in
-    (omega arith, adds (within (toZ w32 (ofZ w32 (a .lo))) (toZ w32 (ofZ w32 (a .hi)))) (pos 0) (a .t1) (l .u) (l .fine) (c .inside .result) (omega arith) (l .inv .1) (c .inside .ensures ∙ ap (within (toZ w32 (ofZ w32 (a .lo))) (toZ w32 (ofZ w32 (a .hi)))) (search needs)))
+    (omega arith, test-more (within (toZ w32 (ofZ w32 (a .lo))) (toZ w32 (ofZ w32 (a .hi)))) (pos 0) (a .t1) _ (l .u) (l .fine) (c .inside .result) (omega arith) (l .inv .1) (c .inside .ensures ∙ ap (within (toZ w32 (ofZ w32 (a .lo))) (toZ w32 (ofZ w32 (a .hi)))) (search needs)))
 
 returns : tie.Need-returns Inv-loop μ-loop
 returns c =
     let s = c .before .before in
     let lo = toZ-ofZ {w = w32} {z = s .args .lo} (s .fits .lo) in
     let hi = toZ-ofZ {w = w32} {z = s .args .hi} (s .fits .hi) in
-    has-all (within (toZ w32 (ofZ w32 (s .args .lo))) (toZ w32 (ofZ w32 (s .args .hi)))) (pos 0) (s .args .t1) (c .before .loop .u) (c .before .loop .fine) (omega arith) (c .before .loop .inv .1)
+    test-done (within (toZ w32 (ofZ w32 (s .args .lo))) (toZ w32 (ofZ w32 (s .args .hi)))) (pos 0) (s .args .t1) _ (c .before .loop .u) (c .before .loop .fine) (omega arith) (c .before .loop .inv .1)
     ∙ (λ i. every (within (lo i) (hi i)) (s .args .t1))
 
 pub row-within-spec : {M : Type 1} → statement M

@@ -1,32 +1,23 @@
 -- `idct::short::kept_rows` meets its contract, one row a turn. Assumes nothing.
-use mathlib.Core.Bool.{true}
-use mathlib.Core.List.{List, []}
 use mathlib.Core.Logic.{⊎-elim}
-use mathlib.Core.Path.{_≡_, refl, sym, subst, _∙_}
+use mathlib.Core.Path.{_≡_, sym, subst, _∙_}
 use Prim.Native.Nat.{ℕ, _+_, _-_, _≤_, _<_}
 use native.Mathlib.Omega.{arith}
-use lib.IntN.{ℤ, pos}
-use lib.ListN.{drop, getD, length}
-use mir.Facts.{toZ-ofZ}
-use mir.Syntax.{w32}
-use mir.Val.{ofZ, toZ}
-use borrow.Author.Tests.{not-false, not-true}
-use Rattle.numbers.specs.Every.{every}
-use Rattle.ranges.specs.Range.{within}
+use borrow.Author.Tests.{not-false}
+use Rattle.numbers.proofs.Tests.{true-T}
 use Rattle.idct.specs.ShortWays.{Kept}
-use Rattle.idct.proofs.KeptLaws.{kept-more, kept-none, kept-same, kept-skip, zeros-within}
-use Rattle.idct.proofs.Scans.{ends, goes-on, is-T, stops}
+use Rattle.idct.proofs.KeptLaws.{kept-more, kept-none, kept-same, kept-skip}
 use Rattle.idct.proofs.short.kept_rows.Statement.{statement}
 use Rattle.idct.proofs.short.kept_rows.Tie as tie
 
 abbrev Inv-loop : tie.InvT-loop
-Inv-loop f table least most terms₀ which₀ n₀ v₀ terms which n v = (v ≤ 8) × Kept f v terms which n × (every (every (within (toZ w32 least) (toZ w32 most))) f ≡ every (every (within (toZ w32 least) (toZ w32 most))) (drop v f))
+Inv-loop f table terms₀ which₀ n₀ v₀ terms which n v = (v ≤ 8) × Kept f v terms which n
 
 abbrev μ-loop : tie.MeasureT-loop
-μ-loop f table least most terms₀ which₀ n₀ v₀ terms which n v = 8 - v
+μ-loop f table terms₀ which₀ n₀ v₀ terms which n v = 8 - v
 
 loop-holds : tie.Need-loop-holds Inv-loop μ-loop
-loop-holds c = (omega arith, kept-none (c .args .f .now) _ _ (c .pre .2) (c .pre .3), refl)
+loop-holds c = (omega arith, kept-none (c .args .f .now) _ _ (c .pre .2) (c .pre .3))
 
 mul-row : tie.Need-mul-row Inv-loop μ-loop
 mul-row c = omega arith
@@ -37,32 +28,8 @@ element-copy-out-row c = omega arith
 zero-row-requires : tie.Need-zero-row-requires Inv-loop μ-loop
 zero-row-requires c κs = tt
 
-row-within-requires : tie.Need-row-within-requires Inv-loop μ-loop
-row-within-requires c κs = tt
-
--- the limits, read back
-back : (c : tie.Start Inv-loop μ-loop) (l : List (List ℤ)) → every (every (within (toZ w32 (ofZ w32 (c .args .least))) (toZ w32 (ofZ w32 (c .args .most))))) l ≡ every (every (within (c .args .least) (c .args .most))) l
-back c l =
-    let lo = toZ-ofZ {w = w32} {z = c .args .least} (c .fits .least) in
-    let hi = toZ-ofZ {w = w32} {z = c .args .most} (c .fits .most) in
-    λ i. every (every (within (lo i) (hi i))) l
-
-zero-back : (c : tie.Start Inv-loop μ-loop) → within (toZ w32 (ofZ w32 (c .args .least))) (toZ w32 (ofZ w32 (c .args .most))) (pos 0) ≡ within (c .args .least) (c .args .most) (pos 0)
-zero-back c =
-    let lo = toZ-ofZ {w = w32} {z = c .args .least} (c .fits .least) in
-    let hi = toZ-ofZ {w = w32} {z = c .args .most} (c .fits .most) in
-    λ i. within (lo i) (hi i) (pos 0)
-
-returns : tie.Need-returns Inv-loop μ-loop
-returns c =
-    let i = c .before .before .before .before .before in
-    let o = i .before in
-    let s = o .before in
-    let l = s .args .f .now in
-    sym (stops (every (within (toZ w32 (ofZ w32 (s .args .least))) (toZ w32 (ofZ w32 (s .args .most))))) [] l (o .loop .v) (omega (arith, s .pre .1, i .loop-test .taken)) (o .loop .inv .2) (sym (c .before .row-within .ensures) ∙ not-true _ (c .if2 .taken)) ∙ back s l)
-
 row-terms-requires : tie.Need-row-terms-requires Inv-loop μ-loop
-row-terms-requires c κs = c .before .before .before .before .before .before .before .pre .0
+row-terms-requires c κs = c .before .before .before .before .before .pre .0
 
 mul-more : tie.Need-mul-more Inv-loop μ-loop
 mul-more c = omega arith
@@ -90,32 +57,20 @@ loop-again c =
     let t = c .before in
     let i = t .before .before in
     let o = i .before in
-    let s = o .before in
-    let l = s .args .f .now in
-    let v = o .loop .v in
-    let lo = toZ w32 (ofZ w32 (s .args .least)) in
-    let hi = toZ w32 (ofZ w32 (s .args .most)) in
-    let h : v < length l = omega (arith, s .pre .1, i .loop-test .taken) in
-    let zero = zero-back s ∙ s .pre .4 in
-    let more : every (within lo hi) (getD l v []) ≡ true → every (every (within lo hi)) l ≡ every (every (within lo hi)) (drop (v + 1) l) = goes-on (every (within lo hi)) [] l v h (o .loop .inv .2) in (
+    let l = o .before .args .f .now in
+    let v = o .loop .v in (
       omega arith,
       ⊎-elim
-          (λ w. kept-same l (v + 1) (c .if1 .terms) _ (c .if1 .which) _ (c .if1 .n) _ (w .4) (w .5) (w .6) (kept-more l v (o .loop .terms) (o .loop .which) (o .loop .n) (w .3 .result) (w .3 .ensures) (i .loop-test .taken) (o .loop .inv .1)))
-          (λ w. kept-same l (v + 1) (c .if1 .terms) _ (c .if1 .which) _ (c .if1 .n) _ (w .1) (w .2) (w .3) (kept-skip l v (o .loop .terms) (o .loop .which) (o .loop .n) (is-T _ (sym (t .zero-row .ensures) ∙ not-false _ (w .0 .left))) (o .loop .inv .1)))
-          (c .if1 .came),
-      ⊎-elim
-          (λ w. more (sym (w .1 .ensures) ∙ not-false _ (w .2 .left)))
-          (λ w. more (zeros-within lo hi (getD l v []) zero (sym (t .zero-row .ensures) ∙ not-false _ (w .0 .left))))
+          (λ w. kept-same l (v + 1) (c .if1 .terms) _ (c .if1 .which) _ (c .if1 .n) _ (w .2) (w .3) (w .4) (kept-more l v (o .loop .terms) (o .loop .which) (o .loop .n) (w .1 .result) (w .1 .ensures) (i .loop-test .taken) (o .loop .inv .1)))
+          (λ w. kept-same l (v + 1) (c .if1 .terms) _ (c .if1 .which) _ (c .if1 .n) _ (w .1) (w .2) (w .3) (kept-skip l v (o .loop .terms) (o .loop .which) (o .loop .n) (true-T _ (sym (t .zero-row .ensures) ∙ not-false _ (w .0 .left))) (o .loop .inv .1)))
           (c .if1 .came),
     )
 
-returns-2 : tie.Need-returns-2 Inv-loop μ-loop
-returns-2 c =
+returns : tie.Need-returns Inv-loop μ-loop
+returns c =
     let o = c .before in
-    let s = o .before in
-    let l = s .args .f .now in
     let h : o .loop .v ≡ 8 = omega (arith, o .loop .inv .0, c .loop-test .left) in
-    (sym (ends (every (within (toZ w32 (ofZ w32 (s .args .least))) (toZ w32 (ofZ w32 (s .args .most))))) [] l (o .loop .v) (omega (arith, s .pre .1, c .loop-test .left)) (o .loop .inv .2) ∙ back s l), subst (λ (v : ℕ). Kept l v (o .loop .terms) (o .loop .which) (o .loop .n)) h (o .loop .inv .1))
+    subst (λ (v : ℕ). Kept (o .before .args .f .now) v (o .loop .terms) (o .loop .which) (o .loop .n)) h (o .loop .inv .1)
 
 pub kept-rows-spec : {M : Type 1} → statement M
 kept-rows-spec =
@@ -127,8 +82,6 @@ kept-rows-spec =
     mul-row
     element-copy-out-row
     zero-row-requires
-    row-within-requires
-    returns
     row-terms-requires
     mul-more
     element-set-from-more
@@ -138,4 +91,4 @@ kept-rows-spec =
     add-v
     loop-less
     loop-again
-    returns-2)
+    returns)

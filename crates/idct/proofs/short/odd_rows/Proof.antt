@@ -14,10 +14,10 @@ use borrow.Author.Tests.{not-false, not-true}
 use Rattle.numbers.proofs.Every.{every-fails}
 use Rattle.numbers.specs.Every.{every}
 use Rattle.ranges.specs.Range.{within}
-use Rattle.idct.specs.EvenOdd.{Half}
+use Rattle.exact_transform.specs.EvenOdd.{Half}
 use Rattle.idct.proofs.EvenOddLaws.{half-kept-at, half-kept-none, half-kept-same, half-skip-at, within-at}
 use Rattle.idct.proofs.KeptLaws.{zeros-within}
-use Rattle.idct.proofs.Scans.{is-T}
+use Rattle.numbers.proofs.Tests.{true-T}
 use Rattle.idct.proofs.short.odd_rows.Statement.{statement}
 use Rattle.idct.proofs.short.odd_rows.Tie as tie
 
@@ -122,7 +122,7 @@ loop-again c =
       omega arith,
       ⊎-elim
           (λ w. half-kept-same 1 l (k + 1) (c .if1 .terms) _ (c .if1 .which) _ (c .if1 .n) _ (w .6) (w .7) (w .8) (half-kept-at 1 l k v z (o .loop .terms) (o .loop .which) (o .loop .n) _ (w .5 .ensures) (i .loop-test .taken) (omega arith) (o .loop .inv .1)))
-          (λ w. half-kept-same 1 l (k + 1) (c .if1 .terms) _ (c .if1 .which) _ (c .if1 .n) _ (w .1) (w .2) (w .3) (half-skip-at 1 l k v z (o .loop .terms) (o .loop .which) (o .loop .n) (is-T _ (sym (t .zero-row .ensures) ∙ not-false _ (w .0 .left))) (o .loop .inv .1)))
+          (λ w. half-kept-same 1 l (k + 1) (c .if1 .terms) _ (c .if1 .which) _ (c .if1 .n) _ (w .1) (w .2) (w .3) (half-skip-at 1 l k v z (o .loop .terms) (o .loop .which) (o .loop .n) (true-T _ (sym (t .zero-row .ensures) ∙ not-false _ (w .0 .left))) (o .loop .inv .1)))
           (c .if1 .came),
       ⊎-elim
           (λ w. more (sym (w .1 .ensures) ∙ not-false _ (w .2 .left)))

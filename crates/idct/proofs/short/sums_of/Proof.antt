@@ -4,7 +4,7 @@ use Prim.Native.Nat.{ℕ, _-_, _≤_, _<_}
 use native.Mathlib.Omega.{arith}
 use lib.ListN.{getD}
 use Rattle.numbers.specs.Grid.{build}
-use Rattle.idct.specs.ShortWays.{sumOfKept}
+use Rattle.exact_transform.specs.EvenOdd.{sumOfKept}
 use Rattle.idct.proofs.EvenOddLaws.{half-cosine-at}
 use Rattle.idct.proofs.KeptLaws.{sums-none, sums-one-more}
 use Rattle.idct.proofs.short.sums_of.Statement.{statement}

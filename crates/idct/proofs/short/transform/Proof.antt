@@ -6,9 +6,9 @@ use mir.Syntax.{w32}
 use borrow.Author.Needs.{needs}
 use Rattle.numbers.specs.Every.{every}
 use Rattle.ranges.specs.Range.{within}
-use Rattle.idct.specs.EvenOdd.{Half}
-use Rattle.idct.proofs.EvenOddArms.{after-slow, all-within, half-kept, half-not, half-within}
-use Rattle.idct.proofs.EvenOddBounds.{both-bounded, near-are}
+use Rattle.exact_transform.specs.EvenOdd.{Half}
+use Rattle.exact_transform.proofs.EvenOddBounds.{both-bounded}
+use Rattle.idct.proofs.EvenOddArms.{all-within, half-kept, half-not, half-within, near-are, ruled-between}
 use Rattle.idct.proofs.short.transform.Statement.{statement}
 use Rattle.idct.proofs.short.transform.Tie as tie
 
@@ -66,10 +66,13 @@ returns c =
     let m = n .before .before .before .before .before .before in
     let s = m .before .before .before .before .before in
     let e = c .before .near-samples .ensures in
-    (sym (fine n), near-are (s .args .f .now) (s .pre .3 (fine n)) _ _ _ _ _ _ (evens m) (odds n) (s .args .rounding) _ (s .args .hi) _ (toZ-ofZ {w = w32} {z = s .args .hi} (s .fits .hi)) (e .0) (e .1 (c .if1 .taken)))
+    (sym (fine n), near-are (s .args .f .now) (s .pre .3 (fine n)) _ _ _ _ _ _ (evens m) (odds n) (s .args .rounding) _ _ (s .args .lo) (s .args .hi) _ (toZ-ofZ {w = w32} {z = s .args .lo} (s .fits .lo)) (toZ-ofZ {w = w32} {z = s .args .hi} (s .fits .hi)) (e .0) (e .1 (c .if1 .taken)))
 
 slow-requires : tie.Need-slow-requires
-slow-requires c κs = search needs
+slow-requires c κs =
+    let n = c .before .before .before .before .before .before .before .before .before in
+    let s = n .before .before .before .before .before .before .before .before .before .before .before in
+    (s .pre .1, s .pre .3 (fine n))
 
 returns-2 : tie.Need-returns-2
 returns-2 c =
@@ -87,7 +90,7 @@ returns-4 : tie.Need-returns-4
 returns-4 c =
     let n = c .before .before .before .before .before .before .before .before .before .before in
     let s = n .before .before .before .before .before .before .before .before .before .before .before in
-    after-slow (s .args .f .now) (s .args .rounding) _ _ (s .args .least) (s .args .most) _ (s .args .hi) (c .slow .result) _ _ _ (toZ-ofZ {w = w32} {z = s .args .least} (s .fits .least)) (toZ-ofZ {w = w32} {z = s .args .most} (s .fits .most)) (toZ-ofZ {w = w32} {z = s .args .hi} (s .fits .hi)) (fine n) (c .slow .ensures)
+    (sym (fine n), ruled-between (s .args .f .now) (s .args .rounding) _ _ (s .args .lo) (s .args .hi) _ (toZ-ofZ {w = w32} {z = s .args .lo} (s .fits .lo)) (toZ-ofZ {w = w32} {z = s .args .hi} (s .fits .hi)) (c .slow .ensures))
 
 pub transform-spec : {M : Type 1} → statement M
 transform-spec =

@@ -4,7 +4,7 @@ use Prim.Native.Nat.{ℕ, _+_, _-_, _≤_, _<_}
 use native.Mathlib.Omega.{arith}
 use lib.ListN.{getD}
 use Rattle.numbers.specs.Grid.{build}
-use Rattle.idct.specs.ShortWays.{sumOfKept}
+use Rattle.exact_transform.specs.EvenOdd.{sumOfKept}
 use Rattle.idct.proofs.KeptLaws.{cosine-at, sums-none, sums-one-more}
 use Rattle.idct.proofs.short.two_rows.Statement.{statement}
 use Rattle.idct.proofs.short.two_rows.Tie as tie
@@ -41,13 +41,13 @@ mul-add-row : tie.Need-mul-add-row Inv-loop μ-loop
 mul-add-row c = omega (arith, place (c .before .before))
 
 mul-add-row-2 : tie.Need-mul-add-row-2 Inv-loop μ-loop
-mul-add-row-2 c = omega arith
+mul-add-row-2 c = omega (arith, place (c .before .before))
 
 index-1-add-row : tie.Need-index-1-add-row Inv-loop μ-loop
-index-1-add-row c = place (c .before .before)
+index-1-add-row c = omega (arith, place (c .before .before))
 
 index-2-add-row : tie.Need-index-2-add-row Inv-loop μ-loop
-index-2-add-row c = omega arith
+index-2-add-row c = omega (arith, place (c .before .before))
 
 add-row-requires : tie.Need-add-row-requires Inv-loop μ-loop
 add-row-requires c κs = tt

@@ -10,10 +10,10 @@ use lib.IntN.{ℤ}
 use lib.ListN.{length}
 use Rattle.bits.specs.declared.cursor.Cursor.{Cursor}
 use Rattle.samples.specs.Samples.{samplesAfter}
-use Rattle.texture.specs.Macroblock.{Parts}
-use Rattle.texture.specs.Reader.{Res}
+use Rattle.sentences.specs.Macroblock.{Parts}
+use Rattle.fields.specs.Reader.{Res}
 use Rattle.block.proofs.RowLaws.{SixRead, six-read, six-refused}
-use Rattle.block.specs.Rows.{blocksAnswer, rowsAfter}
+use Rattle.block_reader.specs.Rows.{blocksAnswer, rowsAfter}
 use Rattle.macroblock.proofs.StateLaws.{StateFine, state-fine}
 use Rattle.macroblock.specs.Answer.{samplesTold, sentenceOf, told}
 use Rattle.macroblock.specs.Header.{patternBy}

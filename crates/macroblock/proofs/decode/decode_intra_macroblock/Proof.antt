@@ -3,7 +3,7 @@ use mathlib.Core.Path.{_≡_, sym, _∙_}
 use borrow.Author.Needs.{needs}
 use denote.Ref.{now}
 use lib.ListN.{length}
-use Rattle.block.specs.declared.error.Checked.the-variants.{Fine}
+use Rattle.assembly.specs.declared.error.Checked.the-variants.{Fine}
 use Rattle.macroblock.proofs.AloneLaws.{refused, whole}
 use Rattle.macroblock.specs.Answer.{stateOf}
 use Rattle.macroblock.proofs.decode.decode_intra_macroblock.Statement.{statement}

@@ -4,7 +4,7 @@ use mathlib.Core.Path.{refl, sym}
 use borrow.Author.Needs.{needs}
 use Rattle.numbers.proofs.OutcomeLaws.{both}
 use Rattle.numbers.proofs.Tests.{flag-passes, flag-refuses}
-use Rattle.block.specs.Outcomes.{checkedOutcome}
+use Rattle.assembly.specs.Outcomes.{checkedOutcome}
 use Rattle.macroblock.proofs.StateLaws.{header-by, header-due}
 use Rattle.macroblock.proofs.header.check_header.Statement.{statement}
 use Rattle.macroblock.proofs.header.check_header.Tie as tie

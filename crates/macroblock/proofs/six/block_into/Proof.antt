@@ -9,13 +9,13 @@ use lib.IntN.{ℤ}
 use Rattle.codes.specs.Component.{componentAt}
 use Rattle.coefficients.specs.Level.{placesFine}
 use Rattle.coefficients.specs.Needed.{numbered}
-use Rattle.coefficients.specs.UpTo.{upTo}
+use Rattle.scan_rows.specs.UpTo.{upTo}
 use Rattle.block.proofs.RebuildLaws.{kept-fine, tests-pass}
-use Rattle.block.specs.Answer.{firstBad}
+use Rattle.assembly.specs.Answer.{firstBad}
 use Rattle.block.specs.Rebuilt.{dcHere, rebuildTests, rebuiltBy, valuesHere}
-use Rattle.block.specs.Values.{samplesOf}
-use Rattle.block.specs.declared.error.Checked.{Checked}
-use Rattle.block.specs.declared.error.Checked.the-variants.{Fine}
+use Rattle.assembly.specs.Values.{samplesOf}
+use Rattle.assembly.specs.declared.error.Checked.{Checked}
+use Rattle.assembly.specs.declared.error.Checked.the-variants.{Fine}
 use Rattle.block.specs.declared.reconstruct.BlockRebuilt.the-variants.{Rebuilt}
 use Rattle.samples.proofs.OutcomeLaws.{block-is-written}
 use Rattle.samples.specs.Samples.{blockAfter}

@@ -9,7 +9,7 @@ use lib.IntN.{ℤ}
 use lib.ListN.{length}
 use Rattle.samples.proofs.TurnLaws.{block-length, turn-none}
 use Rattle.samples.specs.Samples.{blocksAfter, samplesAfter}
-use Rattle.block.proofs.ValueLaws.{quantiser-fine}
+use Rattle.assembly.proofs.ContextLaws.{quantiser-fine}
 use Rattle.coefficients.proofs.NeededLaws.{needed-fine}
 use Rattle.coefficients.specs.Level.{predictorsFine}
 use Rattle.coefficients.specs.Needed.{neededOf, numbered}

@@ -4,9 +4,9 @@ use borrow.Author.Needs.{needs}
 use denote.Ref.{now}
 use lib.ListN.{length}
 use Rattle.numbers.proofs.OutcomeLaws.{also}
-use Rattle.neighbours.specs.Refusals.{recordedOutcome}
-use Rattle.neighbours.proofs.OutcomeLaws.{taken-due}
-use Rattle.neighbours.proofs.RefusalLaws.{beside, taken-below}
+use Rattle.record.specs.Refusals.{recordedOutcome}
+use Rattle.record.proofs.RefusalLaws.{beside}
+use Rattle.neighbours.proofs.TakenLaws.{taken-due}
 use Rattle.neighbours.proofs.predictors.block_predictors.Statement.{statement}
 use Rattle.neighbours.proofs.predictors.block_predictors.Tie as tie
 
@@ -23,22 +23,19 @@ enum-told : tie.Need-enum-told
 enum-told c = search needs
 
 taken-by-requires : tie.Need-taken-by-requires
-taken-by-requires c κs =
-    let t = c .before .before in
-    let a = t .before .args in
-    taken-below (length (now (a .store))) (length (now (a .own))) (a .p) (a .i) (sym (t .check-taken .ensures) ∙ c .enum-told .given .1)
+taken-by-requires c κs = tt
 
 returns : tie.Need-returns
 returns c =
     let t = c .before .before .before .before in
     let a = t .before .args in
-    also recordedOutcome (beside _ _ (sym (t .check-taken .ensures) ∙ c .before .before .answer .given .1) (c .outside .ensures)) (taken-due (length (now (a .store))) (length (now (a .own))) (a .p) (a .i))
+    also recordedOutcome (beside _ _ (sym (t .check-taken .ensures .0) ∙ c .before .before .answer .given .1) (c .outside .ensures)) (taken-due (length (now (a .store))) (length (now (a .own))) (a .p) (a .i))
 
 returns-2 : tie.Need-returns-2
 returns-2 c =
     let t = c .before .before .before in
     let a = t .before .args in
-    also recordedOutcome (beside _ _ (sym (t .check-taken .ensures) ∙ c .before .enum-told .given .1) (c .taken-by .ensures)) (taken-due (length (now (a .store))) (length (now (a .own))) (a .p) (a .i))
+    also recordedOutcome (beside _ _ (sym (t .check-taken .ensures .0) ∙ c .before .enum-told .given .1) (c .taken-by .ensures)) (taken-due (length (now (a .store))) (length (now (a .own))) (a .p) (a .i))
 
 pub block-predictors-spec : {M : Type 1} → statement M
 block-predictors-spec =

@@ -9,9 +9,9 @@ use lib.IntN.{ℤ}
 use borrow.Author.Count.{below-more}
 use Rattle.numbers.proofs.Tests.{flag-passes, flag-refuses}
 use Rattle.coefficients.specs.Level.{predictorsFine}
-use Rattle.neighbours.specs.Record.{recordAt}
+use Rattle.places.specs.declared.place.Place.{Place}
+use Rattle.record.specs.Record.{recordAt}
 use Rattle.neighbours.specs.Neighbours.{aroundBy, neighboursFine, predictors}
-use Rattle.neighbours.specs.declared.place.Place.{Place}
 use Rattle.neighbours.proofs.SideLaws.{all-of-six, one-of-six-not}
 use Rattle.neighbours.proofs.predictors.neighbours_fine.Statement.{statement}
 use Rattle.neighbours.proofs.predictors.neighbours_fine.Tie as tie
@@ -30,7 +30,7 @@ loop-holds : tie.Need-loop-holds Inv-loop μ-loop
 loop-holds c = (omega arith, λ k h. absurd (omega arith))
 
 taken-by-requires : tie.Need-taken-by-requires Inv-loop μ-loop
-taken-by-requires c κs = c .loop-test .taken
+taken-by-requires c κs = tt
 
 predictors-fine-requires : tie.Need-predictors-fine-requires Inv-loop μ-loop
 predictors-fine-requires c κs = tt

@@ -2,7 +2,7 @@
 use mathlib.Core.Path.{ap, _∙_}
 use borrow.Author.Needs.{needs}
 use Rattle.numbers.proofs.Words.{held}
-use Rattle.neighbours.specs.declared.record.Side.{Side}
+use Rattle.record.specs.declared.record.Side.{Side}
 use Rattle.neighbours.proofs.predictors.no_dc.Statement.{statement}
 use Rattle.neighbours.proofs.predictors.no_dc.Tie as tie
 

@@ -1,76 +1,49 @@
 -- `picture::reconstruct::one_block` meets its contract: with what the block needs it is rebuilt as with all that it takes. Assumes nothing.
-use mathlib.Core.List.{List}
-use mathlib.Core.Path.{_≡_, ap, _∙_}
-use Prim.Native.Nat.{ℕ}
-use native.Mathlib.Omega.{arith}
+use mathlib.Core.Path.{_≡_, refl, _∙_}
 use borrow.Author.Needs.{needs}
 use denote.Ref.{now}
 use lib.IntN.{ℤ}
-use Rattle.numbers.specs.Grid.{cell}
+use lib.ListN.{length}
+use Rattle.numbers.proofs.Words.{held}
 use Rattle.codes.specs.Component.{componentAt}
-use Rattle.coefficients.specs.Needed.{numbered}
-use Rattle.samples.specs.Samples.{blockAfter}
-use Rattle.block.specs.Values.{levelsOf, samplesOf, valuesOf}
-use Rattle.neighbours.specs.Neighbours.{aroundBy, predictors}
-use Rattle.neighbours.specs.Record.{withBlock}
-use Rattle.neighbours.specs.declared.refusal.RecordError.{RecordError}
-use Rattle.neighbours.specs.declared.refusal.Recorded.{Recorded}
-use Rattle.neighbours.specs.declared.refusal.Recorded.the-variants.{Done, Refused}
-use Rattle.picture.proofs.TurnLaws.{found, handed-fine, handed-levels}
+use Rattle.block.specs.Rebuilt.{dcHere}
+use Rattle.block.specs.declared.reconstruct.BlockRebuilt.the-variants.{Rebuilt}
+use Rattle.picture.proofs.TurnLaws.{not-refused, rebuilt-is, record-is, same-dc, samples-are}
+use Rattle.picture.specs.Turn.{takenBy}
 use Rattle.picture.proofs.reconstruct.one_block.Statement.{statement}
 use Rattle.picture.proofs.reconstruct.one_block.Tie as tie
 
--- an answer is one and no other
-not-refused : {r : Recorded} {e : RecordError} → r ≡ Done → r ≡ Refused e → ⊥
-not-refused u t = let z : _≡_ {A = ℕ} 0 1 = cc in absurd (omega arith)
+-- the DC that is rebuilt
+abbrev dc : tie.Start → ℤ
+dc s = let a = s .args in dcHere (componentAt (a .i)) (a .ctx) (takenBy (a .ctx) (a .place) (now (a .store)) (now (a .own)) (a .i)) (a .w) (now (a .qfs))
 
--- the numbers that the call leaves
-abbrev numbers : tie.After-predictors-needed → List ℤ
-numbers b = b .predictors-needed .last .1 .1 .1 .1 .1 .0
-
--- the levels by what it needs are those by all that it takes
-same : (b : tie.After-predictors-needed) → let a = b .before .before .before .args in
-    levelsOf (componentAt (a .i)) (a .ctx) (numbered (numbers b)) (now (a .qfs))
-    ≡ levelsOf (componentAt (a .i)) (a .ctx) (predictors (a .ctx .«bits_per_pixel») (a .ctx .«quantiser_scale») (aroundBy (a .place) (now (a .store))) (now (a .own)) (a .i)) (now (a .qfs))
-same b =
+rebuilt : (r : tie.After-reconstruct-up-to) → r .reconstruct-up-to .result ≡ Rebuilt (dc (r .before .before .before .before .before .before .before))
+rebuilt r =
+    let b = r .before .before .before .before in
     let s = b .before .before .before in
     let a = s .args in
-    handed-levels (a .ctx) (a .w) (now (a .store)) (now (a .own)) (a .place) (a .i) (s .pre .0) (s .pre .1) (s .pre .3) (s .pre .4) (s .pre .5) (s .pre .6) _ _ (b .predictors-needed .ensures .0 .1) (componentAt (a .i)) (now (a .qfs)) (s .pre .7)
+    rebuilt-is (a .ctx) (a .w) (a .place) (now (a .store)) (now (a .own)) (now (a .qfs)) (a .i) (a .end) (length (now (a .samples))) (s .pre) _ _ (b .predictors-needed .ensures .0 .1) (r .reconstruct-up-to .ensures .0)
 
 predictors-needed-requires : tie.Need-predictors-needed-requires
 predictors-needed-requires c κs = search needs
 
+reconstruct-up-to-requires : tie.Need-reconstruct-up-to-requires
+reconstruct-up-to-requires c κs = search needs
+
+enum-known-one : tie.Need-enum-known-one
+enum-known-one c = c .match .keys1
+
 enum-told : tie.Need-enum-told
-enum-told c = search needs
-
-enum-told-2 : tie.Need-enum-told-2
-enum-told-2 c = search needs
-
-rebuilt-block-requires : tie.Need-rebuilt-block-requires
-rebuilt-block-requires c κs =
-    let b = c .before .before .before .before .before in
-    let s = b .before .before .before in
-    let a = s .args in (
-      s .pre .0,
-      s .pre .1,
-      s .pre .2,
-      s .pre .3,
-      handed-fine (a .ctx) (a .w) (now (a .store)) (now (a .own)) (a .place) (a .i) (s .pre .0) (s .pre .1) (s .pre .3) (s .pre .4) (s .pre .5) (s .pre .6) _ _ (b .predictors-needed .ensures .0 .1) (s .pre .7),
-      s .pre .8,
-      s .pre .9,
-    )
+enum-told c = c .match .keys2
 
 same-length : tie.Need-same-length
-same-length c = search needs
+same-length c = refl
 
 returns : tie.Need-returns
-returns c =
-    let b = c .before .before in
-    let s = b .before .before .before in
-    let a = s .args in
-    let t = c .enum-told .given .1 in
-    let u = b .predictors-needed .ensures .0 .0 ∙ found (a .ctx) (a .w) (now (a .store)) (now (a .own)) (a .place) (a .i) (s .pre .0) (s .pre .1) (s .pre .3) (s .pre .4) (s .pre .5) (s .pre .6) in
-    absurd (not-refused u t)
+returns c = absurd (not-refused (rebuilt (c .before .before)) (c .enum-told .given .1))
+
+put-requires : tie.Need-put-requires
+put-requires c κs = search needs
 
 same-length-2 : tie.Need-same-length-2
 same-length-2 c = search needs
@@ -80,16 +53,15 @@ same-length-3 c = search needs
 
 returns-2 : tie.Need-returns-2
 returns-2 c =
-    let r = c .before .before in
-    let b = r .before .before .before .before .before .before in
-    let a = b .before .before .before .args in
-    let m = componentAt (a .i) in
-    let e = same b in (
-      r .rebuilt-block .ensures .0,
-      (
-        r .rebuilt-block .ensures .1 .0 ∙ ap (λ (f : List (List ℤ)). withBlock (now (a .own)) (a .i) (cell (valuesOf m (a .ctx) (a .w) f) 0 0) f) e,
-        r .rebuilt-block .ensures .1 .1 ∙ ap (λ (f : List (List ℤ)). blockAfter (a .i) (samplesOf (a .ctx) (valuesOf m (a .ctx) (a .w) f)) (now (a .samples))) e,
-      ),
+    let v = c .before .before in
+    let k = v .before .before .before in
+    let r = k .before .before .before in
+    let b = r .before .before .before .before in
+    let s = b .before .before .before in
+    let a = s .args in
+    let e = b .predictors-needed .ensures .0 .1 in (
+      record-is (a .ctx) (a .w) (a .place) (now (a .store)) (now (a .own)) (now (a .qfs)) (a .i) (a .end) (length (now (a .samples))) (s .pre) _ _ e _ (held (k .before .one .given .0 .0) (k .known-told .given .0 .1) ∙ same-dc (rebuilt r) (k .before .one .given .1)) (r .reconstruct-up-to .ensures .1 .1 .0) (v .put .ensures .0),
+      samples-are (a .ctx) (a .w) (a .place) (now (a .store)) (now (a .own)) (now (a .qfs)) (a .i) (a .end) (length (now (a .samples))) (s .pre) _ _ e (now (a .samples)) _ (r .reconstruct-up-to .ensures .1 .0) (v .put .ensures .1),
     )
 
 pub one-block-spec : {M : Type 1} → statement M
@@ -97,11 +69,12 @@ one-block-spec =
     tie.close
     (tie.spec
     predictors-needed-requires
+    reconstruct-up-to-requires
+    enum-known-one
     enum-told
-    enum-told-2
-    rebuilt-block-requires
     same-length
     returns
+    put-requires
     same-length-2
     same-length-3
     returns-2)

@@ -62,24 +62,24 @@ span-of-requires c κs =
     let k = c .before .before .before .before .before .before in
     let a = k .before .before .before .before .before .before .before .before .before .before .args in
     let d = k .decode-macroblock .ensures in
-    let r = decoded-roomy (a .s .picture) _ (now (a .store)) (sym (d .0) ∙ c .before .before .answer2 .given .1) in
-    (omega arith, subst (λ (n : ℕ). 256 ≤ n) (sym (ap length (d .1 .0) ∙ samples-length (a .s .picture) _ (now (a .store)))) (omega (arith, r)))
+    let r = decoded-roomy (a .s .picture) _ (now (a .store)) (sym (d .answer) ∙ c .before .before .answer2 .given .1) in
+    (omega arith, subst (λ (n : ℕ). 256 ≤ n) (sym (ap length (d .samples) ∙ samples-length (a .s .picture) _ (now (a .store)))) (omega (arith, r)))
 
 span-of-requires-2 : tie.Need-span-of-requires-2
 span-of-requires-2 c κs =
     let k = c .before .before .before .before .before .before .before .before in
     let a = k .before .before .before .before .before .before .before .before .before .before .args in
     let d = k .decode-macroblock .ensures in
-    let r = decoded-roomy (a .s .picture) _ (now (a .store)) (sym (d .0) ∙ c .before .before .before .before .answer2 .given .1) in
-    (omega arith, subst (λ (n : ℕ). 320 ≤ n) (sym (ap length (d .1 .0) ∙ samples-length (a .s .picture) _ (now (a .store)))) (omega (arith, r)))
+    let r = decoded-roomy (a .s .picture) _ (now (a .store)) (sym (d .answer) ∙ c .before .before .before .before .answer2 .given .1) in
+    (omega arith, subst (λ (n : ℕ). 320 ≤ n) (sym (ap length (d .samples) ∙ samples-length (a .s .picture) _ (now (a .store)))) (omega (arith, r)))
 
 span-of-requires-3 : tie.Need-span-of-requires-3
 span-of-requires-3 c κs =
     let k = c .before .before .before .before .before .before .before .before .before .before in
     let a = k .before .before .before .before .before .before .before .before .before .before .args in
     let d = k .decode-macroblock .ensures in
-    let r = decoded-roomy (a .s .picture) _ (now (a .store)) (sym (d .0) ∙ c .before .before .before .before .before .before .answer2 .given .1) in
-    (omega arith, subst (λ (n : ℕ). 384 ≤ n) (sym (ap length (d .1 .0) ∙ samples-length (a .s .picture) _ (now (a .store)))) (omega (arith, r)))
+    let r = decoded-roomy (a .s .picture) _ (now (a .store)) (sym (d .answer) ∙ c .before .before .before .before .before .before .answer2 .given .1) in
+    (omega arith, subst (λ (n : ℕ). 384 ≤ n) (sym (ap length (d .samples) ∙ samples-length (a .s .picture) _ (now (a .store)))) (omega (arith, r)))
 
 mb-line-requires : tie.Need-mb-line-requires
 mb-line-requires c κs = search needs
@@ -99,7 +99,7 @@ returns c =
     let p = a .s .picture in
     let x = input-is k in
     let d = k .decode-macroblock .ensures in
-    let e = sym (c .before .before .before .answer .given .1) ∙ d .0 ∙ ap (λ (y : Input). answerOut p y (now (a .store))) x in (
+    let e = sym (c .before .before .before .answer .given .1) ∙ d .answer ∙ ap (λ (y : Input). answerOut p y (now (a .store))) x in (
       (
         ap (stillDecoded (a .s)) e,
         (
@@ -110,7 +110,7 @@ returns c =
           c .mb-refused .ensures .1,
         ),
       ),
-      (d .1 .0 ∙ ap (λ (y : Input). samplesOut p y (now (a .store))) x, d .1 .1 .0 ∙ ap (λ (y : Input). storeOut p y (now (a .store))) x),
+      (d .samples ∙ ap (λ (y : Input). samplesOut p y (now (a .store))) x, d .store ∙ ap (λ (y : Input). storeOut p y (now (a .store))) x),
     )
 
 same-length-3 : tie.Need-same-length-3
@@ -129,13 +129,13 @@ returns-2 c =
     let p = a .s .picture in
     let x = input-is k in
     let d = k .decode-macroblock .ensures in
-    let after = d .1 .0 ∙ ap (λ (y : Input). samplesOut p y (now (a .store))) x in
+    let after = d .samples ∙ ap (λ (y : Input). samplesOut p y (now (a .store))) x in
     let column = m .before .before .before .before .column-of .ensures in
     let row = m .before .before .before .row-of .ensures in
     let luma = c .before .before .before .before .before .span-of .ensures ∙ ap (λ (l : List ℤ). spanOf (part l 0 256)) after in
     let cb = c .before .before .before .span-of2 .ensures ∙ ap (λ (l : List ℤ). spanOf (part l 256 320)) after in
     let cr = c .before .span-of3 .ensures ∙ ap (λ (l : List ℤ). spanOf (part l 320 384)) after in
-    let e = sym (j .before .answer2 .given .1) ∙ d .0 ∙ ap (λ (y : Input). answerOut p y (now (a .store))) x in (
+    let e = sym (j .before .answer2 .given .1) ∙ d .answer ∙ ap (λ (y : Input). answerOut p y (now (a .store))) x in (
       (
         ap (stillDecoded (a .s)) e,
         (
@@ -145,7 +145,7 @@ returns-2 c =
           c .mb-line .ensures .1,
         ),
       ),
-      (after, d .1 .1 .0 ∙ ap (λ (y : Input). storeOut p y (now (a .store))) x),
+      (after, d .store ∙ ap (λ (y : Input). storeOut p y (now (a .store))) x),
     )
 
 pub decoded-spec : {M : Type 1} → statement M

@@ -1,32 +1,47 @@
 -- `texture::event::read_plain` meets its contract: a code, then its sign or the escape. Assumes nothing.
-use mathlib.Core.Path.{_≡_, ap}
+use mathlib.Core.Path.{_≡_}
 use Prim.Native.Nat.{_<_, ℕ}
 use native.Mathlib.Omega.{arith}
-use lib.ListN.{length}
 use denote.Ref.{now}
 use borrow.Author.Needs.{needs}
 use borrow.Author.Tests.{eq-eqb, ne-eqb}
-use Rattle.codes.proofs.PrefixFree.{vlc-prefix-free, vlc-rows}
-use Rattle.codes.proofs.TableLaws.{prefix-free-as}
+use Rattle.bits.specs.Bits.{bitsFrom}
 use Rattle.codes.specs.Tcoef.{vlcCodes, vlcLens}
-use Rattle.texture.proofs.ChainLaws.{if-not, if-so, number-in, number-is, passed, refused, tables-are}
-use Rattle.texture.proofs.ReadLaws.{code-sound}
+use Rattle.events.proofs.ChainLaws.{answered, if-not, if-so, passed, sign-says}
+use Rattle.events.specs.EventReader.{event, plainEvent}
+use Rattle.events.specs.declared.event.Spelling.the-variants.{Plain}
+use Rattle.fields.proofs.ChainLaws.{First, code-first}
+use Rattle.fields.proofs.ReadLaws.{code-sound}
+use Rattle.fields.proofs.TableLaws.{vlc-code}
+use Rattle.fields.specs.Answer.{codeAnswer}
+use Rattle.fields.specs.Reader.{code}
+use Rattle.fields.specs.declared.error.TextureParseError.the-variants.{InvalidTcoef}
+use Rattle.texture.proofs.CodeLaws.{plain-no-code}
 use Rattle.texture.proofs.event.read_plain.Statement.{statement}
-use Rattle.texture.specs.EventReader.{plainEvent}
-use Rattle.texture.specs.declared.error.TextureParseError.the-variants.{InvalidTcoef}
 use Rattle.texture.proofs.event.read_plain.Tie as tie
 
 -- a row that is not the escape's
 below : (i : ℕ) → i < 103 → (i ≡ 102 → ⊥) → i < 102
 below i h n = omega arith
 
+-- the answer to the code is by the table
+answer : (f : tie.After-read-code) → let a = f .before .before .before .before .before .args in f .read-code .result ≡ codeAnswer (now (a .«data»)) (a .c .«bit_pos») vlcCodes vlcLens 13 103 InvalidTcoef
+answer f =
+    let s = f .before .before .before .before .before in
+    vlc-code (now (s .args .«data»)) (s .args .c .«bit_pos») _ 103 (omega arith) (s .pre .0) (s .pre .1) (f .read-code .ensures .0)
+
+-- the code that was read
+first : (k : tie.After-known-told2) → let f = k .before .before .before in
+    let a = f .before .before .before .before .before .args in
+    let d = now (a .«data») in
+    First d (a .c .«bit_pos») (code vlcCodes vlcLens 13 103 InvalidTcoef (bitsFrom d (a .c .«bit_pos»))) (f .read-code .result) (k .before .g2 .given .0 .0) (k .before .g2 .given .0 .1 .0)
+first k =
+    let f = k .before .before .before in
+    let a = f .before .before .before .before .before .args in
+    code-first (now (a .«data»)) (a .c .«bit_pos») vlcCodes vlcLens 13 103 InvalidTcoef _ (answer f) (k .before .g2 .given .1)
+
 read-code-requires : tie.Need-read-code-requires
-read-code-requires c κs =
-    let p = c .before .before .before .before .pre in
-    let l = vlc-rows in
-    let m = ap length (p .1) in
-    let n = ap length (p .2) in
-    (p .0, omega arith, omega arith, omega arith, omega arith, prefix-free-as 13 vlcCodes vlcLens _ _ (p .1) (p .2) vlc-prefix-free)
+read-code-requires c κs = search needs
 
 enum-known-g : tie.Need-enum-known-g
 enum-known-g c = search needs
@@ -35,64 +50,38 @@ enum-known-g-2 : tie.Need-enum-known-g-2
 enum-known-g-2 c = search needs
 
 read-escape-requires : tie.Need-read-escape-requires
-read-escape-requires c κs =
-    let k = c .before in
-    let start = k .before .before .before .before .before .before .before .before in
-    let d = now (start .args .«data») in
-    let t = start .args .table in
-    let p = start .pre in
-    let f = tables-are d 13 103 InvalidTcoef _ _ (p .1) (p .2) (k .before .before .before .read-code .ensures) in
-    ((number-in d _ _ f (k .before .g2 .given .1), p .0 .1), p .1, p .2, p .3)
+read-escape-requires c κs = (first (c .before) .readable, c .before .before .before .before .before .before .before .before .before .pre)
 
 returns : tie.Need-returns
-unfolding plainEvent
+unfolding event plainEvent
 returns c =
     let k = c .before .before in
-    let start = k .before .before .before .before .before .before .before .before in
-    let d = now (start .args .«data») in
-    let t = start .args .table in
-    let p = start .pre in
-    let f = tables-are d 13 103 InvalidTcoef _ _ (p .1) (p .2) (k .before .before .before .read-code .ensures) in
-    passed d t _ _ _ f (k .before .g2 .given .1)
-    (if-so d t _ _ _ (eq-eqb _ 102 (c .before .if1 .taken)) (c .read-escape .ensures))
-
-cast-read-sign : tie.Need-cast-read-sign
-cast-read-sign c = search needs
+    let a = k .before .before .before .before .before .before .before .before .args in
+    let d = now (a .«data») in
+    answered d (a .c .«bit_pos») _ (first k .in-data) _
+    (passed d (a .table) _ _ _ (first k .says) (k .before .g2 .given .1) (if-so d (a .table) _ _ _ (eq-eqb _ 102 (c .before .if1 .taken)) (c .read-escape .ensures)))
 
 read-sign-requires : tie.Need-read-sign-requires
-read-sign-requires c κs =
-    let k = c .before in
-    let start = k .before .before .before .before .before .before .before .before in
-    let d = now (start .args .«data») in
-    let t = start .args .table in
-    let p = start .pre in
-    let f = tables-are d 13 103 InvalidTcoef _ _ (p .1) (p .2) (k .before .before .before .read-code .ensures) in
-    let q = k .before .g2 .given .1 in
-    let i = code-sound vlcCodes vlcLens 13 103 InvalidTcoef _ (number-is d _ _ f q) .0 in
-    let n = c .if1 .left in
-    ((number-in d _ _ f q, p .0 .1), p .3, below _ i n)
+read-sign-requires c κs = search needs
 
 returns-2 : tie.Need-returns-2
-unfolding plainEvent
 returns-2 c =
-    let start = c .before .before .before .before .before .before .before .before in
-    let d = now (start .args .«data») in
-    let t = start .args .table in
-    let p = start .pre in
-    let f = tables-are d 13 103 InvalidTcoef _ _ (p .1) (p .2) (c .before .before .before .read-code .ensures) in
-    refused d t _ _ _ f (c .before .g .given .1)
+    let f = c .before .before .before in
+    let a = f .before .before .before .before .before .args in
+    plain-no-code (now (a .«data»)) (a .c .«bit_pos») (a .table) _ (c .before .g .given .1) (answer f)
 
 returns-3 : tie.Need-returns-3
-unfolding plainEvent
+unfolding event plainEvent
 returns-3 c =
     let k = c .before .before in
-    let start = k .before .before .before .before .before .before .before .before in
-    let d = now (start .args .«data») in
-    let t = start .args .table in
-    let p = start .pre in
-    let f = tables-are d 13 103 InvalidTcoef _ _ (p .1) (p .2) (k .before .before .before .read-code .ensures) in
-    passed d t _ _ _ f (k .before .g2 .given .1)
-    (if-not d t _ _ _ (ne-eqb _ 102 (c .before .if1 .left)) (c .read-sign .ensures))
+    let s = k .before .before .before .before .before .before .before .before in
+    let a = s .args in
+    let d = now (a .«data») in
+    let x = first k in
+    let i = below _ (code-sound vlcCodes vlcLens 13 103 InvalidTcoef _ (x .read) .0) (c .before .if1 .left) in
+    answered d (a .c .«bit_pos») _ (x .in-data) _
+    (passed d (a .table) _ _ _ (x .says) (k .before .g2 .given .1)
+    (if-not d (a .table) _ _ _ (ne-eqb _ 102 (c .before .if1 .left)) (sign-says d _ (x .readable) _ (a .table) Plain _ i (now (a .events)) (s .pre .2) (c .read-sign .ensures .0))))
 
 pub read-plain-spec : {M : Type 1} → statement M
-read-plain-spec = tie.close (tie.spec read-code-requires enum-known-g enum-known-g-2 read-escape-requires returns cast-read-sign read-sign-requires returns-2 returns-3)
+read-plain-spec = tie.close (tie.spec read-code-requires enum-known-g enum-known-g-2 read-escape-requires returns read-sign-requires returns-2 returns-3)

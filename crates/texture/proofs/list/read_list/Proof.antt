@@ -7,13 +7,12 @@ use mir.Facts.{toZ-ofZ}
 use denote.Ref.{now}
 use borrow.Author.Needs.{needs}
 use Rattle.bits.specs.Bits.{bitsFrom}
+use Rattle.events.specs.Event.{levelOf, runOf}
+use Rattle.events.specs.declared.event.AcEvent.{AcEvent}
 use Rattle.numbers.proofs.Words.{fits-mag}
-use Rattle.texture.proofs.LoopLaws.{rest, Held, Turn, behind-no, ended, ended-is, put-held, rest-last, rest-more, rest-no, rest-start, startOf, turn}
+use Rattle.texture.proofs.LoopLaws.{rest, Held, Turn, ended, ended-is, put-held, rest-last, rest-more, rest-no, rest-start, startOf, turn, turn-no}
 use Rattle.texture.proofs.list.read_list.Statement.{statement}
-use Rattle.texture.specs.Inside.{State, listedOf, putOf, saidEvent, stateOf}
-use Rattle.texture.specs.Event.{levelOf, runOf}
-use Rattle.texture.specs.EventReader.{event}
-use Rattle.texture.specs.declared.event.AcEvent.{AcEvent}
+use Rattle.texture.specs.Inside.{State, listedOf, putOf, stateOf}
 use Rattle.texture.proofs.list.read_list.Tie as tie
 
 abbrev Inv-loop : tie.InvT-loop
@@ -25,11 +24,15 @@ abbrev μ-loop : tie.MeasureT-loop
 μ-loop «data» reversible table codes lens events first qfs₀ l₀ at₀ qfs l at = 8 * length «data» - at .«bit_pos»
 
 -- the turn at an event that was read
-here : (k : tie.After-known-told2 Inv-loop μ-loop) → let a = k .before .before .before .before .before .before .before .before .before .args in
-    Turn (now (a .«data»)) (a .reversible) (a .table) (k .before .before .before .before .loop .at .«bit_pos») (k .before .e2 .given .0 .0) (k .before .e2 .given .0 .1 .0)
+here : (k : tie.After-known-told2 Inv-loop μ-loop) → let l = k .before .before .before .before in
+    let a = l .before .before .before .before .before .args in
+    Turn (now (a .«data»)) (a .reversible) (a .table) (l .loop .at .«bit_pos») (k .before .e2 .given .0 .0) (k .before .e2 .given .0 .1 .0)
 here k =
-    let a = k .before .before .before .before .before .before .before .before .before .args in
-    turn (now (a .«data»)) (a .reversible) (a .table) (k .before .before .before .before .loop .at .«bit_pos») _ (k .before .before .before .read-event .ensures) (k .before .e2 .given .1)
+    let r = k .before .before .before in
+    let l = r .before in
+    let s = l .before .before .before .before .before in
+    let a = s .args in
+    turn (now (a .«data»)) (a .reversible) (a .table) (l .loop .at .«bit_pos») (l .loop .inv .0) (s .pre .0 .1) _ (r .read-event .ensures) (k .before .e2 .given .1)
 
 -- the state before it and after it
 abbrev before : tie.After-put Inv-loop μ-loop → State
@@ -58,7 +61,7 @@ loop-holds : tie.Need-loop-holds Inv-loop μ-loop
 loop-holds c = let p = c .before .before .before .before .pre in (p .0 .0, record { place-le = let h = p .2 in omega arith; bad-le = omega arith; long = refl }, refl)
 
 read-event-requires : tie.Need-read-event-requires Inv-loop μ-loop
-read-event-requires c κs = let p = c .before .before .before .before .before .pre in ((c .loop .inv .0, p .0 .1), p .1)
+read-event-requires c κs = c .before .before .before .before .before .pre .1
 
 enum-known-e : tie.Need-enum-known-e Inv-loop μ-loop
 enum-known-e c = search needs
@@ -69,13 +72,13 @@ refusal-requires c κs = search needs
 returns : tie.Need-returns Inv-loop μ-loop
 returns c =
     let k = c .before in
-    let start = k .before .before .before .before .before .before .before .before .before in
-    let a = start .args in
+    let r = k .before .before .before in
+    let l = r .before .loop in
+    let s = r .before .before .before .before .before .before in
+    let a = s .args in
     let d = now (a .«data») in
-    let l = k .before .before .before .before .loop in
     let b = bitsFrom d (l .at .«bit_pos») in
-    let r = k .before .before .before .read-event .ensures in
-    let q = behind-no (a .table) (event (a .reversible) b) (sym (r .is) ∙ ap (saidEvent d) (k .before .e .given .1)) in
+    let q = turn-no d (a .reversible) (a .table) (l .at .«bit_pos») (l .inv .0) (s .pre .0 .1) _ (r .read-event .ensures) (k .before .e .given .1) in
     c .refusal .ensures
     ∙ ap (listedOf d) (sym (rest-no (a .reversible) (a .table) (stateOf (l .l) (l .qfs)) b q) ∙ sym (l .inv .2) ∙ rest-start (a .reversible) (a .table) (a .first) (bitsFrom d (a .c .«bit_pos»)))
 
@@ -93,16 +96,15 @@ returns-2 c =
     let p = c .before .before in
     let k = p .before .before .before in
     let t = here k in
-    let start = k .before .before .before .before .before .before .before .before .before in
-    let a = start .args in
+    let l = k .before .before .before .before in
+    let a = l .before .before .before .before .before .args in
     let d = now (a .«data») in
-    let l = k .before .before .before .before .loop in
     let next = k .before .e2 .given .0 .1 .0 in
     c .close .ensures ∙ ended-is d (after p) next (t .inside)
     ∙ ap (listedOf d)
     (ap (λ (x : State). ended x (bitsFrom d (next .«bit_pos»))) (state-is p)
-    ∙ sym (rest-last (a .reversible) (a .table) (before p) (bitsFrom d (l .at .«bit_pos»)) (t .e) (bitsFrom d (next .«bit_pos»)) (t .read) (ap (λ (v : AcEvent). v .last) (t .is) ∙ c .before .if1 .taken))
-    ∙ sym (l .inv .2) ∙ rest-start (a .reversible) (a .table) (a .first) (bitsFrom d (a .c .«bit_pos»)))
+    ∙ sym (rest-last (a .reversible) (a .table) (before p) (bitsFrom d (l .loop .at .«bit_pos»)) (t .e) (bitsFrom d (next .«bit_pos»)) (t .read) (ap (λ (v : AcEvent). v .last) (t .is) ∙ c .before .if1 .taken))
+    ∙ sym (l .loop .inv .2) ∙ rest-start (a .reversible) (a .table) (a .first) (bitsFrom d (a .c .«bit_pos»)))
 
 loop-less : tie.Need-loop-less Inv-loop μ-loop
 loop-less c = here (c .before .before .before .before) .less
@@ -112,15 +114,14 @@ loop-again c =
     let p = c .before in
     let k = p .before .before .before in
     let t = here k in
-    let start = k .before .before .before .before .before .before .before .before .before in
-    let a = start .args in
+    let l = k .before .before .before .before in
+    let a = l .before .before .before .before .before .args in
     let d = now (a .«data») in
-    let l = k .before .before .before .before .loop in
     let next = k .before .e2 .given .0 .1 .0 in (
       t .inside,
       held-then p,
-      l .inv .2
-          ∙ rest-more (a .reversible) (a .table) (before p) (bitsFrom d (l .at .«bit_pos»)) (t .e) (bitsFrom d (next .«bit_pos»)) (t .read) (ap (λ (v : AcEvent). v .last) (t .is) ∙ c .if1 .left)
+      l .loop .inv .2
+          ∙ rest-more (a .reversible) (a .table) (before p) (bitsFrom d (l .loop .at .«bit_pos»)) (t .e) (bitsFrom d (next .«bit_pos»)) (t .read) (ap (λ (v : AcEvent). v .last) (t .is) ∙ c .if1 .left)
           ∙ ap (λ (x : State). rest (a .reversible) (a .table) x (bitsFrom d (next .«bit_pos»))) (sym (state-is p)),
     )
 

@@ -5,7 +5,7 @@ use denote.Ref.{now}
 use lib.IntN.{pos}
 use lib.ListN.{getD}
 use Rattle.numbers.proofs.Words.{held}
-use Rattle.neighbours.specs.Record.{quantiserOf}
+use Rattle.record.specs.Record.{quantiserOf}
 use Rattle.vaxembro.specs.Lent.{neighboursOf, there}
 use Rattle.vaxembro.proofs.lent.neighbours_of.Statement.{statement}
 use Rattle.vaxembro.proofs.lent.neighbours_of.Tie as tie

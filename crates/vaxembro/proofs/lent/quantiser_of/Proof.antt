@@ -7,7 +7,8 @@ use lib.Signed.{ltZ, nonNeg}
 use mir.Facts.{toZ-ofZ}
 use mir.Syntax.{w32}
 use mir.Val.{Fits}
-use Rattle.neighbours.proofs.SideLaws.{quantiser-negative, quantiser-is, quantiser-fits}
+use Rattle.record.proofs.KnownLaws.{quantiser-negative, quantiser-fits}
+use Rattle.record.proofs.KnownLaws.{quantiser-is}
 use Rattle.vaxembro.proofs.lent.quantiser_of.Statement.{statement}
 use Rattle.vaxembro.proofs.lent.quantiser_of.Tie as tie
 

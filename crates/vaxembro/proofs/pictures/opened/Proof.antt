@@ -2,7 +2,7 @@
 use mathlib.Core.Path.{ap, sym, _∙_}
 use borrow.Author.Needs.{needs}
 use denote.Ref.{now}
-use Rattle.picture.specs.declared.picture.PictureOpened.{PictureOpened}
+use Rattle.picture_state.specs.declared.picture.PictureOpened.{PictureOpened}
 use Rattle.vaxembro.specs.Calls.{openedNumber, openedState}
 use Rattle.vaxembro.proofs.pictures.opened.Statement.{statement}
 use Rattle.vaxembro.proofs.pictures.opened.Tie as tie

@@ -8,8 +8,8 @@ use lib.IntN.{ℤ}
 use Rattle.macroblock.specs.declared.header.MacroblockHeader.{MacroblockHeader}
 use Rattle.picture.specs.Call.{Input, answerOut, given, samplesOut, storeOut}
 use Rattle.picture.specs.declared.call.PictureDecoded.{PictureDecoded}
-use Rattle.picture.specs.declared.picture.MacroblockContext.{MacroblockContext}
-use Rattle.picture.specs.declared.picture.Picture.{Picture}
+use Rattle.picture_state.specs.declared.picture.MacroblockContext.{MacroblockContext}
+use Rattle.picture_state.specs.declared.picture.Picture.{Picture}
 use Rattle.vaxembro.specs.Answer.{answerAfter, toldOf}
 use Rattle.vaxembro.specs.Calls.{left, leftIn, stateOut}
 use Rattle.vaxembro.specs.declared.answer.Told.{Told}
@@ -113,13 +113,13 @@ returns-2 c =
     let q = p .picture-of .ensures in
     let e = flag-passes (k .long-enough .ensures) (g .if1 .left) in
     let r = d .decode-macroblock .ensures in
-    let decoded = long-is _ e (r .0 ∙ ap₂ (λ (u : Picture) (y : Input). answerOut u y store) q x) in
+    let decoded = long-is _ e (r .answer ∙ ap₂ (λ (u : Picture) (y : Input). answerOut u y store) q x) in
     let told = t .told-in-picture .ensures ∙ ap (λ (y : PictureDecoded). toldOf y (a .at)) decoded in
     left-is
     (l .tell2 .ensures .0 ∙ ap (λ (y : Told). y .number) told)
     (o .onward .ensures ∙ ap (λ (y : PictureDecoded). stateOut y (now (a .state))) decoded)
-    (long-is _ e (r .1 .0 ∙ ap₂ (λ (u : Picture) (y : Input). samplesOut u y store) q x))
-    (long-is _ e (r .1 .1 .0 ∙ ap₂ (λ (u : Picture) (y : Input). storeOut u y store) q x))
+    (long-is _ e (r .samples ∙ ap₂ (λ (u : Picture) (y : Input). samplesOut u y store) q x))
+    (long-is _ e (r .store ∙ ap₂ (λ (u : Picture) (y : Input). storeOut u y store) q x))
     (l .tell2 .ensures .1 ∙ ap (λ (y : Told). answerAfter y (now (a .answer))) told)
 
 pub vaxembro-decode-macroblock-spec : {M : Type 1} → statement M

@@ -3,7 +3,7 @@ use mathlib.Core.Path.{ap, _∙_}
 use borrow.Author.Needs.{needs}
 use borrow.Author.Tests.{le-leb, lt-leb}
 use denote.Ref.{now}
-use Rattle.picture.specs.declared.picture.PictureOpened.{PictureOpened}
+use Rattle.picture_state.specs.declared.picture.PictureOpened.{PictureOpened}
 use Rattle.vaxembro.specs.Calls.{openedNumber, openedState, stateLong}
 use Rattle.vaxembro.proofs.RoomLaws.{long-is, short-is}
 use Rattle.vaxembro.proofs.pictures.vaxembro_open.Statement.{statement}

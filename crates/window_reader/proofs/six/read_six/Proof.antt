@@ -7,8 +7,8 @@ use lib.ListN.{length}
 use Rattle.numbers.proofs.OutcomeLaws.{then-2}
 use Rattle.bits.proofs.CursorLaws.{in-data-yes}
 use Rattle.bits.specs.Cursor.{inData}
-use Rattle.block.proofs.OutcomeLaws.{blocks-due}
-use Rattle.block.proofs.StateLaws.{counted}
+use Rattle.block_reader.proofs.OutcomeLaws.{blocks-due}
+use Rattle.bits.proofs.CursorLaws.{counted}
 use Rattle.texture.specs.Outcomes.{listOutcome}
 use Rattle.window_reader.proofs.SixLaws.{six-answer}
 use Rattle.window_reader.proofs.six.read_six.Statement.{statement}

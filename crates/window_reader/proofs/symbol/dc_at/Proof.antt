@@ -10,7 +10,7 @@ use borrow.Author.Needs.{needs}
 use Rattle.bits.specs.Ahead.{aheadOf}
 use Rattle.codes.specs.FirstBits.{sizePlain}
 use Rattle.numbers.proofs.Words.{one-shl}
-use Rattle.texture.specs.Dc.{differentialOf}
+use Rattle.dc_parts.specs.Dc.{differentialOf}
 use Rattle.window_reader.proofs.DcLaws.{SizeBounds, dc-told, size-bounds}
 use Rattle.window_reader.proofs.symbol.dc_at.Statement.{statement}
 use Rattle.window_reader.proofs.symbol.dc_at.Tie as tie

@@ -10,7 +10,7 @@ use borrow.Author.Tests.{eq-eqb, le-leb, lt-leb, ne-eqb}
 use Rattle.numbers.proofs.Expressions.{Sx, loc, lit, _⊞_, _⊟_, _⊠_, fits, back}
 use Rattle.numbers.proofs.Words.{cast-us, one-shl}
 use Rattle.window_reader.proofs.symbol.difference_of.Statement.{statement}
-use Rattle.texture.specs.Dc.{differentialOf}
+use Rattle.dc_parts.specs.Dc.{differentialOf}
 use Rattle.window_reader.proofs.symbol.difference_of.Tie as tie
 
 -- the shift, as the code has it and as the definition does

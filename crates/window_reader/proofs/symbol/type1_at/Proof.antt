@@ -8,7 +8,7 @@ use Rattle.bits.specs.Ahead.{window}
 use Rattle.codes.proofs.FirstBitsLaws.{lmax-lt}
 use Rattle.window_reader.proofs.EventLaws.{type1-told}
 use Rattle.window_reader.proofs.SymbolLaws.{row-bounds, signed-back}
-use Rattle.texture.specs.Event.{signedBy}
+use Rattle.events.specs.Event.{signedBy}
 use Rattle.window_reader.specs.Told.{RowTold}
 use borrow.Author.Needs.{needs}
 use Rattle.window_reader.proofs.symbol.type1_at.Statement.{statement}

@@ -7,7 +7,7 @@ use lib.Dec.{eqb}
 use lib.Pow.{pow-pos}
 use denote.Ref.{now}
 use Rattle.bits.specs.Ahead.{aheadOf}
-use Rattle.texture.specs.Event.{signed12}
+use Rattle.events.specs.Event.{signed12}
 use Rattle.window_reader.proofs.EventLaws.{type3-told}
 use Rattle.window_reader.proofs.SymbolLaws.{twelve-back}
 use borrow.Author.Needs.{needs}

@@ -1,0 +1,2 @@
+-- What the contracts say of the constants.
+pub mod Cosines

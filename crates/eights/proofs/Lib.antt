@@ -1,0 +1,1 @@
+-- The law behind the test of eight, for crates above too.

@@ -1,0 +1,69 @@
+-- `eights::halves` meets its contract, one store a turn. Assumes nothing.
+use mathlib.Core.List.{List}
+use mathlib.Core.Path.{_≡_, refl, ap}
+use Prim.Native.Nat.{ℕ, _-_, _≤_}
+use native.Mathlib.Omega.{arith}
+use lib.Ieee.{Float, nan, binary64, ofBits, mul}
+use lib.ListN.{getD}
+use Rattle.numbers.proofs.Fill.{part, cells-none, cells-more, cells-all}
+use Rattle.numbers.specs.Grid.{build}
+use Rattle.f64_error.specs.Series.{half}
+use Rattle.rounding.proofs.Literals.{half-bits}
+use Rattle.eights.proofs.halves.Statement.{statement}
+use Rattle.eights.proofs.halves.Tie as tie
+
+abbrev z : ℕ → Float
+z k = ofBits binary64 0
+
+abbrev f : List Float → ℕ → Float
+f sums x = mul binary64 half (getD sums x nan)
+
+abbrev Inv-loop : tie.InvT-loop
+Inv-loop sums output₀ x₀ output x = (x ≤ 8) × (output ≡ part 8 (f sums) z x)
+
+abbrev μ-loop : tie.MeasureT-loop
+μ-loop sums output₀ x₀ output x = 8 - x
+
+loop-holds : tie.Need-loop-holds Inv-loop μ-loop
+unfolding build
+loop-holds c = (omega arith, cells-none 8 (f (c .args .t1)) z _ refl)
+
+mul-output : tie.Need-mul-output Inv-loop μ-loop
+mul-output c = omega arith
+
+array-read-output : tie.Need-array-read-output Inv-loop μ-loop
+array-read-output c = omega arith
+
+mul-output-2 : tie.Need-mul-output-2 Inv-loop μ-loop
+mul-output-2 c = omega arith
+
+array-write-output : tie.Need-array-write-output Inv-loop μ-loop
+array-write-output c = omega arith
+
+add-x : tie.Need-add-x Inv-loop μ-loop
+add-x c = omega arith
+
+loop-less : tie.Need-loop-less Inv-loop μ-loop
+loop-less c = omega arith
+
+loop-again : tie.Need-loop-again Inv-loop μ-loop
+loop-again c = (omega arith, cells-more 8 _ _ nan _ _ _ (c .loop-test .taken) (c .before .loop .inv .1) (ap (λ (a : Float). mul binary64 a (getD (c .before .before .args .t1) (c .before .loop .x) nan)) half-bits))
+
+returns : tie.Need-returns Inv-loop μ-loop
+returns c = cells-all 8 _ _ _ _ (c .loop-test .left) (c .before .loop .inv .0) (c .before .loop .inv .1)
+
+pub halves-spec : {M : Type 1} → statement M
+halves-spec =
+    tie.close
+    (tie.spec
+    Inv-loop
+    μ-loop
+    loop-holds
+    mul-output
+    array-read-output
+    mul-output-2
+    array-write-output
+    add-x
+    loop-less
+    loop-again
+    returns)

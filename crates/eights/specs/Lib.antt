@@ -1,0 +1,2 @@
+-- What the contracts say of eight f64s.
+pub mod Eights

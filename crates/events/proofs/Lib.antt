@@ -1,0 +1,9 @@
+-- The laws of events: the lent tables, the readers and their grammar, how the answers of the code go together, the answers by number, and that 11 is none of reading.
+pub mod RowLaws
+pub mod EventLaws
+pub mod RvlcLaws
+pub mod EitherLaws
+pub mod ChainLaws
+pub mod OutcomeLaws
+pub mod Apart
+pub mod ByBits

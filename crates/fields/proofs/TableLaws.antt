@@ -1,0 +1,35 @@
+-- A code of the tables of Annex B, however they are lent, is the reader's. Assumes nothing.
+use mathlib.Core.List.{List}
+use mathlib.Core.Path.{_≡_, subst₂}
+use Prim.Native.Nat.{_≤_, ℕ}
+use native.Mathlib.Omega.{arith}
+use Rattle.codes.proofs.PrefixFree.{dc-prefix-free, dc-rows, rvlc-prefix-free, rvlc-rows, vlc-prefix-free, vlc-rows}
+use Rattle.codes.specs.DcSize.{dcCodes, dcLens}
+use Rattle.codes.specs.Rvlc.{rvlcCodes, rvlcLens}
+use Rattle.codes.specs.Tcoef.{vlcCodes, vlcLens}
+use Rattle.codes.specs.declared.dc_size.DcComponent.{DcComponent}
+use Rattle.fields.proofs.CodeLaws.{GoodTable, code-read}
+use Rattle.fields.specs.Answer.{CodeRead, codeAnswer}
+use Rattle.fields.specs.declared.error.TextureParseError.{TextureParseError}
+use Rattle.fields.specs.declared.error.TextureParseError.the-variants.{InvalidDcSize, InvalidTcoef}
+use Rattle.fields.specs.declared.field.Got.{Got}
+
+module _ (d : List ℕ) (at : ℕ) {cs ls : List ℕ} (g : Got) where
+  of-table : (cs′ ls′ : List ℕ) (width rows : ℕ) (err : ℕ → TextureParseError) → GoodTable width rows cs′ ls′ → cs ≡ cs′ → ls ≡ ls′
+      → CodeRead d at cs ls width rows err g → g ≡ codeAnswer d at cs′ ls′ width rows err
+  of-table cs′ ls′ width rows err good e f x = code-read d at cs′ ls′ width rows err good g (subst₂ (λ (cs ls : List ℕ). CodeRead d at cs ls width rows err g) e f x)
+
+  pub dc-code : (c : DcComponent) → cs ≡ dcCodes c → ls ≡ dcLens c → CodeRead d at cs ls 13 13 InvalidDcSize g → g ≡ codeAnswer d at (dcCodes c) (dcLens c) 13 13 InvalidDcSize
+  dc-code c e f x =
+      let n = dc-rows c in
+      of-table (dcCodes c) (dcLens c) 13 13 InvalidDcSize (omega arith, omega arith, omega arith, omega arith, dc-prefix-free c) e f x
+
+  pub vlc-code : (rows : ℕ) → rows ≤ 103 → cs ≡ vlcCodes → ls ≡ vlcLens → CodeRead d at cs ls 13 rows InvalidTcoef g → g ≡ codeAnswer d at vlcCodes vlcLens 13 rows InvalidTcoef
+  vlc-code rows h e f x =
+      let n = vlc-rows in
+      of-table vlcCodes vlcLens 13 rows InvalidTcoef (omega arith, omega arith, omega arith, omega arith, vlc-prefix-free) e f x
+
+  pub rvlc-code : cs ≡ rvlcCodes → ls ≡ rvlcLens → CodeRead d at cs ls 16 170 InvalidTcoef g → g ≡ codeAnswer d at rvlcCodes rvlcLens 16 170 InvalidTcoef
+  rvlc-code e f x =
+      let n = rvlc-rows in
+      of-table rvlcCodes rvlcLens 16 170 InvalidTcoef (omega arith, omega arith, omega arith, omega arith, rvlc-prefix-free) e f x

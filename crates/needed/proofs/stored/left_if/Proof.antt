@@ -1,0 +1,55 @@
+-- `needed::stored::left_if` meets its contract: the part of the store that the record is. Assumes nothing.
+use denote.Ref.{now}
+use mathlib.Core.Path.{ap, _∙_}
+use Prim.Native.Nat.{_+_, _≤_}
+use native.Mathlib.Omega.{arith}
+use lib.ListN.{length}
+use borrow.Author.Needs.{needs}
+use borrow.Author.Tests.{not-false, not-true}
+use Rattle.needed.specs.Stored.{leftFine}
+use Rattle.needed.proofs.StoredLaws.{record-part, there-lies}
+use Rattle.needed.proofs.stored.left_if.Statement.{statement}
+use Rattle.needed.proofs.stored.left_if.Tie as tie
+
+returns : tie.Need-returns
+returns c = rw (not-true (c .before .args .there) (c .if1 .taken))
+
+lies-in : (c : tie.Else1) → c .before .args .at + 91 ≤ length (now (c .before .args .store))
+lies-in c = let a = c .before .args in there-lies (length (now (a .store))) (a .at) (not-false (a .there) (c .if1 .left)) (c .before .pre)
+
+add-end : tie.Need-add-end
+add-end c = search needs
+
+mul-left-fine : tie.Need-mul-left-fine
+mul-left-fine c = search needs
+
+sub-left-fine : tie.Need-sub-left-fine
+sub-left-fine c = search needs
+
+part-left-fine-start : tie.Need-part-left-fine-start
+part-left-fine-start c = search needs
+
+part-left-fine-end : tie.Need-part-left-fine-end
+part-left-fine-end c = omega (arith, lies-in c)
+
+left-fine-requires : tie.Need-left-fine-requires
+left-fine-requires c κs = search needs
+
+returns-2 : tie.Need-returns-2
+returns-2 c =
+    let t = c .before .before in
+    let a = t .before .args in
+    rw (not-false (a .there) (t .if1 .left)) (c .left-fine .ensures ∙ ap leftFine (record-part (now (a .store)) (a .at) (lies-in t)))
+
+pub left-if-spec : {M : Type 1} → statement M
+left-if-spec =
+    tie.close
+    (tie.spec
+    returns
+    add-end
+    mul-left-fine
+    sub-left-fine
+    part-left-fine-start
+    part-left-fine-end
+    left-fine-requires
+    returns-2)

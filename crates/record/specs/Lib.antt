@@ -1,0 +1,3 @@
+-- The record that is kept of a macroblock, and why one is refused.
+pub mod Record
+pub mod Refusals

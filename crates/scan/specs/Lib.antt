@@ -1,0 +1,2 @@
+-- The inverse scan (7.4.2) as functions over the integers.
+pub mod Scan
