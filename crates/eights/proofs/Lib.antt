@@ -1,1 +1,1 @@
--- The law behind the test of eight, for crates above too.
+-- No law of this crate is for others.

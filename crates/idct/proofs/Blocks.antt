@@ -1,7 +1,7 @@
 -- A pass sees its eight inputs only, zeros give zeros, and a row of zeros changes no sum. Assumes nothing.
 use mathlib.Core.Bool.{false}
 use mathlib.Core.List.{List, []}
-use mathlib.Core.Path.{_≡_, refl, sym, ap, _∙_, subst}
+use mathlib.Core.Path.{_≡_, refl, sym, ap, _∙_}
 use Prim.Native.Nat.{ℕ, zero, suc, _+_, _≤_, _<_}
 use native.Mathlib.Nat.{le-trans, le-refl, le-suc}
 use native.Mathlib.Numerals.{add-one}
@@ -13,24 +13,18 @@ use lib.IntN.{ℤ, pos, natAbs}
 use lib.ListN.{getD}
 use Rattle.numbers.proofs.Every.{every-at}
 use Rattle.numbers.specs.Every.{every}
-use Rattle.numbers.proofs.Fill.{block-eq, build-eq, getD-build}
+use Rattle.numbers.proofs.Fill.{build-eq, getD-build}
 use Rattle.numbers.proofs.Magnitudes.{zero-of-abs}
 use Rattle.numbers.specs.Grid.{block, build, cell}
-use Rattle.numbers.specs.Limit.{clampZ}
 use Rattle.f64_error.proofs.Zeros.{Nought, nought-left, nought-right, series-none, series-rest}
 use Rattle.f64_error.specs.Series.{half, pass, seriesF}
-use Rattle.rounding.specs.Rounding.{wholeOf}
-use Rattle.rounding.specs.Near.{Roundable}
-use Rattle.rounding.specs.declared.HalfIntegerRounding.{HalfIntegerRounding}
 use Rattle.rounding.proofs.Literals.{zero-bits}
 use Rattle.cosines.specs.Cosines.{cosF, cF}
 use Rattle.cosines.proofs.Tables.{c-const, cos-const}
 use Rattle.eights.specs.Eights.{rowIn}
-use Rattle.exact_transform.specs.Exact.{Modest}
 use Rattle.exact_transform.specs.EvenOdd.{cellF, isZero}
-use Rattle.exact_transform.specs.Transform.{computed, whole}
-use Rattle.exact_transform.proofs.Bounds.{bounded}
-use Rattle.idct.specs.ShortWays.{idct1d, rowAt, rowTerms, samplesIn, sumOfRows}
+use Rattle.exact_transform.specs.Transform.{whole}
+use Rattle.idct.specs.ShortWays.{idct1d, rowAt, rowTerms, sumOfRows}
 
 pub series-ext : (t s : ℕ → Float) (n : ℕ) → ((i : ℕ) → i < n → t i ≡ s i) → seriesF t n ≡ seriesF s n
 unfolding seriesF

@@ -1,11 +1,11 @@
 -- What the first pass tells of the even and of the odd rows, and the samples by near numbers and by the rule. Assumes nothing.
-use mathlib.Core.Bool.{Bool, cond, false, true}
+use mathlib.Core.Bool.{false, true}
 use mathlib.Core.List.{List, []}
 use mathlib.Core.Path.{_≡_, sym, ap, _∙_, subst}
 use Prim.Native.Nat.{ℕ, zero, suc, _+_, _*_, _<_}
 use native.Mathlib.Omega.{arith}
 use lib.Ieee.{Float}
-use lib.IntN.{ℤ, pos}
+use lib.IntN.{ℤ}
 use lib.ListN.{getD, length}
 use Rattle.numbers.proofs.Every.{every-in}
 use Rattle.numbers.proofs.Fill.{block-eq}

@@ -1,5 +1,5 @@
 -- The even and the odd halves of a pass, term by term and row by row: the sums, the rows that are kept, and the rows that are done from both ends. Assumes nothing.
-use mathlib.Core.Bool.{Bool, cond, true}
+use mathlib.Core.Bool.{cond, true}
 use mathlib.Core.List.{List, []}
 use mathlib.Core.Logic.{_⊎_, inl, inr, ⊎-elim}
 use mathlib.Core.Path.{_≡_, refl, sym, ap, _∙_, subst}
@@ -12,7 +12,6 @@ use lib.Ieee.{Float, nan, binary64, add, mul, ofBits, ofInt, sub}
 use lib.IntN.{ℤ, pos, _+ℤ_}
 use lib.ListN.{getD, length, length-set, set}
 use lib.Seq.{getD-set-other, getD-set-same}
-use borrow.Author.Tests.{le-ltb, lt-ltb}
 use Rattle.numbers.proofs.Fill.{build-eq, getD-build, is-build, lt-or-le}
 use Rattle.numbers.proofs.Integers.{add-is, zarith}
 use Rattle.numbers.specs.Every.{every}

@@ -1,5 +1,5 @@
 -- The rows that are kept: their terms added up are the sums of all rows, since a row of zeros changes no sum. Assumes nothing.
-use mathlib.Core.Bool.{false, true}
+use mathlib.Core.Bool.{true}
 use mathlib.Core.List.{List, []}
 use mathlib.Core.Path.{_≡_, refl, sym, ap, _∙_, subst}
 use mathlib.Core.Logic.{⊎-elim}

@@ -1,14 +1,14 @@
 -- Even and odd numbers: the remainder by 2 tells them, and one more than an even i32, or one less than an odd one, is an i32. Assumes nothing.
 use mathlib.Core.Bool.{Bool, true, false, not}
-use mathlib.Core.Path.{_≡_, refl, ap, sym, _∙_}
-use Prim.Native.Nat.{ℕ, _%_}
+use mathlib.Core.Path.{_≡_, refl, ap, sym}
+use Prim.Native.Nat.{_%_}
 use native.Mathlib.Omega.{arith}
 use lib.Dec.{eqb}
 use lib.IntN.{ℤ, pos, natAbs, _+ℤ_, _-ℤ_}
 use lib.Signed.{remZ}
 use mir.Syntax.{w32}
 use mir.Val.{SFits, ofZ}
-use borrow.Author.Tests.{eq-eqb, eqb-true, eqb-false, ne-eqb, not-false, not-true}
+use borrow.Author.Tests.{eq-eqb, eqb-true, eqb-false, ne-eqb}
 use Rattle.numbers.proofs.Integers.{add-is, diff-is, halves}
 use Rattle.numbers.proofs.Magnitudes.{rem-abs, zero-of-abs}
 use Rattle.numbers.proofs.Words.{bits-eq, cast-us, fits-abs, fits-dn, fits-half, fits-up}

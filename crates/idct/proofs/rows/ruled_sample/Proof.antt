@@ -1,5 +1,5 @@
 -- `idct::rows::ruled_sample` meets its contract: a value within the limits of rounding is never refused. Assumes nothing.
-use mathlib.Core.Path.{_≡_, _∙_}
+use mathlib.Core.Path.{_∙_}
 use mir.Facts.{toZ-ofZ}
 use mir.Syntax.{w32}
 use borrow.Author.Needs.{needs}
