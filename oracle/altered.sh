@@ -1,6 +1,7 @@
 #!/bin/sh
-# Shows that a comparison can fail: one place at a time of the original, or of the driver's picture layer, is altered in a copy, and the
-# comparison must report each; of `record`, what is recorded must be another than the stored output of `replay`:
+# Shows that a comparison can fail: one place at a time of the original, of the driver's picture layer, or of what the driver takes from
+# Rattle's side is altered in a copy, and the comparison must report each; of `record`, what is recorded must be another than the stored
+# output of `replay`:
 #     oracle/altered.sh FOLDER_OF_THE_RUST_SOURCES block|macroblock|picture|record [SCALE]
 set -eu
 name=${2:?block, macroblock, picture or record}
@@ -89,4 +90,6 @@ alter picture layer.rs 's/return 13;/return 15;/' 'a number out of range in the 
 alter picture layer.rs 's/let row = c.is_none_or.*/let row = true;/' 'AC values of C out of range let through'
 alter 'picture record' layer.rs 's/return 15;/return 11;/' 'a complete picture told as 11'
 alter 'picture record' layer.rs 's/a.picture.numbers\[3\] += 1;//' 'the same macroblock due again'
+alter 'block macroblock picture' main.rs 's/^ *(a, spellings)$/{ spellings.swap(1, 2); (a, spellings) }/' 'types 1 and 2 exchanged in the spellings'
+alter 'block macroblock picture' main.rs 's/^ *(a, spellings)$/{ if a.number != 0 { spellings = [0; 5]; } (a, spellings) }/' 'spellings written on a refusal'
 exit $missed

@@ -1,22 +1,27 @@
 // The calls that are made, prepared once: whole sentences, cut and flipped ones, random bytes, and what each number refuses.
 use crate::common::bits::{Bits, any_bytes, bytes_of, flip, push};
 use crate::common::dice::Dice;
-use crate::common::sentence;
+use crate::common::sentence::{self, Sentence, Spellings};
 use vaxembro::ffi;
 
 pub const MOST_BYTES: usize = 1_048_576;
+
+// How many numbers an answer has, and how many are kept for it.
+pub const ANSWER: usize = 9;
+pub type Answer = [usize; ANSWER + 2];
 
 pub const NOT_CODED: u32 = 1;
 pub const USE_INTRA_DC_VLC: u32 = 32;
 pub const REVERSIBLE_VLC: u32 = 64;
 pub const QUANT_TYPE: u32 = 128;
 
-// A number (0: accepted), its figure, and how many bits were read.
+// A number (0: accepted), its figure, how many bits were read, and how many events of each spelling.
 #[derive(Clone, Copy, Debug, Default, PartialEq)]
 pub struct Outcome {
     pub number: u32,
     pub figure: u32,
     pub bits: usize,
+    pub spellings: Spellings,
 }
 
 pub fn refused(number: u32) -> Outcome {
@@ -54,7 +59,7 @@ pub struct Call {
 impl Call {
     // Document 01's number by the state, before any bit, of the call alone.
     pub fn alone_due(&self) -> Outcome {
-        if self.neighbours_len < 21 || self.matrix_len < 64 || self.answer_len < 4 {
+        if self.neighbours_len < 21 || self.matrix_len < 64 || self.answer_len < ANSWER {
             return refused(14);
         }
         if !self.data_fine() {
@@ -93,7 +98,7 @@ impl Call {
         }
     }
 
-    pub fn make_alone(&self, samples: &mut [i32], answer: &mut [usize; 6]) -> u32 {
+    pub fn make_alone(&self, samples: &mut [i32], answer: &mut Answer) -> u32 {
         unsafe {
             ffi::vaxembro_decode_intra_macroblock(
                 self.data.as_ptr(),
@@ -117,7 +122,7 @@ impl Call {
         }
     }
 
-    pub fn make_in_picture(&self, state: &mut [u32], samples: &mut [i32], store: &mut [i32], answer: &mut [usize; 6]) -> u32 {
+    pub fn make_in_picture(&self, state: &mut [u32], samples: &mut [i32], store: &mut [i32], answer: &mut Answer) -> u32 {
         unsafe {
             ffi::vaxembro_decode_macroblock(
                 state.as_mut_ptr(),
@@ -150,8 +155,8 @@ impl Call {
     }
 }
 
-// A call that is fine, and the bits of a sentence that fits.
-fn fine(dice: &mut Dice) -> (Call, Bits) {
+// A call that is fine, and a sentence that fits.
+fn fine(dice: &mut Dice) -> (Call, Sentence) {
     let bits_per_pixel = 4 + dice.below(9) as u32;
     let middle = 4i32 << bits_per_pixel;
     let mut neighbours = [0; 21];
@@ -175,24 +180,25 @@ fn fine(dice: &mut Dice) -> (Call, Bits) {
         state_len: 5,
         samples_len: usize::MAX,
         store_len: usize::MAX,
-        answer_len: 4,
+        answer_len: ANSWER,
         bits: Outcome::default(),
         alone: Vec::new(),
     };
     let (dc_coded, reversible) = (call.flags & USE_INTRA_DC_VLC != 0, call.flags & REVERSIBLE_VLC != 0);
     let pattern = (call.cbpy & 15) << 2 | call.cbpc & 3;
     let longest = dice.of(&[1, 3, 6, 20]);
-    let mut bits = Bits::new();
+    let mut one = Sentence::default();
     for i in 0..6 {
-        sentence::block(dice, &mut bits, i, pattern >> (5 - i) & 1 == 1, dc_coded, reversible, true, longest);
+        sentence::block(dice, &mut one, i, pattern >> (5 - i) & 1 == 1, dc_coded, reversible, true, longest);
     }
-    (call, bits)
+    (call, one)
 }
 
 // A whole sentence, and other bits after it.
 fn whole(dice: &mut Dice) -> Call {
-    let (mut call, mut bits) = fine(dice);
+    let (mut call, Sentence { mut bits, spellings }) = fine(dice);
     call.bits.bits = bits.len();
+    call.bits.spellings = spellings;
     push(&mut bits, dice.next(), dice.below(65));
     call.put(dice, &bits);
     call
@@ -217,7 +223,7 @@ fn bad(dice: &mut Dice) -> Call {
     let (mut call, _) = fine(dice);
     call.cbpy |= 8;
     call.flags = call.flags & !REVERSIBLE_VLC | USE_INTRA_DC_VLC | if reversible { REVERSIBLE_VLC } else { 0 };
-    call.bits = Outcome { number, figure, bits: 0 };
+    call.bits = Outcome { figure, ..refused(number) };
     let mut bits: Bits = text.bytes().filter(|b| *b != b' ').map(|b| b == b'1').collect();
     if number != 1 {
         push(&mut bits, dice.next(), dice.below(65));
@@ -250,7 +256,7 @@ fn spoiled(dice: &mut Dice, too_long: &'static [u8]) -> Call {
         11 => match dice.below(3) {
             0 => call.neighbours_len = dice.below(21),
             1 => call.matrix_len = dice.below(64),
-            _ => call.answer_len = dice.below(4),
+            _ => call.answer_len = dice.below(ANSWER),
         },
         12 => call.flags |= NOT_CODED,
         _ => call.mb_type = dice.of(&[0, 1, 2, 3, 6, u32::MAX]),
@@ -273,7 +279,7 @@ pub fn pool(dice: &mut Dice, n: usize) -> Vec<Call> {
             };
             if call.alone_due().number == 0 {
                 let mut samples = vec![0; 384];
-                assert_eq!(call.make_alone(&mut samples, &mut [0; 6]), 0, "{call:?}");
+                assert_eq!(call.make_alone(&mut samples, &mut Answer::default()), 0, "{call:?}");
                 call.alone = samples;
             }
             call
@@ -283,7 +289,7 @@ pub fn pool(dice: &mut Dice, n: usize) -> Vec<Call> {
 
 // A sentence with its bits changed.
 fn broken(dice: &mut Dice, change: impl Fn(&mut Dice, &mut Bits)) -> Call {
-    let (mut call, mut bits) = fine(dice);
+    let (mut call, Sentence { mut bits, .. }) = fine(dice);
     let whole = bits.len();
     if whole == 0 {
         return call;
@@ -304,12 +310,18 @@ fn random(dice: &mut Dice) -> Call {
     call
 }
 
+// Of a refusal its number and figure, whatever else the answer holds.
 fn first(call: &Call) -> Outcome {
-    let mut answer = [0; 6];
-    call.make_alone(&mut [0; 384], &mut answer);
+    let mut answer = Answer::default();
+    let number = call.make_alone(&mut [0; 384], &mut answer);
+    let figure = answer[1] as u32;
+    if number > 0 {
+        return Outcome { figure, ..refused(number) };
+    }
     Outcome {
-        number: answer[0] as u32,
-        figure: answer[1] as u32,
+        number,
+        figure,
         bits: answer[2],
+        spellings: std::array::from_fn(|k| answer[4 + k] as u32),
     }
 }

@@ -1,6 +1,6 @@
 // A great many mixed calls of the C interface in one process. Each must give what is due, document 01's number first; a refused one must
 // leave state, samples and store as they were; memory use must stay; and at the end a picture must come out as it did at first.
-use calls::{Call, Outcome, refused};
+use calls::{ANSWER, Answer, Call, Outcome, refused};
 use common::dice::Dice;
 use std::io::Read;
 use std::time::Instant;
@@ -19,6 +19,9 @@ mod texture;
 // How far memory use may lie above that of the first calls, which the system tells only roughly.
 const SLACK_KB: usize = 256;
 
+// An answer before each call.
+const UNTOLD: Answer = [991, 992, 993, 994, 995, 996, 997, 998, 999, 1000, 1001];
+
 // Lent memory, longer than any call is told.
 #[derive(Clone, PartialEq)]
 struct Lent {
@@ -33,7 +36,7 @@ struct Slot {
     kept: Lent,
     // a picture or a store that no opening made: it is never opened anew
     elsewhere: bool,
-    answer: [usize; 6],
+    answer: Answer,
 }
 
 impl Slot {
@@ -48,7 +51,7 @@ impl Slot {
             kept: lent.clone(),
             lent,
             elsewhere,
-            answer: [0; 6],
+            answer: UNTOLD,
         }
     }
 
@@ -60,7 +63,7 @@ impl Slot {
     // Document 01's number by the state: 11, 12, 14, 15, 13, 9, 10.
     fn due(&self, call: &Call) -> Outcome {
         let [width, height, depth, method, accepted, _] = self.kept.state;
-        if call.state_len < 5 || call.matrix_len < 64 || call.answer_len < 4 {
+        if call.state_len < 5 || call.matrix_len < 64 || call.answer_len < ANSWER {
             return refused(14);
         }
         if !(1..=45).contains(&width) || !(1..=36).contains(&height) || !call.data_fine() {
@@ -84,7 +87,7 @@ impl Slot {
 
     fn in_picture(&mut self, call: &Call) -> u32 {
         let due = self.due(call);
-        self.answer = [991, 992, 993, 994, 995, 996];
+        self.answer = UNTOLD;
         let lent = &mut self.lent;
         let given = call.make_in_picture(&mut lent.state, &mut lent.samples, &mut lent.store, &mut self.answer);
         self.answered("in a picture", call, given, due);
@@ -98,7 +101,7 @@ impl Slot {
 
     fn alone(&mut self, call: &Call) -> u32 {
         let due = call.alone_due();
-        self.answer = [991, 992, 993, 994, 995, 996];
+        self.answer = UNTOLD;
         let given = call.make_alone(&mut self.lent.samples, &mut self.answer);
         self.answered("alone", call, given, due);
         if given == 0 {
@@ -115,15 +118,12 @@ impl Slot {
 
     // The number, and the answer: one that is too short is not written.
     fn answered(&self, what: &str, call: &Call, given: u32, due: Outcome) {
-        let told = [
-            due.number as usize,
-            due.figure as usize,
-            due.bits,
-            call.at.wrapping_add(due.bits),
-            995,
-            996,
-        ];
-        let answer = if call.answer_len < 4 { [991, 992, 993, 994, 995, 996] } else { told };
+        let mut answer = UNTOLD;
+        if call.answer_len >= ANSWER {
+            let position = call.at.wrapping_add(due.bits);
+            answer[..4].copy_from_slice(&[due.number as usize, due.figure as usize, due.bits, position]);
+            answer[4..ANSWER].copy_from_slice(&due.spellings.map(|n| n as usize));
+        }
         if given != due.number || self.answer != answer {
             println!("given {given} {:?}, due {due:?}", self.answer);
             differs(what, call);
@@ -182,12 +182,12 @@ fn differs(what: &str, call: &Call) -> ! {
 
 // A whole picture over this store: every answer and all samples.
 fn picture(good: &[&Call], store: &mut [i32]) -> Vec<i32> {
-    let (mut state, mut samples, mut all) = ([0; 5], [0; 384], Vec::with_capacity(45 * 36 * 388));
+    let (mut state, mut samples, mut all) = ([0; 5], [0; 384], Vec::with_capacity(45 * 36 * (ANSWER + 384)));
     assert_eq!(unsafe { ffi::vaxembro_open(45, 36, 8, 1, state.as_mut_ptr(), 5) }, 0);
     for k in 0..45 * 36 {
-        let mut answer = [0; 6];
+        let mut answer = Answer::default();
         good[k % good.len()].make_in_picture(&mut state, &mut samples, store, &mut answer);
-        all.extend(answer[..4].iter().map(|&n| n as i32));
+        all.extend(answer[..ANSWER].iter().map(|&n| n as i32));
         all.extend_from_slice(&samples);
     }
     assert_eq!(state[4], 45 * 36);
@@ -237,6 +237,8 @@ fn main() {
     let pool = calls::pool(&mut dice, 4096);
     let lent_whole = |c: &Call| c.state_len == 5 && c.store_len == usize::MAX;
     let good: Vec<&Call> = pool.iter().filter(|c| c.alone_due().number == 0 && lent_whole(c)).collect();
+    let spelled = |k: usize| good.iter().any(|c| c.bits.spellings[k] > 0);
+    fine((0..5).all(spelled), "a spelling that no call has");
     let mut slots = slots();
     let at_first = picture(&good, &mut vec![i32::MIN; 192 * 45]);
     let (mut counts, start) = ([0u64; 16], Instant::now());

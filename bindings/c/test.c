@@ -5,7 +5,25 @@
 
 #include <vaxembro.h>
 
-enum { BYTES = 32, DC = VAXEMBRO_USE_INTRA_DC_VLC, MOST = 1048576 };
+enum { BYTES = 1536, DC = VAXEMBRO_USE_INTRA_DC_VLC, RVLC = VAXEMBRO_REVERSIBLE_VLC, SPELLINGS = 5, MOST = 1048576 };
+
+/* The worked events: last, each of another spelling. */
+#define P3 "01111"
+#define P4 "0000011 0 01110"
+#define P5 "0000011 10 01110"
+#define P6 "0000011 11 1 000000 1 100000000001 1"
+
+/* Not last: run 0, level 1; run 0, level 1 + 27; run 14 + 1, level 1; run 0, level 5. */
+#define PLAIN "10 0"
+#define TYPE1 "0000011 0 10 0"
+#define TYPE2 "0000011 10 10 0"
+#define TYPE3 "0000011 11 0 000000 1 000000000101 1"
+
+/* Reversible: run 0, level 1, not last and last. */
+#define CODE "110 0"
+#define LAST_CODE "1011 0"
+#define ESCAPE "00001 0 000000 1 00000000001 1 0000 0"
+#define LAST_ESCAPE "00001 1 000000 1 00000000001 1 0000 0"
 
 /* What is lent: no pointer where the length is 0. */
 #define LENT(pointer, length) ((length) == 0 ? NULL : (pointer)), (length)
@@ -15,6 +33,7 @@ static const uint8_t default_matrix[VAXEMBRO_MATRIX] = {
     22, 23, 24, 26, 28, 30, 32, 35, 23, 24, 26, 28, 30, 32, 35, 38, 25, 26, 28, 30, 32, 35, 38, 41, 27, 28, 30, 32, 35, 38, 41, 45,
 };
 
+static const uint32_t none[SPELLINGS];
 static uint8_t too_long[MOST + 1];
 static unsigned checks, failures;
 
@@ -45,21 +64,23 @@ struct call {
     uint8_t matrix[VAXEMBRO_MATRIX];
     size_t matrix_len, samples_len, store_len, answer_len;
     int32_t stored;
+    uint32_t spelled[SPELLINGS]; /* what is due */
 };
 
-/* Lent memory, a number longer than it has to be. */
+/* Lent memory, longer than it has to be. */
 struct lent {
     uint32_t state[VAXEMBRO_STATE + 1];
     int32_t samples[VAXEMBRO_SAMPLES + 1];
-    int32_t store[2 * VAXEMBRO_STORE + 1];
-    size_t answer[VAXEMBRO_ANSWER + 1];
+    int32_t store[3 * VAXEMBRO_STORE + 1];
+    size_t answer[VAXEMBRO_ANSWER + 2];
 };
 
-/* Bits written out; blanks part them. */
+/* Bits written out, of no event; blanks part them. */
 static void put(struct call *c, const char *bits)
 {
     size_t n = 0;
     memset(c->bytes, 0, sizeof c->bytes);
+    memset(c->spelled, 0, sizeof c->spelled);
     for (; *bits; bits++) {
         if (*bits == ' ') continue;
         if (*bits == '1') c->bytes[n / 8] |= (uint8_t)(128 >> n % 8);
@@ -67,6 +88,14 @@ static void put(struct call *c, const char *bits)
     }
     c->data = c->bytes;
     c->data_len = (n + 7) / 8;
+}
+
+/* Bits with so many events of each spelling. */
+static void put_events(struct call *c, const char *bits, uint32_t plain, uint32_t type1, uint32_t type2, uint32_t type3, uint32_t escapes)
+{
+    const uint32_t due[SPELLINGS] = {plain, type1, type2, type3, escapes};
+    put(c, bits);
+    memcpy(c->spelled, due, sizeof due);
 }
 
 /* The first macroblock of a picture of 1 by 1, depth 8, method 2, with six DC parts of difference 0, and no neighbours. */
@@ -118,15 +147,21 @@ static uint32_t alone(const struct call *c, struct lent *l)
 
 typedef uint32_t decode(const struct call *, struct lent *);
 
-/* The answer's four numbers, read out, and that the number after them stays. */
-static void answered(const char *what, const struct lent *l, uint32_t number, uint32_t figure, size_t bits, size_t position)
+/* The answer's nine numbers, read out, and that those after them stay. */
+static void answered(const char *what, const struct lent *l, uint32_t number, uint32_t figure, size_t bits, size_t position,
+                     const uint32_t *spelled)
 {
     const size_t *a = l->answer;
-    check(vaxembro_number(a, 4) == number, "%s: number %u told", what, (unsigned)vaxembro_number(a, 4));
-    check(vaxembro_figure(a, 4) == figure, "%s: figure %u told", what, (unsigned)vaxembro_figure(a, 4));
-    check(vaxembro_bits(a, 4) == bits, "%s: bits %zu told", what, vaxembro_bits(a, 4));
-    check(vaxembro_position(a, 4) == position, "%s: position %zu told", what, vaxembro_position(a, 4));
-    check(a[4] == 904, "%s: written past the answer", what);
+    check(vaxembro_number(a, 9) == number, "%s: number %u told", what, (unsigned)vaxembro_number(a, 9));
+    check(vaxembro_figure(a, 9) == figure, "%s: figure %u told", what, (unsigned)vaxembro_figure(a, 9));
+    check(vaxembro_bits(a, 9) == bits, "%s: bits %zu told", what, vaxembro_bits(a, 9));
+    check(vaxembro_position(a, 9) == position, "%s: position %zu told", what, vaxembro_position(a, 9));
+    for (uint32_t k = 0; k < SPELLINGS; k++) {
+        uint32_t told = vaxembro_spelling(a, 9, k);
+        check(told == spelled[k], "%s: %u of spelling %u told, %u due", what, (unsigned)told, (unsigned)k, (unsigned)spelled[k]);
+        check(a[4 + k] == spelled[k], "%s: %zu of spelling %u written", what, a[4 + k], (unsigned)k);
+    }
+    check(a[9] == 909 && a[10] == 910, "%s: written past the answer", what);
 }
 
 /* Refused: state, samples and store are as they were, and the position is the one before the call. */
@@ -137,7 +172,7 @@ static void refused(const char *what, decode *with, const struct call *c, uint32
     lend(c, &l);
     uint32_t given = with(c, &l);
     check(given == number, "%s: %u given, %u due", what, (unsigned)given, (unsigned)number);
-    answered(what, &l, number, figure, 0, c->at);
+    answered(what, &l, number, figure, 0, c->at, none);
     memcpy(before.answer, l.answer, sizeof l.answer);
     check(memcmp(&l, &before, sizeof l) == 0, "%s: lent memory was written", what);
 }
@@ -153,18 +188,26 @@ static void unanswered(const char *what, decode *with, const struct call *c)
     check(memcmp(&l, &before, sizeof l) == 0, "%s: lent memory was written", what);
 }
 
-/* Accepted with so many bits; the samples are left in l. */
+/* Accepted with so many bits and the events that are due; the samples are left in l. */
 static void accepted(const char *what, decode *with, const struct call *c, size_t bits, struct lent *l)
 {
     lend(c, l);
     uint32_t given = with(c, l);
     check(given == 0, "%s: refused by %u", what, (unsigned)given);
-    answered(what, l, 0, 0, bits, c->at + bits);
+    answered(what, l, 0, 0, bits, c->at + bits, c->spelled);
     check(l->samples[VAXEMBRO_SAMPLES] == 1000000 + VAXEMBRO_SAMPLES, "%s: written past the samples", what);
     check(l->store[c->store_len] == c->stored, "%s: written past the store", what);
     check(l->state[VAXEMBRO_STATE] == 77, "%s: written past the state", what);
     check(memcmp(l->state, c->state, 3 * sizeof *l->state) == 0 && (l->state[3] != 0) == (c->state[3] != 0), "%s: another picture", what);
     check(l->state[4] == c->state[4] + (with == in_picture), "%s: %u accepted", what, (unsigned)l->state[4]);
+}
+
+/* Over the memory that an earlier call left. */
+static void then(const char *what, decode *with, const struct call *c, uint32_t number, size_t bits, struct lent *l)
+{
+    uint32_t given = with(c, l);
+    check(given == number, "%s: %u given, %u due", what, (unsigned)given, (unsigned)number);
+    answered(what, l, number, 0, bits, c->at + bits, number == 0 ? c->spelled : none);
 }
 
 /* Where sample (x, y) of block i lies. */
@@ -251,7 +294,7 @@ static void without_dc_codes(void)
     accepted("no bits", in_picture, &c, 0, &l);
     flat("no bits", &l, 0, 5, 128);
     /* last, run 0, level -1 at place 0: 63 * 16 / 8 = 126 */
-    put(&c, "01111");
+    put_events(&c, P3, 1, 0, 0, 0, 0);
     c.cbpy = 8;
     accepted("DC among the events", in_picture, &c, 5, &l);
     flat("DC among the events", &l, 0, 3, 126);
@@ -269,7 +312,7 @@ static void one_level(void)
     struct call c;
     struct lent l;
     worked(&c);
-    put(&c, "011 01111 011 011 011 11 11");
+    put_events(&c, "011 01111 011 011 011 11 11", 1, 0, 0, 0, 0);
     c.cbpy = 8;
     accepted("one level", in_picture, &c, 21, &l);
     rows_are("one level", &l, 0, 0, 0, wave);
@@ -278,7 +321,7 @@ static void one_level(void)
     accepted("one level, scanned down", in_picture, &c, 21, &l);
     rows_are("one level, scanned down", &l, 0, 0, 1, wave);
     /* the same as a reversible escape, in Cr */
-    put(&c, "011 011 011 011 11 10 1 00001 1 000000 1 00000000001 1 0000 1");
+    put_events(&c, "011 011 011 011 11 10 1 00001 1 000000 1 00000000001 1 0000 1", 0, 0, 0, 0, 1);
     c.cbpy = 0;
     c.cbpc = 1;
     c.flags = DC | VAXEMBRO_REVERSIBLE_VLC;
@@ -289,7 +332,7 @@ static void one_level(void)
 
     /* method 1 at quantiser 8: -1 * 64 * 8 * 2 / 16 = -64 by the entry in row 0, column 1 */
     worked(&c);
-    put(&c, "011 01111 011 011 011 11 11");
+    put_events(&c, "011 01111 011 011 011 11 11", 1, 0, 0, 0, 0);
     c.cbpy = 8;
     memset(c.matrix, 16, sizeof c.matrix);
     c.matrix[1] = 64;
@@ -362,13 +405,13 @@ static void ac_prediction(void)
     struct call c;
     struct lent l;
     worked(&c);
-    put(&c, "011 01111 011 011 011 11 11");
+    put_events(&c, "011 01111 011 011 011 11 11", 1, 0, 0, 0, 0);
     c.cbpy = 8;
     c.flags = DC | VAXEMBRO_AC_PRED;
     accepted("from block 0", in_picture, &c, 21, &l);
     rows_are("from block 0", &l, 0, 1, 1, wave);
     flat("from block 0", &l, 2, 5, 128);
-    put(&c, "111 011 011 01111 011 11 11");
+    put_events(&c, "111 011 011 01111 011 11 11", 1, 0, 0, 0, 0);
     c.cbpy = 2;
     accepted("from C in a picture", in_picture, &c, 21, &l);
     flat("from C in a picture", &l, 0, 1, 130);
@@ -396,9 +439,9 @@ static void two(void)
     accepted("the first of two", in_picture, &c, 16, &l);
     for (size_t k = 0; k < VAXEMBRO_SAMPLES; k++) l.samples[k] = 0;
     number = vaxembro_decode_macroblock(l.state, 5, data, sizeof data, 16, VAXEMBRO_INTRA, 0, 0, 8, DC, c.matrix, 64, l.samples, 384,
-                                        l.store, 2 * VAXEMBRO_STORE, l.answer, 4);
+                                        l.store, 2 * VAXEMBRO_STORE, l.answer, 9);
     check(number == 0 && l.state[4] == 2, "the second of two: %u", (unsigned)number);
-    answered("the second of two", &l, 0, 0, 16, 32);
+    answered("the second of two", &l, 0, 0, 16, 32, none);
     flat("the second of two", &l, 0, 3, 130);
     flat("the second of two", &l, 4, 5, 128);
     memcpy(c.state, l.state, sizeof l.state);
@@ -406,37 +449,192 @@ static void two(void)
     refused("a complete picture", in_picture, &c, VAXEMBRO_COMPLETE, 0);
 }
 
-static void bad_bits(void)
+/* Bits of six blocks, and others after them. Where DC codes are in use each has a DC part of difference 0; a block without a list is not
+ * coded. How many bits the six have. */
+static size_t put_lists(struct call *c, const char *const *lists, const char *after)
+{
+    static char text[20000];
+    size_t bits = 0;
+    text[0] = 0;
+    c->cbpy = c->cbpc = 0;
+    for (int i = 0; i < 6; i++) {
+        if (c->flags & DC) strcat(text, i < 4 ? "011" : "11");
+        if (lists[i] == NULL) continue;
+        strcat(text, lists[i]);
+        if (i < 4) c->cbpy |= (uint8_t)(8 >> i);
+        if (i >= 4) c->cbpc |= (uint8_t)(2 >> (i - 4));
+    }
+    for (const char *t = text; *t; t++) bits += *t != ' ';
+    put(c, strcat(text, after));
+    return bits;
+}
+
+/* With DC codes and without, at the end of the data and before bits that would be events, in a picture and alone. */
+static void each_way(const char *what, const char *const *lists, uint32_t flags, const uint32_t *due)
+{
+    struct call c;
+    struct lent l;
+    for (int way = 0; way < 4; way++) {
+        worked(&c);
+        c.flags = flags | (way & 1 ? DC : 0);
+        size_t bits = put_lists(&c, lists, !(way & 2) ? "" : flags & RVLC ? CODE ESCAPE LAST_CODE : PLAIN TYPE1 P5);
+        memcpy(c.spelled, due, sizeof c.spelled);
+        accepted(what, in_picture, &c, bits, &l);
+        accepted(what, alone, &c, bits, &l);
+    }
+}
+
+static void spellings(void)
 {
     static const struct {
-        const char *what, *bits;
-        uint8_t cbpy;
-        uint32_t flags, number, figure;
-        size_t at;
+        const char *what, *lists[6];
+        uint32_t flags, due[SPELLINGS];
     } all[] = {
-        {"no bits left", "", 0, 0, VAXEMBRO_TRUNCATED, 0, 0},
-        {"one bit 0 left", "1111111 0", 0, 0, VAXEMBRO_INVALID_DC_SIZE, 0, 7},
-        {"no DC code", "0000000000001", 0, 0, VAXEMBRO_INVALID_DC_SIZE, 1, 0},
-        {"a marker 0", "00000001 100000000 0", 0, 0, VAXEMBRO_MARKER_BIT_MISSING, 0, 0},
-        {"no AC code", "011 0000000000011", 8, 0, VAXEMBRO_INVALID_TCOEF, 3, 0},
-        {"an escape's marker 0", "011 0000011 11 1 000000 0", 8, 0, VAXEMBRO_ESCAPE_MARKER_BIT_MISSING, 0, 0},
-        {"level 0", "011 0000011 11 1 000000 1 000000000000 1", 8, 0, VAXEMBRO_RESERVED_ESCAPE_LEVEL, 0, 0},
-        {"level -2048", "011 0000011 11 1 000000 1 100000000000 1", 8, 0, VAXEMBRO_RESERVED_ESCAPE_LEVEL, 0, 0},
-        {"no delimiter", "011 00001 1 000000 1 00000000001 1 0001 0", 8, VAXEMBRO_REVERSIBLE_VLC, VAXEMBRO_RVLC_ESCAPE_DELIMITER_MISSING, 1,
-         0},
-        {"run 63", "011 0000011 11 1 111111 1 000000000001 1", 8, 0, VAXEMBRO_OVERFLOW, 64, 0},
-        {"run 63, and then no code", "011 0000011 11 0 111111 1 000000000001 1 0000000", 8, 0, VAXEMBRO_INVALID_TCOEF, 0, 0},
-        {"run 63, and then no bits", "1111111 011 0000011 11 0 111111 1 000000000001 1", 8, 0, VAXEMBRO_TRUNCATED, 0, 7},
+        {"no block", {NULL}, 0, {0}},
+        {"plain", {P3}, 0, {1, 0, 0, 0, 0}},
+        {"type 1", {NULL, P4}, 0, {0, 1, 0, 0, 0}},
+        {"type 2", {NULL, NULL, P5}, 0, {0, 0, 1, 0, 0}},
+        {"type 3", {NULL, NULL, NULL, P6}, 0, {0, 0, 0, 1, 0}},
+        {"four in a list", {PLAIN TYPE1 PLAIN TYPE2 TYPE3 TYPE3 P4}, 0, {2, 2, 1, 2, 0}},
+        {"escapes one after the other", {NULL, NULL, NULL, NULL, TYPE3 TYPE2 TYPE1 PLAIN PLAIN PLAIN P5}, 0, {3, 1, 2, 1, 0}},
+        {"four in six lists", {P3, TYPE1 P4, P5, TYPE3 P3, TYPE1 P6, PLAIN PLAIN PLAIN TYPE2 TYPE3 P6}, 0, {5, 3, 2, 4, 0}},
+        {"four in three lists", {NULL, PLAIN TYPE1 P6, NULL, P5, NULL, PLAIN PLAIN PLAIN TYPE1 P4}, 0, {4, 3, 1, 1, 0}},
+        {"a reversible code", {LAST_CODE}, RVLC, {1, 0, 0, 0, 0}},
+        {"a reversible escape by itself", {NULL, NULL, NULL, NULL, LAST_ESCAPE}, RVLC, {0, 0, 0, 0, 1}},
+        {"reversible codes", {CODE CODE LAST_CODE, NULL, NULL, NULL, NULL, CODE LAST_CODE}, RVLC, {5, 0, 0, 0, 0}},
+        {"both in a list", {NULL, CODE ESCAPE CODE ESCAPE ESCAPE LAST_ESCAPE}, RVLC, {2, 0, 0, 0, 4}},
+        {"both in six lists",
+         {LAST_ESCAPE, CODE LAST_CODE, ESCAPE LAST_CODE, CODE LAST_ESCAPE, ESCAPE LAST_ESCAPE, CODE LAST_CODE},
+         RVLC,
+         {6, 0, 0, 0, 5}},
     };
+    for (size_t k = 0; k < sizeof all / sizeof *all; k++) each_way(all[k].what, all[k].lists, all[k].flags, all[k].due);
+}
+
+/* Six blocks with as many events of a spelling as fit. Type 2 adds 1 or more to the run: 1 to that of level 11 and, last, of level 6, which
+ * have codes of run 0 only. */
+static void most_events(void)
+{
+    static const struct {
+        const char *what, *event, *last;
+        uint32_t flags, which;
+        int most; /* from place 0 on */
+    } all[] = {
+        {"most plain", PLAIN, P3, 0, VAXEMBRO_PLAIN, 64},
+        {"most of type 1", TYPE1, P4, 0, VAXEMBRO_TYPE1, 64},
+        {"most of type 2", "0000011 10 00011110 1", "0000011 10 00000000101 0", 0, VAXEMBRO_TYPE2, 32},
+        {"most of type 3", TYPE3, P6, 0, VAXEMBRO_TYPE3, 64},
+        {"most reversible", CODE, LAST_CODE, RVLC, VAXEMBRO_PLAIN, 64},
+        {"most reversible escapes", ESCAPE, LAST_ESCAPE, RVLC, VAXEMBRO_RVLC_ESCAPE, 64},
+    };
+    static char list[3000];
+    const char *const lists[6] = {list, list, list, list, list, list};
     struct call c;
-    for (size_t k = 0; k < sizeof all / sizeof *all; k++) {
+    struct lent l;
+    for (size_t k = 0; k < 2 * sizeof all / sizeof *all; k++) {
+        int most = all[k / 2].most - (int)(k % 2);
+        list[0] = 0;
+        for (int n = 1; n < most; n++) strcat(list, all[k / 2].event);
+        strcat(list, all[k / 2].last);
         worked(&c);
-        put(&c, all[k].bits);
-        c.at = all[k].at;
-        c.cbpy = all[k].cbpy;
-        c.flags |= all[k].flags;
-        refused(all[k].what, in_picture, &c, all[k].number, all[k].figure);
-        refused(all[k].what, alone, &c, all[k].number, all[k].figure);
+        c.flags = all[k / 2].flags | (k % 2 ? DC : 0);
+        size_t bits = put_lists(&c, lists, "");
+        c.spelled[all[k / 2].which] = (uint32_t)(6 * most);
+        accepted(all[k / 2].what, in_picture, &c, bits, &l);
+        accepted(all[k / 2].what, alone, &c, bits, &l);
+    }
+}
+
+/* A DC difference of 9 bits before the events, which stand in blocks 0 and 1 and in Cb. */
+static void after_a_long_difference(void)
+{
+    struct call c;
+    struct lent l;
+    worked(&c);
+    put_events(&c, "00000001 100000000 1" PLAIN P4 "011" P5 "011 011 11" P6 "11", 1, 1, 1, 1, 0);
+    c.cbpy = 12;
+    c.cbpc = 2;
+    accepted("a difference of 9 bits", in_picture, &c, 91, &l);
+    accepted("a difference of 9 bits, alone", alone, &c, 91, &l);
+}
+
+/* Two macroblocks of 62 and 30 bits, one without events between them, and then a refusal, over the same memory. */
+static void one_after_the_other(decode *with)
+{
+    static const char bits[] = "011" PLAIN P4 "011 011 011 11" P6 "11  011 011 011" P5 "011 11 11";
+    struct call c, dc;
+    struct lent l;
+    worked(&dc);
+    worked(&c);
+    put_events(&c, bits, 1, 1, 0, 1, 0);
+    c.state[0] = 3;
+    c.store_len = dc.store_len = 3 * VAXEMBRO_STORE;
+    c.cbpy = 8;
+    c.cbpc = 2;
+    accepted("three spellings", with, &c, 62, &l);
+    then("no event after them", with, &dc, 0, 16, &l);
+    put_events(&c, bits, 0, 0, 1, 0, 0);
+    c.at = 62;
+    c.cbpy = 2;
+    c.cbpc = 0;
+    then("another spelling after them", with, &c, 0, 30, &l);
+    if (with == alone) c.quantiser_scale = 0;
+    then("a refusal after them", with, &c, with == alone ? VAXEMBRO_CONTEXT : VAXEMBRO_COMPLETE, 0, &l);
+}
+
+/* Too short an answer is not written, and a longer one keeps its rest, whether or not the bits are read. */
+static void answer_lengths(decode *with)
+{
+    struct call c;
+    struct lent l;
+    worked(&c);
+    put_events(&c, "011" PLAIN P4 "011 011 011 11" P6 "11", 1, 1, 0, 1, 0);
+    c.cbpy = 8;
+    c.cbpc = 2;
+    for (c.answer_len = 0; c.answer_len < 9; c.answer_len++) unanswered("a short answer", with, &c);
+    for (; c.answer_len < 12; c.answer_len++) accepted("a longer answer", with, &c, 62, &l);
+    c.quantiser_scale = 0;
+    for (c.answer_len = 0; c.answer_len < 9; c.answer_len++) unanswered("a short answer, quantiser 0", with, &c);
+    for (; c.answer_len < 12; c.answer_len++) refused("a longer answer, quantiser 0", with, &c, VAXEMBRO_CONTEXT, 0);
+}
+
+/* Bits that are refused from a position on. */
+static const struct {
+    const char *what, *bits;
+    uint8_t cbpy;
+    uint32_t flags, number, figure;
+    size_t at;
+} bad[] = {
+    {"no bits left", "", 0, 0, VAXEMBRO_TRUNCATED, 0, 0},
+    {"one bit 0 left", "1111111 0", 0, 0, VAXEMBRO_INVALID_DC_SIZE, 0, 7},
+    {"no DC code", "0000000000001", 0, 0, VAXEMBRO_INVALID_DC_SIZE, 1, 0},
+    {"a marker 0", "00000001 100000000 0", 0, 0, VAXEMBRO_MARKER_BIT_MISSING, 0, 0},
+    {"no AC code", "011 0000000000011", 8, 0, VAXEMBRO_INVALID_TCOEF, 3, 0},
+    {"an escape's marker 0", "011 0000011 11 1 000000 0", 8, 0, VAXEMBRO_ESCAPE_MARKER_BIT_MISSING, 0, 0},
+    {"level 0", "011 0000011 11 1 000000 1 000000000000 1", 8, 0, VAXEMBRO_RESERVED_ESCAPE_LEVEL, 0, 0},
+    {"level -2048", "011 0000011 11 1 000000 1 100000000000 1", 8, 0, VAXEMBRO_RESERVED_ESCAPE_LEVEL, 0, 0},
+    {"no delimiter", "011 00001 1 000000 1 00000000001 1 0001 0", 8, VAXEMBRO_REVERSIBLE_VLC, VAXEMBRO_RVLC_ESCAPE_DELIMITER_MISSING, 1, 0},
+    {"run 63", "011 0000011 11 1 111111 1 000000000001 1", 8, 0, VAXEMBRO_OVERFLOW, 64, 0},
+    {"run 63, and then no code", "011 0000011 11 0 111111 1 000000000001 1 0000000", 8, 0, VAXEMBRO_INVALID_TCOEF, 0, 0},
+    {"run 63, and then no bits", "1111111 011 0000011 11 0 111111 1 000000000001 1", 8, 0, VAXEMBRO_TRUNCATED, 0, 7},
+    {"events, and then no code", "011" TYPE1 P5 "011" PLAIN "0000000000011", 12, 0, VAXEMBRO_INVALID_TCOEF, 3, 0},
+    {"events, and then run 63", "011" P4 "011" PLAIN "0000011 11 1 111111 1 000000000001 1", 12, 0, VAXEMBRO_OVERFLOW, 65, 0},
+    {"events, and then no DC code", "011" P6 "0000000000001", 8, 0, VAXEMBRO_INVALID_DC_SIZE, 1, 0},
+    {"escapes, and then a marker 0", "011" CODE LAST_ESCAPE "011" ESCAPE "00001 1 000000 0", 12, RVLC, VAXEMBRO_ESCAPE_MARKER_BIT_MISSING,
+     0, 0},
+};
+
+static void bad_bits(void)
+{
+    struct call c;
+    for (size_t k = 0; k < sizeof bad / sizeof *bad; k++) {
+        worked(&c);
+        put(&c, bad[k].bits);
+        c.at = bad[k].at;
+        c.cbpy = bad[k].cbpy;
+        c.flags |= bad[k].flags;
+        refused(bad[k].what, in_picture, &c, bad[k].number, bad[k].figure);
+        refused(bad[k].what, alone, &c, bad[k].number, bad[k].figure);
     }
     worked(&c);
     c.at = 16;
@@ -469,9 +667,9 @@ static void bad_state(decode *with)
     refused("63 numbers of matrix", with, &c, VAXEMBRO_TOO_SHORT, 0);
     worked(&c);
     c.answer_len = VAXEMBRO_ANSWER - 1;
-    unanswered("3 numbers of answer", with, &c);
+    unanswered("8 numbers of answer", with, &c);
     c.matrix_len = VAXEMBRO_MATRIX - 1;
-    unanswered("3 numbers of answer, 63 of matrix", with, &c);
+    unanswered("8 numbers of answer, 63 of matrix", with, &c);
 }
 
 /* Each pointer by itself NULL with length 0; then all of them. */
@@ -616,15 +814,25 @@ static void openings(void)
     }
 }
 
-static void short_answers(void)
+static void read_out(void)
 {
-    static const size_t answer[4] = {1, 2, 3, 4};
-    check(vaxembro_number(answer, 4) == 1 && vaxembro_figure(answer, 4) == 2, "an answer's number and figure");
-    check(vaxembro_bits(answer, 4) == 3 && vaxembro_position(answer, 4) == 4, "an answer's bits and position");
-    check(vaxembro_number(answer, 0) == 0 && vaxembro_figure(answer, 1) == 0, "a short answer's number and figure");
-    check(vaxembro_bits(answer, 2) == 0 && vaxembro_position(answer, 3) == 0, "a short answer's bits and position");
-    check(vaxembro_number(NULL, 0) == 0 && vaxembro_figure(NULL, 0) == 0, "no answer's number and figure");
-    check(vaxembro_bits(NULL, 0) == 0 && vaxembro_position(NULL, 0) == 0, "no answer's bits and position");
+    static const size_t answer[VAXEMBRO_ANSWER + 1] = {1, 2, 3, 4, 5, 6, 7, 8, 9, 10};
+    static const uint32_t others[] = {5, 5, 255, 255, 0x80000000u, 0xFFFFFFFCu, UINT32_MAX, UINT32_MAX};
+    check(vaxembro_number(answer, 9) == 1 && vaxembro_figure(answer, 9) == 2, "an answer's number and figure");
+    check(vaxembro_bits(answer, 9) == 3 && vaxembro_position(answer, 9) == 4, "an answer's bits and position");
+    check(vaxembro_spelling(answer, 9, VAXEMBRO_PLAIN) == 5, "an answer's plain events");
+    check(vaxembro_spelling(answer, 9, VAXEMBRO_TYPE1) == 6, "an answer's events of type 1");
+    check(vaxembro_spelling(answer, 9, VAXEMBRO_TYPE2) == 7, "an answer's events of type 2");
+    check(vaxembro_spelling(answer, 9, VAXEMBRO_TYPE3) == 8, "an answer's events of type 3");
+    check(vaxembro_spelling(answer, 9, VAXEMBRO_RVLC_ESCAPE) == 9, "an answer's reversible escapes");
+    for (size_t k = 0; k < sizeof others / sizeof *others; k++)
+        check(vaxembro_spelling(answer, 9 + k % 2, others[k]) == 0, "spelling %u", (unsigned)others[k]);
+    for (size_t len = 0; len < VAXEMBRO_ANSWER; len++) {
+        const size_t *a = len == 0 ? NULL : answer;
+        check(vaxembro_number(a, len) == 0 && vaxembro_figure(a, len) == 0, "number and figure of %zu numbers", len);
+        check(vaxembro_bits(a, len) == 0 && vaxembro_position(a, len) == 0, "bits and position of %zu numbers", len);
+        for (uint32_t k = 0; k <= SPELLINGS; k++) check(vaxembro_spelling(a, len, k) == 0, "spelling %u of %zu numbers", (unsigned)k, len);
+    }
 }
 
 int main(void)
@@ -637,6 +845,13 @@ int main(void)
     neighbours();
     ac_prediction();
     two();
+    spellings();
+    most_events();
+    after_a_long_difference();
+    one_after_the_other(in_picture);
+    one_after_the_other(alone);
+    answer_lengths(in_picture);
+    answer_lengths(alone);
     bad_bits();
     bad_state(in_picture);
     bad_state(alone);
@@ -647,7 +862,7 @@ int main(void)
     bad_picture();
     bad_neighbours();
     openings();
-    short_answers();
+    read_out();
     printf("C: %u checks, %u failed\n", checks, failures);
     return failures != 0;
 }

@@ -7,7 +7,7 @@
  * decoding give VAXEMBRO_TOO_SHORT before any other number, and nothing but `answer` is written.
  *
  * Decoding writes an `answer` of VAXEMBRO_ANSWER numbers or more in each case, also where other memory is too short: on a refusal the
- * number, its figure, 0 bits and the position before the call.
+ * number, its figure, 0 bits, the position before the call and 0 events of each spelling.
  *
  * docs/REFUSALS.md says when each number is given, with which figure, and in which order the tests are asked.
  */
@@ -28,7 +28,7 @@ enum {
     VAXEMBRO_NEIGHBOURS = 21, /* see vaxembro_decode_intra_macroblock */
     VAXEMBRO_SAMPLES = 384,   /* luma 256 row by row, Cb 64, Cr 64 */
     VAXEMBRO_STORE = 192,     /* for each macroblock of the picture's width */
-    VAXEMBRO_ANSWER = 4       /* number, figure, bits, position */
+    VAXEMBRO_ANSWER = 9       /* number, figure, bits, position, and events: plain, type 1, type 2, type 3, RVLC escape */
 };
 
 /* What mb_type says. Any other number: missing. */
@@ -66,6 +66,15 @@ enum {
     VAXEMBRO_COMPLETE = 15      /* width times height macroblocks were accepted */
 };
 
+/* How an event is spelled. */
+enum {
+    VAXEMBRO_PLAIN = 0, /* a code and its sign, reversible or not */
+    VAXEMBRO_TYPE1 = 1,
+    VAXEMBRO_TYPE2 = 2,
+    VAXEMBRO_TYPE3 = 3,
+    VAXEMBRO_RVLC_ESCAPE = 4
+};
+
 /* Opens a picture in `state`: 1 to 45 by 1 to 36 macroblocks, 4 to 12 bits a sample, quant_type 0 for method 2 and any other for method 1.
  * Gives 0, 11, 12 or 14; on a refusal the state is as it was. The store need not be cleared. */
 uint32_t vaxembro_open(uint32_t width, uint32_t height, uint32_t bits_per_pixel, uint32_t quant_type, uint32_t *state, size_t state_len);
@@ -90,6 +99,10 @@ uint32_t vaxembro_number(const size_t *answer, size_t answer_len);
 uint32_t vaxembro_figure(const size_t *answer, size_t answer_len);
 size_t vaxembro_bits(const size_t *answer, size_t answer_len);
 size_t vaxembro_position(const size_t *answer, size_t answer_len);
+
+/* How many events of an accepted macroblock are spelled as `which` says; 0 of any other spelling, and where the answer is too short. An
+ * escape counts once, a DC part is no event. */
+uint32_t vaxembro_spelling(const size_t *answer, size_t answer_len, uint32_t which);
 
 #ifdef __cplusplus
 }

@@ -1,12 +1,14 @@
 // `block::decode_intra_block_full` against the original, with `pattern_code` and the default matrix. Where the state is fine both must
 // give the same number and figure, or the same position, DC, samples and levels; elsewhere Rattle must refuse by 11, 12 or 13. On a
-// refusal everything lent must stay as it was (the original's reader moves: that is not asked).
+// refusal everything lent must stay as it was (the original's reader moves: that is not asked). Spellings, which the original does not
+// tell, must be those that were written.
 use crate::block;
 use crate::common::bits::{any_bytes, bytes_of, flip, push};
 use crate::common::block_call::{Answer, Call, lent};
 use crate::common::counts;
 use crate::common::dice::Dice;
 use crate::common::numbers::MOST_BYTES;
+use crate::common::sentence::{Sentence, Spellings, UNTOLD};
 use crate::common::setting::{Block, Matrix, Setting, Seven};
 use crate::common::tally::Tally;
 use crate::common::test::{self, Test};
@@ -15,23 +17,23 @@ use crate::common::test::{self, Test};
 unsafe extern "C" {
     fn rt_pattern_code(cbpy: u8, cbpc: u8, out: &mut [bool; 6]);
     fn rt_default_matrix(out: &mut Matrix);
-    fn rt_block(data: *const u8, len: usize, at: usize, i: usize, reading: &[bool; 3], quantiser_scale: u32, bits_per_pixel: u32, flags: &[bool; 5], dcs: &[i32; 3], qps: &[u32; 2], has: &[bool; 2], column: &Seven, row: &Seven, matrix: &Matrix, figure: &mut u32, position: &mut usize, dc: &mut i32, spatial: &mut Block, qf: &mut Block) -> u32;
+    fn rt_block(data: *const u8, len: usize, at: usize, i: usize, reading: &[bool; 3], quantiser_scale: u32, bits_per_pixel: u32, flags: &[bool; 5], dcs: &[i32; 3], qps: &[u32; 2], has: &[bool; 2], column: &Seven, row: &Seven, matrix: &Matrix, figure: &mut u32, position: &mut usize, spellings: &mut Spellings, dc: &mut i32, spatial: &mut Block, qf: &mut Block) -> u32;
 }
 
 impl test::Call for Call {
     type Answer = Answer;
 
     #[rustfmt::skip]
-    fn ours(&self, data: &[u8], at: usize) -> Answer {
-        let mut a = lent(at);
+    fn ours(&self, data: &[u8], at: usize) -> (Answer, Spellings) {
+        let (mut a, mut spellings) = (lent(at), UNTOLD);
         let s = &self.setting;
         a.number = unsafe {
             rt_block(
                 data.as_ptr(), data.len(), at, self.i, &self.reading, s.quantiser_scale, s.bits_per_pixel, &s.flags, &s.dcs, &s.qps, &s.has, &s.column, &s.row, &s.matrix,
-                &mut a.figure, &mut a.position, &mut a.dc, &mut a.samples, &mut a.levels,
+                &mut a.figure, &mut a.position, &mut spellings, &mut a.dc, &mut a.samples, &mut a.levels,
             )
         };
-        a
+        (a, spellings)
     }
 
     fn due(&self, data: &[u8], at: usize) -> Answer {
@@ -70,14 +72,19 @@ struct Blocks {
 }
 
 impl Blocks {
-    fn bits(&mut self, dice: &mut Dice, c: &Call, bits: &[bool]) {
-        let mut data = Vec::new();
-        let at = bytes_of(&mut data, bits, dice.below(20), dice.next());
-        self.bytes(c, &data, at);
+    // A sentence, and other bits after it or none.
+    fn whole(&mut self, dice: &mut Dice, c: &Call, one: &Sentence) {
+        self.bits(dice, c, &one.bits, Some(one.spellings));
     }
 
-    fn bytes(&mut self, c: &Call, data: &[u8], at: usize) {
-        let b = self.test.bytes(c, data, at);
+    fn bits(&mut self, dice: &mut Dice, c: &Call, bits: &[bool], written: Option<Spellings>) {
+        let mut data = Vec::new();
+        let at = bytes_of(&mut data, bits, dice.below(20), dice.next());
+        self.bytes(c, &data, at, written);
+    }
+
+    fn bytes(&mut self, c: &Call, data: &[u8], at: usize, written: Option<Spellings>) {
+        let b = self.test.bytes(c, data, at, written);
         if b.number == 0 {
             self.sees(c, data, at, &b);
         }
@@ -115,15 +122,14 @@ impl Blocks {
 fn sentences(test: &mut Blocks, dice: &mut Dice, n: usize) {
     for k in 0..n {
         let c = Call::drawn(dice);
-        let one = c.sentence(dice, k % 8 != 0, 20);
-        test.bits(dice, &c, &one);
-        let mut more = one.clone();
-        push(&mut more, dice.next(), dice.below(65));
+        let mut one = c.sentence(dice, k % 8 != 0, 20);
+        test.whole(dice, &c, &one);
+        push(&mut one.bits, dice.next(), dice.below(65));
         let other = Call {
             setting: Setting::drawn(dice),
             ..c
         };
-        test.bits(dice, &other, &more);
+        test.whole(dice, &other, &one);
     }
     test.says("sentences, and with other bits after");
     for _ in 0..n {
@@ -131,27 +137,27 @@ fn sentences(test: &mut Blocks, dice: &mut Dice, n: usize) {
         c.setting = Setting::grey(dice);
         c.reading[0] = dice.flag();
         let one = c.sentence(dice, true, 2);
-        test.bits(dice, &c, &one);
+        test.whole(dice, &c, &one);
     }
     test.says("short sentences, grey neighbours");
     for _ in 0..n {
         let c = Call::drawn(dice);
-        let one = c.sentence(dice, true, 20);
+        let one = c.sentence(dice, true, 20).bits;
         let kept = dice.below(one.len() + 1);
-        test.bits(dice, &c, &one[..kept]);
+        test.bits(dice, &c, &one[..kept], None);
     }
     test.says("cut sentences");
     for _ in 0..n {
         let c = Call::drawn(dice);
-        let mut bad = c.sentence(dice, true, 20);
+        let mut bad = c.sentence(dice, true, 20).bits;
         push(&mut bad, dice.next(), dice.below(65));
         flip(dice, &mut bad);
-        test.bits(dice, &c, &bad);
+        test.bits(dice, &c, &bad, None);
     }
     test.says("one to three bits flipped");
     for k in 0..n {
         let data = any_bytes(dice, if k % 8 == 0 { 100 } else { 12 });
-        test.bytes(&Call::drawn(dice), &data, dice.below(8 * data.len() + 1));
+        test.bytes(&Call::drawn(dice), &data, dice.below(8 * data.len() + 1), None);
     }
     test.says("random bytes");
 }
@@ -184,7 +190,7 @@ fn states(test: &mut Blocks, dice: &mut Dice, n: usize) {
     for _ in 0..n {
         let mut c = Call::drawn(dice);
         let one = c.sentence(dice, true, 20);
-        let mut at = bytes_of(&mut data, &one, dice.below(20), dice.next());
+        let mut at = bytes_of(&mut data, &one.bits, dice.below(20), dice.next());
         for _ in 0..1 + dice.below(2) {
             match dice.below(9) {
                 0 => c.i = dice.of(&[6, 7, usize::MAX]),
@@ -192,13 +198,13 @@ fn states(test: &mut Blocks, dice: &mut Dice, n: usize) {
                 _ => c.setting.spoil(dice),
             }
         }
-        test.bytes(&c, &data, at);
+        test.bytes(&c, &data, at, Some(one.spellings));
     }
     for n in [MOST_BYTES, MOST_BYTES + 1] {
         let data = vec![0x6d; n];
         (8 * n - 40..=8 * n)
             .chain([0, 3])
-            .for_each(|at| test.bytes(&Call::drawn(dice), &data, at));
+            .for_each(|at| test.bytes(&Call::drawn(dice), &data, at, None));
     }
     test.says("a bad state, or the longest data");
 }

@@ -1,8 +1,7 @@
 // One block: the call, and what it must give.
-use super::bits::Bits;
 use super::dice::Dice;
 use super::numbers::{self, data_fine};
-use super::sentence;
+use super::sentence::{self, Sentence};
 use super::setting::{self, Block, Setting};
 use crate::bitreader::BitReader;
 
@@ -53,11 +52,11 @@ impl Call {
     }
 
     // A DC part and 1 to `longest` events, as the call reads them (none where it is not coded); if they are to fit, every landing is below 64.
-    pub fn sentence(&self, dice: &mut Dice, fits: bool, longest: usize) -> Bits {
-        let mut bits = Bits::new();
+    pub fn sentence(&self, dice: &mut Dice, fits: bool, longest: usize) -> Sentence {
+        let mut one = Sentence::default();
         let [coded, dc_coded, reversible] = self.reading;
-        sentence::block(dice, &mut bits, self.i, coded, dc_coded, reversible, fits, longest);
-        bits
+        sentence::block(dice, &mut one, self.i, coded, dc_coded, reversible, fits, longest);
+        one
     }
 
     // 11, 12, 13, or what the original gives.

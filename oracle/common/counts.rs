@@ -1,9 +1,12 @@
-// Counts of answers by number, printed part by part.
+// Counts of answers by number, printed part by part, and of those whose spellings were held to what was written.
+use super::sentence::Spellings;
 
 #[derive(Default)]
 pub struct Counts {
     now: [u64; 16],
     all: [u64; 16],
+    held: u64,
+    spelled: [u64; 5],
 }
 
 impl Counts {
@@ -18,7 +21,23 @@ impl Counts {
         self.now = [0; 16];
     }
 
+    // The spellings that an accepted call tells must be those written; `call` says it where they are not.
+    pub fn spells(&mut self, ours: Spellings, written: Spellings, call: impl Fn()) {
+        if ours != written {
+            call();
+            println!("  spellings: ours {ours:?}, written {written:?}");
+            std::process::exit(1);
+        }
+        self.held += 1;
+        self.spelled.iter_mut().zip(written).for_each(|(a, n)| *a += u64::from(n));
+    }
+
     pub fn end(&self, what: &str) {
+        let [plain, one, two, three, escapes] = self.spelled;
+        println!(
+            "{:44} {:>9} {what}: {plain:>8} plain, {one} of type 1, {two} of type 2, {three} of type 3, {escapes} reversible escapes",
+            "spellings as written", self.held
+        );
         println!("{:44} {}, no difference", "all", told(&self.all, what));
     }
 

@@ -1,9 +1,8 @@
 // One macroblock alone: the call, and what it must give.
-use super::bits::Bits;
 use super::dice::Dice;
 use super::header::{Header, lent, put};
 use super::numbers::{self, data_fine};
-use super::sentence;
+use super::sentence::{self, Sentence};
 use super::setting::{self, Setting};
 use crate::bitreader::BitReader;
 use crate::block::{self, BlockAssemblyError};
@@ -119,14 +118,14 @@ impl Call {
     }
 
     // As the call reads it, with 1 to `longest` events in a coded block; if they are to fit, every landing is below 64.
-    pub fn sentence(&self, dice: &mut Dice, fits: bool, longest: usize) -> Bits {
-        let mut bits = Bits::new();
+    pub fn sentence(&self, dice: &mut Dice, fits: bool, longest: usize) -> Sentence {
+        let mut one = Sentence::default();
         let [dc_coded, reversible] = self.reading;
         // where they are not to fit, one block is the cause
         let wide = if fits { 6 } else { dice.below(6) };
         for i in 0..6 {
-            sentence::block(dice, &mut bits, i, self.header.coded(i), dc_coded, reversible, i != wide, longest);
+            sentence::block(dice, &mut one, i, self.header.coded(i), dc_coded, reversible, i != wide, longest);
         }
-        bits
+        one
     }
 }

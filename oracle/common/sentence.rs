@@ -3,6 +3,19 @@ use super::bits::{Bits, push};
 use super::dice::Dice;
 use crate::texture::{self, DcComponent, TcoefTable};
 
+// How many events are spelled in each way: plain, escapes of type 1, 2 and 3, reversible escapes.
+pub type Spellings = [u32; 5];
+
+// Lent for them: what no call tells.
+pub const UNTOLD: Spellings = [999_999; 5];
+
+// Bits, and how the events in them are spelled.
+#[derive(Clone, Debug, Default)]
+pub struct Sentence {
+    pub bits: Bits,
+    pub spellings: Spellings,
+}
+
 pub fn component(chroma: bool) -> DcComponent {
     if chroma { DcComponent::Chrominance } else { DcComponent::Luminance }
 }
@@ -51,8 +64,8 @@ pub fn dc_part(dice: &mut Dice, bits: &mut Bits, component: DcComponent, sizes: 
     }
 }
 
-// One event in bits, with a run of at most `most`; its run. Plain: a code, escapes of type 1, 2 and 3.
-pub fn event(dice: &mut Dice, bits: &mut Bits, escapes: &Escapes, reversible: bool, inter: bool, last: bool, most: usize) -> usize {
+// One event, with a run of at most `most`; its run. Plain: a code, escapes of type 1, 2 and 3.
+pub fn event(dice: &mut Dice, one: &mut Sentence, escapes: &Escapes, reversible: bool, inter: bool, last: bool, most: usize) -> usize {
     let forms = if reversible { escapes.reversible } else { escapes.plain };
     for _ in 0..6 {
         let form = dice.below(forms);
@@ -75,23 +88,29 @@ pub fn event(dice: &mut Dice, bits: &mut Bits, escapes: &Escapes, reversible: bo
         if (l == 1) != last || form == forms - 1 || run > most {
             continue;
         }
-        if !reversible {
-            match form {
-                1 => push(bits, 0b0000011_0, 8),
-                2 => push(bits, 0b0000011_10, 9),
-                _ => (),
-            }
+        let spelling = if !reversible && matches!(form, 1 | 2) { form } else { 0 };
+        match spelling {
+            1 => push(&mut one.bits, 0b0000011_0, 8),
+            2 => push(&mut one.bits, 0b0000011_10, 9),
+            _ => (),
         }
-        push(bits, code.into(), len.into());
-        push(bits, dice.next(), 1);
+        push(&mut one.bits, code.into(), len.into());
+        push(&mut one.bits, dice.next(), 1);
+        one.spellings[spelling] += 1;
         return run;
     }
+    whole(dice, one, escapes, reversible, last, most)
+}
+
+// An escape with its values whole, and its run: of type 3, or a reversible one.
+fn whole(dice: &mut Dice, one: &mut Sentence, escapes: &Escapes, reversible: bool, last: bool, most: usize) -> usize {
     let run = dice.below(most.min(63) + 1);
     let top = match escapes.tops {
         [one] => *one,
         many => dice.of(many),
     };
     let magnitude = 1 + dice.below(top) as u64;
+    let bits = &mut one.bits;
     if reversible {
         push(bits, 0b00001, 5);
     } else {
@@ -108,13 +127,14 @@ pub fn event(dice: &mut Dice, bits: &mut Bits, escapes: &Escapes, reversible: bo
         push(bits, if dice.flag() { 4096 - magnitude } else { magnitude }, 12);
         push(bits, 1, 1);
     }
+    one.spellings[if reversible { 4 } else { 3 }] += 1;
     run
 }
 
 // 1 to `longest` events from a place on, the last with last 1; if they are to fit, every landing is below 64.
 pub fn list(
     dice: &mut Dice,
-    bits: &mut Bits,
+    one: &mut Sentence,
     escapes: &Escapes,
     reversible: bool,
     inter: bool,
@@ -127,7 +147,7 @@ pub fn list(
     for k in 1..=count {
         let last = k == count || (fits && place == 63);
         let most = if fits { usual.min(63 - place - usize::from(!last)) } else { usual };
-        place += event(dice, bits, escapes, reversible, inter, last, most) + 1;
+        place += event(dice, one, escapes, reversible, inter, last, most) + 1;
         if last {
             break;
         }
@@ -135,11 +155,11 @@ pub fn list(
 }
 
 // A block's: a DC part where DC codes are in use, and a list where it is coded.
-pub fn block(dice: &mut Dice, bits: &mut Bits, i: usize, coded: bool, dc_coded: bool, reversible: bool, fits: bool, longest: usize) {
+pub fn block(dice: &mut Dice, one: &mut Sentence, i: usize, coded: bool, dc_coded: bool, reversible: bool, fits: bool, longest: usize) {
     if dc_coded {
-        dc_part(dice, bits, component(i >= 4), None);
+        dc_part(dice, &mut one.bits, component(i >= 4), None);
     }
     if coded {
-        list(dice, bits, &SOME, reversible, false, usize::from(dc_coded), fits, longest);
+        list(dice, one, &SOME, reversible, false, usize::from(dc_coded), fits, longest);
     }
 }

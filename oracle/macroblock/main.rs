@@ -1,36 +1,37 @@
 // `macroblock::decode_intra_macroblock` against the original's, which is for DC codes with plain events, and for the rest against the
 // original's block reading taken six times. Where the state is fine both must give the same number and figure, or the same number of
 // bits, position and samples; elsewhere Rattle must refuse by document 01's first of 11, 12, 13, 14, 9 and 10. On a refusal the samples
-// must stay as they were, and always those past 384.
+// must stay as they were, and always those past 384. Spellings, which the original does not tell, must be those that were written.
 use crate::common::bits::{Bits, any_bytes, bytes_of, flip, push};
 use crate::common::counts;
 use crate::common::dice::Dice;
 use crate::common::header::samples_told;
 use crate::common::macroblock_call::{Answer, Call, READINGS};
 use crate::common::numbers::MOST_BYTES;
+use crate::common::sentence::{Sentence, Spellings, UNTOLD};
 use crate::common::setting::{Matrix, Seven};
 use crate::common::test::{self, Test};
 
 #[rustfmt::skip]
 unsafe extern "C" {
-    fn rt_macroblock(data: *const u8, len: usize, at: usize, header_flags: &[bool; 2], mb_type: u32, patterns: &[u8; 2], reading: &[bool; 2], quantiser_scale: u32, bits_per_pixel: u32, flags: &[bool; 5], dcs: &[i32; 3], qps: &[u32; 2], has: &[bool; 2], column: &Seven, row: &Seven, matrix: &Matrix, figure: &mut u32, bits: &mut usize, position: &mut usize, samples: *mut i32, room: usize) -> u32;
+    fn rt_macroblock(data: *const u8, len: usize, at: usize, header_flags: &[bool; 2], mb_type: u32, patterns: &[u8; 2], reading: &[bool; 2], quantiser_scale: u32, bits_per_pixel: u32, flags: &[bool; 5], dcs: &[i32; 3], qps: &[u32; 2], has: &[bool; 2], column: &Seven, row: &Seven, matrix: &Matrix, figure: &mut u32, bits: &mut usize, position: &mut usize, spellings: &mut Spellings, samples: *mut i32, room: usize) -> u32;
 }
 
 impl test::Call for Call {
     type Answer = Answer;
 
     #[rustfmt::skip]
-    fn ours(&self, data: &[u8], at: usize) -> Answer {
-        let mut a = self.lent(at);
+    fn ours(&self, data: &[u8], at: usize) -> (Answer, Spellings) {
+        let (mut a, mut spellings) = (self.lent(at), UNTOLD);
         let (h, s) = (&self.header, &self.setting);
         a.number = unsafe {
             rt_macroblock(
                 data.as_ptr(), data.len(), at, &[h.not_coded, h.ac_pred_flag], h.mb_type, &[h.cbpy, h.cbpc], &self.reading,
                 s.quantiser_scale, s.bits_per_pixel, &s.flags, &s.dcs, &s.qps, &s.has, &s.column, &s.row, &s.matrix,
-                &mut a.figure, &mut a.bits, &mut a.position, a.samples.as_mut_ptr(), a.samples.len(),
+                &mut a.figure, &mut a.bits, &mut a.position, &mut spellings, a.samples.as_mut_ptr(), a.samples.len(),
             )
         };
-        a
+        (a, spellings)
     }
 
     fn due(&self, data: &[u8], at: usize) -> Answer {
@@ -72,19 +73,24 @@ fn says(test: &mut Test, name: &str) {
     test.counts.says(name, "macroblocks");
 }
 
+// A sentence, and other bits after it or none.
+fn spelled(test: &mut Test, dice: &mut Dice, c: &Call, one: &Sentence) {
+    test.bits(dice, c, &one.bits, Some(one.spellings));
+}
+
 // Whole, followed by the end and by other bits.
 fn whole(test: &mut Test, dice: &mut Dice, n: usize) {
     patterns(n, |k, pattern, reading| {
         let c = Call::drawn(dice, pattern, reading);
         let longest = dice.of(&[1, 2, 6, 20, 63]);
         let mut one = c.sentence(dice, k % 8 != 7, longest);
-        test.bits(dice, &c, &one);
-        push(&mut one, dice.next(), dice.below(65));
+        spelled(test, dice, &c, &one);
+        push(&mut one.bits, dice.next(), dice.below(65));
         let other = Call {
             header: c.header,
             ..Call::drawn(dice, pattern, reading)
         };
-        test.bits(dice, &other, &one);
+        spelled(test, dice, &other, &one);
     });
     says(test, "sentences, and with other bits after");
 }
@@ -94,13 +100,13 @@ fn cut(test: &mut Test, dice: &mut Dice, n: usize) {
     let sentences = |dice: &mut Dice, pattern, reading| {
         let c = Call::drawn(dice, pattern, reading);
         let longest = dice.of(&[1, 2, 6, 20]);
-        let one = c.sentence(dice, true, longest);
+        let one = c.sentence(dice, true, longest).bits;
         (c, one)
     };
     patterns(n, |_, pattern, reading| {
         let (c, one) = sentences(dice, pattern, reading);
         for kept in 0..one.len() {
-            test.bits(dice, &c, &one[..kept]);
+            test.bits(dice, &c, &one[..kept], None);
         }
     });
     says(test, "every truncation of sentences");
@@ -108,7 +114,7 @@ fn cut(test: &mut Test, dice: &mut Dice, n: usize) {
         let (c, mut one) = sentences(dice, pattern, reading);
         for i in 0..one.len() {
             one[i] = !one[i];
-            test.bits(dice, &c, &one);
+            test.bits(dice, &c, &one, None);
             one[i] = !one[i];
         }
     });
@@ -119,16 +125,16 @@ fn flipped(test: &mut Test, dice: &mut Dice, n: usize) {
     patterns(n, |_, pattern, reading| {
         let c = Call::drawn(dice, pattern, reading);
         let longest = dice.of(&[2, 6, 20, 63]);
-        let mut bad = c.sentence(dice, true, longest);
+        let mut bad = c.sentence(dice, true, longest).bits;
         push(&mut bad, dice.next(), dice.below(65));
         flip(dice, &mut bad);
-        test.bits(dice, &c, &bad);
+        test.bits(dice, &c, &bad, None);
     });
     says(test, "one to three bits flipped");
     patterns(n, |k, pattern, reading| {
         let data = any_bytes(dice, if k % 4 == 0 { 300 } else { 24 });
         let c = Call::drawn(dice, pattern, reading);
-        test.bytes(&c, &data, dice.below(8 * data.len() + 1));
+        test.bytes(&c, &data, dice.below(8 * data.len() + 1), None);
     });
     says(test, "random bytes");
 }
@@ -141,7 +147,7 @@ fn short(test: &mut Test, dice: &mut Dice) {
                 let mut bits = Bits::new();
                 push(&mut bits, v, n);
                 let c = Call::drawn(dice, pattern, reading);
-                test.bits(dice, &c, &bits);
+                test.bits(dice, &c, &bits, None);
             }
         }
     };
@@ -156,7 +162,7 @@ fn short(test: &mut Test, dice: &mut Dice) {
         let mut c = Call::drawn(dice, 0, READINGS[usize::from(both & 3)]);
         [c.header.cbpy, c.header.cbpc] = both.rotate_left(5).to_be_bytes();
         let one = c.sentence(dice, true, 1);
-        test.bits(dice, &c, &one);
+        spelled(test, dice, &c, &one);
     }
     says(test, "every cbpy and cbpc");
 }
@@ -167,7 +173,7 @@ fn states(test: &mut Test, dice: &mut Dice, n: usize) {
     for _ in 0..256 * n {
         let mut c = Call::any(dice);
         let one = c.sentence(dice, true, 6);
-        let mut at = bytes_of(&mut data, &one, dice.below(20), dice.next());
+        let mut at = bytes_of(&mut data, &one.bits, dice.below(20), dice.next());
         for _ in 0..1 + dice.below(2) {
             match dice.below(6) {
                 0 => at = dice.of(&[8 * data.len() + 1, usize::MAX]),
@@ -176,12 +182,12 @@ fn states(test: &mut Test, dice: &mut Dice, n: usize) {
                 _ => c.setting.spoil(dice),
             }
         }
-        test.bytes(&c, &data, at);
+        test.bytes(&c, &data, at, Some(one.spellings));
     }
     for n in [MOST_BYTES, MOST_BYTES + 1] {
         let data = vec![0x6d; n];
         for at in (8 * n - 80..=8 * n).chain([0, 3]) {
-            test.bytes(&Call::any(dice), &data, at);
+            test.bytes(&Call::any(dice), &data, at, None);
         }
     }
     says(test, "a bad state, or the longest data");

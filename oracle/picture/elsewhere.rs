@@ -1,9 +1,10 @@
 // One call with a picture and a store from elsewhere, in range or not.
 use super::layer::{Kept, Picture, Place, Step, due};
 use super::scene::simpler_steps;
-use super::{Style, ours, put_bits, spoil, step_told, told};
+use super::{Style, miscounted, ours, put_bits, same, spoil, step_told, told};
 use crate::common::counts::Counts;
 use crate::common::dice::Dice;
+use crate::common::sentence::{Spellings, UNTOLD};
 use crate::common::smallest::{simplest, smallest_data};
 
 // Where a record lies, and a block in it: a ring of two rows of macroblocks, 96 numbers each, of which 91 are used: for each block its
@@ -68,19 +69,23 @@ pub fn call(counts: &mut Counts, dice: &mut Dice, style: &Style) {
         };
     }
     let mut quantiser = 1 + dice.below(31) as u32;
-    let (mut s, bits) = style.step(dice, &mut quantiser);
-    put_bits(dice, &mut s, &bits);
+    let (mut s, one) = style.step(dice, &mut quantiser);
+    put_bits(dice, &mut s, &one.bits);
+    let mut written = Some(one.spellings);
     match dice.below(12) {
         0 => p.numbers[0] = dice.outside(1, 45) as u32,
         1 => p.numbers[1] = dice.outside(1, 36) as u32,
         2 => p.numbers[2] = dice.outside(4, 12) as u32,
-        3 => spoil(dice, &mut s, width as u32),
+        3 => {
+            spoil(dice, &mut s, width as u32);
+            written = None;
+        }
         _ => (),
     }
-    let differs = |p: Picture, s: &Step, store: &[i32]| -> Result<u32, String> {
+    let differs = |p: Picture, s: &Step, store: &[i32]| -> Result<(u32, Spellings), String> {
         let lent = s.stored.min(store.len());
         let mut left = store.to_vec();
-        let a = ours(p, s, &mut left[..lent]);
+        let (a, spellings) = ours(p, s, &mut left[..lent]);
         let (b, six) = due(p, s, lent, &|place| stored(p.numbers[0], store, place));
         let mut due = store.to_vec();
         if let Some(six) = six {
@@ -94,18 +99,23 @@ pub fn call(counts: &mut Counts, dice: &mut Dice, style: &Style) {
             }
         }
         let places: Vec<usize> = (0..due.len()).filter(|&k| left[k] != due[k]).collect();
-        if a == b && places.is_empty() {
-            return Ok(a.number);
+        if same(&a, spellings, &b) && places.is_empty() {
+            return Ok((a.number, spellings));
         }
         Err(format!(
-            "{}\n  {} numbers of the store differ, at {:?}",
+            "{}\n  spellings: ours {spellings:?}, lent {UNTOLD:?}\n  {} numbers of the store differ, at {:?}",
             told(&a, &b),
             places.len(),
             &places[..places.len().min(8)]
         ))
     };
     match differs(p, &s, &store) {
-        Ok(number) => counts.took(number),
+        Ok((number, spellings)) => {
+            counts.took(number);
+            if let Some(written) = written.filter(|_| number == 0) {
+                counts.spells(spellings, written, || miscounted(p, &s));
+            }
+        }
         Err(_) => {
             let bad = |s: &Step, store: &[i32]| differs(p, s, store).is_err();
             let simple = simplest(s, simpler_steps, |s| bad(s, &store));

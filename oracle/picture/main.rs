@@ -1,10 +1,12 @@
 // `picture` against a picture layer over the original's block reading (layer.rs). Both must give the same number and figure, or the
 // same number of bits, position, samples and picture. A refusal must leave samples, store and picture as they were, so that the same
 // macroblock is due again; what is lent past 384 samples, or past 192 numbers of store for each macroblock of width, must always stay.
+// Spellings, which the original does not tell, must be those that were written, and stay on a refusal.
 use crate::common::bits::push;
 use crate::common::counts::{self, Counts};
 use crate::common::dice::Dice;
 use crate::common::header::samples_told;
+use crate::common::sentence::{Spellings, UNTOLD};
 use crate::common::setting::{Matrix, matrix_told};
 use crate::common::smallest::data_told;
 use layer::{Answer, Layer, Picture, Step, before, opening};
@@ -23,20 +25,25 @@ mod style;
 #[rustfmt::skip]
 unsafe extern "C" {
     fn rt_open(width: u32, height: u32, bits_per_pixel: u32, quant_type: bool, numbers: &mut [u32; 4], method: &mut bool) -> u32;
-    fn rt_picture(numbers: &mut [u32; 4], method: &mut bool, data: *const u8, len: usize, at: usize, header_flags: &[bool; 2], mb_type: u32, patterns: &[u8; 2], quantiser_scale: u32, flags: &[bool; 6], matrix: &Matrix, figure: &mut u32, bits: &mut usize, position: &mut usize, samples: *mut i32, room: usize, store: *mut i32, stored: usize) -> u32;
+    fn rt_picture(numbers: &mut [u32; 4], method: &mut bool, data: *const u8, len: usize, at: usize, header_flags: &[bool; 2], mb_type: u32, patterns: &[u8; 2], quantiser_scale: u32, flags: &[bool; 6], matrix: &Matrix, figure: &mut u32, bits: &mut usize, position: &mut usize, spellings: &mut Spellings, samples: *mut i32, room: usize, store: *mut i32, stored: usize) -> u32;
 }
 
 #[rustfmt::skip]
-fn ours(p: Picture, s: &Step, store: &mut [i32]) -> Answer {
-    let mut a = before(p, s);
+fn ours(p: Picture, s: &Step, store: &mut [i32]) -> (Answer, Spellings) {
+    let (mut a, mut spellings) = (before(p, s), UNTOLD);
     let (h, q) = (&s.header, s.quantiser_scale);
     a.number = unsafe {
         rt_picture(
             &mut a.picture.numbers, &mut a.picture.method, s.data.as_ptr(), s.data.len(), s.at, &[h.not_coded, h.ac_pred_flag], h.mb_type, &[h.cbpy, h.cbpc], q, &s.flags, &s.matrix,
-            &mut a.figure, &mut a.bits, &mut a.position, a.samples.as_mut_ptr(), a.samples.len(), store.as_mut_ptr(), store.len(),
+            &mut a.figure, &mut a.bits, &mut a.position, &mut spellings, a.samples.as_mut_ptr(), a.samples.len(), store.as_mut_ptr(), store.len(),
         )
     };
-    a
+    (a, spellings)
+}
+
+// A refusal tells no spellings.
+fn same(ours: &Answer, spellings: Spellings, due: &Answer) -> bool {
+    ours == due && (due.number == 0 || spellings == UNTOLD)
 }
 
 // What differs between two answers.
@@ -91,21 +98,21 @@ impl Play {
         }
     }
 
-    // What differs, or the answer.
-    fn step(&mut self, s: &Step) -> Result<Answer, String> {
+    // What differs, or the answer and its spellings.
+    fn step(&mut self, s: &Step) -> Result<(Answer, Spellings), String> {
         let stored = s.stored.min(self.store.len());
         let old = self.store.clone();
-        let a = ours(self.picture, s, &mut self.store[..stored]);
+        let (a, spellings) = ours(self.picture, s, &mut self.store[..stored]);
         let b = self.layer.call(s, stored);
         self.picture = a.picture;
-        if a != b {
-            return Err(told(&a, &b));
+        if !same(&a, spellings, &b) {
+            return Err(format!("{}\n  spellings: ours {spellings:?}, lent {UNTOLD:?}", told(&a, &b)));
         }
         let from = if a.number == 0 { 192 * a.picture.numbers[0] as usize } else { 0 };
         if self.store[from..] != old[from..] {
             return Err(format!("{}\n  the store was written to", told(&a, &b)));
         }
-        Ok(a)
+        Ok((a, spellings))
     }
 }
 
@@ -127,7 +134,8 @@ struct Pictures {
 }
 
 impl Pictures {
-    fn took(&mut self, a: &Answer, steps: &[Step], refused: bool) {
+    // The last of these steps, as it was written if that is known.
+    fn took(&mut self, (a, spellings): &(Answer, Spellings), steps: &[Step], written: Option<Spellings>, refused: bool) {
         self.counts.took(a.number);
         if a.number != 0 {
             return;
@@ -137,6 +145,9 @@ impl Pictures {
         values.sort_unstable();
         values.dedup();
         let last = &steps[steps.len() - 1];
+        if let Some(written) = written {
+            self.counts.spells(*spellings, written, || miscounted(a.picture, last));
+        }
         let what = [
             values[0] > 0 && values[values.len() - 1] < top,
             values.len() >= 16,
@@ -148,6 +159,25 @@ impl Pictures {
             *n += u64::from(x);
         }
     }
+}
+
+fn miscounted(p: Picture, s: &Step) {
+    println!("DIFFERS: in {p:?}");
+    step_told(s);
+}
+
+// A sentence with other bits after it or none, and how it is spelled; or, one in so many, a call that is spoiled.
+fn call(dice: &mut Dice, style: &Style, quantiser: &mut u32, width: u32, refusals: usize) -> (Step, Option<Spellings>) {
+    let (mut s, mut one) = style.step(dice, quantiser);
+    if dice.flag() {
+        push(&mut one.bits, dice.next(), dice.below(65));
+    }
+    put_bits(dice, &mut s, &one.bits);
+    if dice.below(refusals) != 0 {
+        return (s, Some(one.spellings));
+    }
+    (0..1 + dice.below(2)).for_each(|_| spoil(dice, &mut s, width));
+    (s, None)
 }
 
 // A whole picture: macroblock after macroblock, in between calls that are most likely refused (one in so many), and some calls after
@@ -174,20 +204,13 @@ fn picture(all: &mut Pictures, dice: &mut Dice, width: u32, height: u32, refusal
         if play.picture.numbers[3] == width * height {
             after -= 1;
         }
-        let (mut s, mut bits) = style.step(dice, &mut quantiser);
-        if dice.flag() {
-            push(&mut bits, dice.next(), dice.below(65));
-        }
-        put_bits(dice, &mut s, &bits);
-        if dice.below(refusals) == 0 {
-            (0..1 + dice.below(2)).for_each(|_| spoil(dice, &mut s, width));
-        }
+        let (s, written) = call(dice, &style, &mut quantiser, width, refusals);
         let answer = play.step(&s);
         scene.steps.push(s);
         match answer {
             Ok(answer) => {
-                all.took(&answer, &scene.steps, refused);
-                refused = answer.number != 0;
+                all.took(&answer, &scene.steps, written, refused);
+                refused = answer.0.number != 0;
             }
             Err(_) => scene::smallest(scene),
         }

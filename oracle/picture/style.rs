@@ -1,9 +1,9 @@
 // The calls of a picture, as they are drawn.
 use super::layer::Step;
-use crate::common::bits::{Bits, any_bytes, bits_from, bytes_of, flip};
+use crate::common::bits::{any_bytes, bits_from, bytes_of, flip};
 use crate::common::dice::Dice;
 use crate::common::header::Header;
-use crate::common::sentence::{self, Escapes, FEW, SOME, component};
+use crate::common::sentence::{self, Escapes, FEW, SOME, Sentence, component};
 use crate::common::setting::{self, Matrix};
 
 // How a picture's macroblocks are drawn.
@@ -44,8 +44,8 @@ impl Style {
         }
     }
 
-    // A call that is fine, with the bits of a sentence that fits.
-    pub fn step(&self, dice: &mut Dice, quantiser: &mut u32) -> (Step, Bits) {
+    // A call that is fine, with a sentence that fits.
+    pub fn step(&self, dice: &mut Dice, quantiser: &mut u32) -> (Step, Sentence) {
         *quantiser = match self.quantisers {
             0 => *quantiser,
             1 => 1 + dice.below(31) as u32,
@@ -64,15 +64,15 @@ impl Style {
             room: if dice.rarely() { 384 + dice.below(20) } else { 384 },
             stored: usize::MAX,
         };
-        let mut bits = Bits::new();
+        let mut one = Sentence::default();
         for i in 0..6 {
             if dc_coded {
-                sentence::dc_part(dice, &mut bits, component(i >= 4), self.sizes);
+                sentence::dc_part(dice, &mut one.bits, component(i >= 4), self.sizes);
             }
             if s.header.coded(i) {
                 sentence::list(
                     dice,
-                    &mut bits,
+                    &mut one,
                     self.escapes,
                     reversible,
                     false,
@@ -82,7 +82,7 @@ impl Style {
                 );
             }
         }
-        (s, bits)
+        (s, one)
     }
 }
 

@@ -16,7 +16,7 @@ fn whole(record: &mut Record, dice: &mut Dice) {
             c.setting = Setting::grey(dice);
             longest = longest.min(4);
         }
-        let mut one = c.sentence(dice, true, longest);
+        let mut one = c.sentence(dice, true, longest).bits;
         if dice.flag() {
             push(&mut one, dice.next(), dice.below(65));
         }
@@ -27,7 +27,7 @@ fn whole(record: &mut Record, dice: &mut Dice) {
 // Most likely refused: cut, with bits flipped, too long, any bytes, a bad state.
 fn bad(dice: &mut Dice, c: &mut Call) -> Data {
     let (way, longest) = (dice.below(8), dice.of(&[1, 2, 6]));
-    let mut one = c.sentence(dice, way != 2, longest);
+    let mut one = c.sentence(dice, way != 2, longest).bits;
     match way {
         0 => one.truncate(dice.below(one.len() + 1)),
         1 => flip(dice, &mut one),

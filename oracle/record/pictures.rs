@@ -28,11 +28,11 @@ fn openings(record: &mut Record) {
 }
 
 fn step(dice: &mut Dice, style: &Style, quantiser: &mut u32) -> Step {
-    let (mut s, mut bits) = style.step(dice, quantiser);
+    let (mut s, mut one) = style.step(dice, quantiser);
     if dice.flag() {
-        push(&mut bits, dice.next(), dice.below(65));
+        push(&mut one.bits, dice.next(), dice.below(65));
     }
-    put_bits(dice, &mut s, &bits);
+    put_bits(dice, &mut s, &one.bits);
     s
 }
 

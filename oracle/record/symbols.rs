@@ -2,7 +2,7 @@
 use super::lines::{Data, Record};
 use crate::common::bits::{Bits, flip, push};
 use crate::common::dice::Dice;
-use crate::common::sentence::{self, MANY, component, table};
+use crate::common::sentence::{self, MANY, Sentence, component, table};
 use crate::common::symbol_call::Call;
 use crate::texture;
 
@@ -246,9 +246,10 @@ fn landings(record: &mut Record, dice: &mut Dice, c: Call, reversible: bool) {
 // Drawn: whole, with other bits after, cut, and with bits flipped.
 fn drawn(record: &mut Record, dice: &mut Dice, c: Call, reversible: bool, inter: bool, dc_coded: bool) {
     for k in 0..12 {
-        let mut one = Bits::new();
+        let mut one = Sentence::default();
         let longest = [1, 2, 4, 8, 20, 64][k / 2];
         sentence::list(dice, &mut one, &MANY, reversible, inter, dc_coded.into(), k % 4 != 3, longest);
+        let mut one = one.bits;
         whole(record, dice, c, &one);
         let kept = dice.below(one.len());
         whole(record, dice, c, &one[..kept]);

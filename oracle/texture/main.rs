@@ -1,9 +1,10 @@
 // `texture` against the original. Both must give the same number, figure, position and values. On a refusal the position and the numbers
-// lent must stay as they were (the original's reader moves: that is not asked).
+// lent must stay as they were (the original's reader moves: that is not asked). Spellings, which the original does not tell, must be
+// those that were written.
 use crate::common::bits::{Bits, any_bytes, bytes_of, flip, push};
 use crate::common::dice::Dice;
 use crate::common::numbers::MOST_BYTES;
-use crate::common::sentence::{self, MANY};
+use crate::common::sentence::{self, MANY, Sentence, Spellings, UNTOLD};
 use crate::common::symbol_call::{Answer, Call, due, lent};
 use crate::common::test::{self, Test};
 use crate::texture::{self, TcoefTable};
@@ -11,15 +12,16 @@ use crate::texture::{self, TcoefTable};
 #[rustfmt::skip]
 unsafe extern "C" {
     fn rt_intra_dc(data: *const u8, len: usize, at: usize, chroma: bool, figure: &mut u32, size: &mut u32, differential: &mut i32, position: &mut usize) -> u32;
-    fn rt_ac_event(data: *const u8, len: usize, at: usize, inter: bool, figure: &mut u32, last: &mut bool, run: &mut u32, level: &mut i32, position: &mut usize) -> u32;
-    fn rt_ac_event_rvlc(data: *const u8, len: usize, at: usize, inter: bool, figure: &mut u32, last: &mut bool, run: &mut u32, level: &mut i32, position: &mut usize) -> u32;
-    fn rt_ac_events(data: *const u8, len: usize, at: usize, inter: bool, dc_coded: bool, qfs: &mut [i32; 64], figure: &mut u32, position: &mut usize) -> u32;
-    fn rt_ac_events_rvlc(data: *const u8, len: usize, at: usize, inter: bool, dc_coded: bool, qfs: &mut [i32; 64], figure: &mut u32, position: &mut usize) -> u32;
+    fn rt_ac_event(data: *const u8, len: usize, at: usize, inter: bool, figure: &mut u32, last: &mut bool, run: &mut u32, level: &mut i32, spelling: &mut u32, position: &mut usize) -> u32;
+    fn rt_ac_event_rvlc(data: *const u8, len: usize, at: usize, inter: bool, figure: &mut u32, last: &mut bool, run: &mut u32, level: &mut i32, spelling: &mut u32, position: &mut usize) -> u32;
+    fn rt_ac_events(data: *const u8, len: usize, at: usize, inter: bool, dc_coded: bool, qfs: &mut [i32; 64], figure: &mut u32, spellings: &mut Spellings, position: &mut usize) -> u32;
+    fn rt_ac_events_rvlc(data: *const u8, len: usize, at: usize, inter: bool, dc_coded: bool, qfs: &mut [i32; 64], figure: &mut u32, spellings: &mut Spellings, position: &mut usize) -> u32;
 }
 
-fn ours(call: Call, data: &[u8], at: usize) -> Answer {
+#[rustfmt::skip]
+fn ours(call: Call, data: &[u8], at: usize) -> (Answer, Spellings) {
     let (p, n) = (data.as_ptr(), data.len());
-    let mut a = lent(at);
+    let (mut a, mut spellings) = (lent(at), UNTOLD);
     let (figure, position) = (&mut a.figure, &mut a.position);
     match call {
         Call::Dc { chroma } => {
@@ -29,27 +31,31 @@ fn ours(call: Call, data: &[u8], at: usize) -> Answer {
         }
         Call::Event { reversible, inter } => {
             let read = if reversible { rt_ac_event_rvlc } else { rt_ac_event };
-            let (mut last, mut run) = (true, a.values[1] as u32);
-            a.number = unsafe { read(p, n, at, inter, figure, &mut last, &mut run, &mut a.values[2], position) };
+            let (mut last, mut run, mut spelling) = (true, a.values[1] as u32, UNTOLD[0]);
+            a.number = unsafe { read(p, n, at, inter, figure, &mut last, &mut run, &mut a.values[2], &mut spelling, position) };
             a.values[0] = i32::from(last);
             a.values[1] = run as i32;
+            if spelling != UNTOLD[0] {
+                spellings = only(spelling as usize);
+            }
         }
-        Call::List {
-            reversible,
-            inter,
-            dc_coded,
-        } => {
+        Call::List { reversible, inter, dc_coded } => {
             let read = if reversible { rt_ac_events_rvlc } else { rt_ac_events };
-            a.number = unsafe { read(p, n, at, inter, dc_coded, &mut a.values, figure, position) };
+            a.number = unsafe { read(p, n, at, inter, dc_coded, &mut a.values, figure, &mut spellings, position) };
         }
     }
-    a
+    (a, spellings)
+}
+
+// Those of one event.
+fn only(spelling: usize) -> Spellings {
+    std::array::from_fn(|k| u32::from(k == spelling))
 }
 
 impl test::Call for Call {
     type Answer = Answer;
 
-    fn ours(&self, data: &[u8], at: usize) -> Answer {
+    fn ours(&self, data: &[u8], at: usize) -> (Answer, Spellings) {
         ours(*self, data, at)
     }
 
@@ -88,14 +94,35 @@ impl test::Call for Call {
 
 fn each(test: &mut Test, dice: &mut Dice, calls: &[Call], bits: &[bool]) {
     calls.iter().for_each(|call| {
-        test.bits(dice, call, bits);
+        test.bits(dice, call, bits, first_event(call, bits));
+    });
+}
+
+fn each_written(test: &mut Test, dice: &mut Dice, calls: &[Call], bits: &[bool], written: Spellings) {
+    calls.iter().for_each(|call| {
+        test.bits(dice, call, bits, Some(written));
     });
 }
 
 fn each_bytes(test: &mut Test, calls: &[Call], data: &[u8], at: usize) {
     calls.iter().for_each(|call| {
-        test.bytes(call, data, at);
+        test.bytes(call, data, at, None);
     });
+}
+
+// How a single event is spelled: by the escape that it starts with.
+fn first_event(call: &Call, bits: &[bool]) -> Option<Spellings> {
+    let Call::Event { reversible, .. } = call else {
+        return None;
+    };
+    let starts = |escape: &str| bits.len() >= escape.len() && escape.bytes().zip(bits).all(|(c, bit)| *bit == (c == b'1'));
+    let escapes: &[(&str, usize)] = if *reversible {
+        &[("00001", 4)]
+    } else {
+        &[("00000110", 1), ("000001110", 2), ("000001111", 3)]
+    };
+    let found = escapes.iter().find(|(escape, _)| starts(escape));
+    Some(only(found.map_or(0, |one| one.1)))
 }
 
 // Every string of so many bits after a prefix, and then the end of the data.
@@ -148,8 +175,9 @@ fn reversible_escapes(test: &mut Test, dice: &mut Dice, calls: &[Call]) {
 fn lists(test: &mut Test, dice: &mut Dice, reversible: bool, sentences: usize) {
     for k in 0..sentences {
         let (inter, first, fits) = (k & 1 == 1, k >> 1 & 1, k >> 2 & 3 != 0);
-        let mut one = Bits::new();
+        let mut one = Sentence::default();
         sentence::list(dice, &mut one, &MANY, reversible, inter, first, fits, 1 + 70 * k / sentences);
+        let (one, written) = (one.bits, one.spellings);
         let calls = [false, true].map(|dc_coded| Call::List {
             reversible,
             inter,
@@ -157,24 +185,24 @@ fn lists(test: &mut Test, dice: &mut Dice, reversible: bool, sentences: usize) {
         });
         let call = calls[first];
         // whole, followed by the end, and by other bits
-        each(test, dice, &calls, &one);
+        each_written(test, dice, &calls, &one, written);
         let mut more = one.clone();
         push(&mut more, dice.next(), dice.below(65));
-        each(test, dice, &calls, &more);
+        each_written(test, dice, &calls, &more, written);
         // truncated: short ones everywhere
         if one.len() <= 64 {
             (0..one.len()).for_each(|n| each(test, dice, &[call], &one[..n]));
         } else {
             for _ in 0..4 {
                 let n = dice.below(one.len());
-                test.bits(dice, &call, &one[..n]);
+                test.bits(dice, &call, &one[..n], None);
             }
         }
         // one to three bits flipped
         for _ in 0..6 {
             let mut bad = more.clone();
             flip(dice, &mut bad);
-            test.bits(dice, &call, &bad);
+            test.bits(dice, &call, &bad, None);
         }
     }
 }
@@ -222,7 +250,7 @@ fn longest(test: &mut Test) {
                     dc_coded,
                 };
                 (0..500).for_each(|left| each_bytes(test, &[call], &data, 8 * MOST_BYTES - left));
-                test.bytes(&call, &data, at);
+                test.bytes(&call, &data, at, None);
                 assert_eq!(due(call, &data, at).number, [8, 1, 4][close]);
             }
         }

@@ -1,5 +1,5 @@
 // A macroblock alone.
-use crate::answer::result;
+use crate::answer::{ANSWER, result};
 use crate::given::flags;
 use crate::{Context, Decoded, Header, Matrix, Method, Refusal, Samples, ffi};
 
@@ -82,7 +82,7 @@ pub fn decode_intra_macroblock(
     matrix: &Matrix,
     samples: &mut Samples,
 ) -> Result<Decoded, Refusal> {
-    let mut answer = [0; 4];
+    let mut answer = [0; ANSWER];
     let (neighbours, matrix) = (neighbours.numbers(), matrix.0.as_flattened());
     // SAFETY: each pointer and length are one slice's, and those that are written are borrowed for this call alone.
     let number = unsafe {

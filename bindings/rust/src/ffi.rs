@@ -15,7 +15,7 @@ unsafe extern "C" {
     pub fn vaxembro_open(width: u32, height: u32, bits_per_pixel: u32, quant_type: u32, state: *mut u32, state_len: usize) -> u32;
 
     /// Decodes the macroblock that is due in the picture of `state`: 0, or the number of the refusal. 64 numbers of `matrix`, 384 of
-    /// `samples`, 192 of `store` for each macroblock of width, 4 of `answer`.
+    /// `samples`, 192 of `store` for each macroblock of width, 9 of `answer`.
     ///
     /// # Safety
     /// As the module says.
@@ -58,4 +58,11 @@ unsafe extern "C" {
     /// # Safety
     /// As the module says.
     pub fn vaxembro_position(answer: *const usize, answer_len: usize) -> usize;
+
+    /// How many events are spelled so: 0 is plain, 1 to 3 an escape of that type, 4 a reversible escape. 0 of any other spelling, and
+    /// where the answer is too short.
+    ///
+    /// # Safety
+    /// As the module says.
+    pub fn vaxembro_spelling(answer: *const usize, answer_len: usize, which: u32) -> u32;
 }

@@ -8,14 +8,14 @@
 //! One macroblock of a picture of 1 by 1, with six DC parts of difference 0:
 //!
 //! ```
-//! use vaxembro::{Context, Decoded, Header, Matrix, Method, Picture, STORE};
+//! use vaxembro::{Context, Decoded, Header, Matrix, Method, Picture, STORE, Spellings};
 //!
 //! let mut store = [0; STORE];
 //! let mut samples = [0; 384];
 //! let mut picture = Picture::open(1, 1, 8, Method::Two, &mut store)?;
 //! let (header, context, matrix) = (Header::intra(0, 0), Context::new(8), Matrix::default());
 //! let decoded = picture.decode_macroblock(&[0x6D, 0xBF], 0, header, context, &matrix, &mut samples)?;
-//! assert_eq!(decoded, Decoded { bits: 16, position: 16 });
+//! assert_eq!(decoded, Decoded { bits: 16, position: 16, spellings: Spellings::default() });
 //! assert_eq!(samples, [128; 384]);
 //! # Ok::<(), vaxembro::Refusal>(())
 //! ```
@@ -30,7 +30,7 @@ mod picture;
 mod refusal;
 
 pub use alone::{Neighbours, decode_intra_macroblock};
-pub use answer::Decoded;
+pub use answer::{Decoded, Spellings};
 pub use given::{Context, Header, Matrix, MbType, Method};
 pub use picture::{Picture, STORE};
 pub use refusal::Refusal;

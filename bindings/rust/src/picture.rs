@@ -1,5 +1,5 @@
 // A picture, macroblock by macroblock.
-use crate::answer::result;
+use crate::answer::{ANSWER, result};
 use crate::given::flags;
 use crate::{Context, Decoded, Header, Matrix, Method, Refusal, Samples, ffi};
 
@@ -74,7 +74,7 @@ impl<'a> Picture<'a> {
         matrix: &Matrix,
         samples: &mut Samples,
     ) -> Result<Decoded, Refusal> {
-        let mut answer = [0; 4];
+        let mut answer = [0; ANSWER];
         let matrix = matrix.0.as_flattened();
         // SAFETY: each pointer and length are one slice's, and those that are written are borrowed for this call alone.
         let number = unsafe {

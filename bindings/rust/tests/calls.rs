@@ -1,7 +1,7 @@
 // Calls every function of the wrapper; what is due is worked out by hand from document 01.
 use std::error::Error;
 use vaxembro::{
-    Context, Decoded, Header, Matrix, MbType, Method, Neighbours, Picture, Refusal, STORE, Samples, decode_intra_macroblock, ffi,
+    Context, Decoded, Header, Matrix, MbType, Method, Neighbours, Picture, Refusal, STORE, Samples, Spellings, decode_intra_macroblock, ffi,
 };
 
 // What a call brings.
@@ -102,8 +102,30 @@ fn both_refuse(call: &Call, number: u32, figure: u32, name: &str) {
     refused(call.alone(), number, figure, name);
 }
 
-fn accepted((result, samples): (Result<Decoded, Refusal>, Samples), position: usize, bits: usize) -> Samples {
-    assert_eq!(result, Ok(Decoded { bits, position }));
+// So many events: plain, of type 1, 2 and 3, and reversible escapes.
+fn counts([plain, type1, type2, type3, rvlc_escape]: [u32; 5]) -> Spellings {
+    Spellings {
+        plain,
+        type1,
+        type2,
+        type3,
+        rvlc_escape,
+    }
+}
+
+fn decoded(position: usize, bits: usize, events: [u32; 5]) -> Decoded {
+    Decoded {
+        bits,
+        position,
+        spellings: counts(events),
+    }
+}
+
+const NONE: [u32; 5] = [0; 5];
+const ONE_PLAIN: [u32; 5] = [1, 0, 0, 0, 0];
+
+fn accepted((result, samples): (Result<Decoded, Refusal>, Samples), position: usize, bits: usize, events: [u32; 5]) -> Samples {
+    assert_eq!(result, Ok(decoded(position, bits, events)));
     samples
 }
 
@@ -132,8 +154,8 @@ fn flat(samples: &Samples, blocks: std::ops::Range<usize>, value: i32) {
 // The luma scaler at quantiser 8 is 16, the chroma scaler 10: 64 * 16 / 8 = 128, and 102 * 10 / 8 = 127.5, which is 128.
 #[test]
 fn worked_case() {
-    flat(&accepted(worked().in_picture(), 16, 16), 0..6, 128);
-    flat(&accepted(worked().alone(), 16, 16), 0..6, 128);
+    flat(&accepted(worked().in_picture(), 16, 16, NONE), 0..6, 128);
+    flat(&accepted(worked().alone(), 16, 16, NONE), 0..6, 128);
     let other = worked().with(|c| {
         c.header = Header {
             mb_type: MbType::IntraQ,
@@ -142,17 +164,17 @@ fn worked_case() {
             not_coded: false,
         }
     });
-    flat(&accepted(other.in_picture(), 16, 16), 0..6, 128);
+    flat(&accepted(other.in_picture(), 16, 16, NONE), 0..6, 128);
 }
 
 // Block 0 is 65 * 16 / 8 = 130; in a picture blocks 1 to 3 are predicted from it.
 #[test]
 fn difference_1() {
     let c = reading("10101 111 011 011 011 11 11", 0, 0).with(|c| c.at = 5);
-    let samples = accepted(c.in_picture(), 21, 16);
+    let samples = accepted(c.in_picture(), 21, 16, NONE);
     flat(&samples, 0..4, 130);
     flat(&samples, 4..6, 128);
-    let samples = accepted(c.alone(), 21, 16);
+    let samples = accepted(c.alone(), 21, 16, NONE);
     flat(&samples, 0..1, 130);
     flat(&samples, 1..6, 128);
 }
@@ -161,21 +183,21 @@ fn difference_1() {
 #[test]
 fn halves() {
     let mut c = reading("011 011 011 011 001 011 11", 0, 0);
-    flat(&accepted(c.in_picture(), 20, 20), 4..5, 123);
+    flat(&accepted(c.in_picture(), 20, 20, NONE), 4..5, 123);
     c.context.halves_to_even = true;
-    flat(&accepted(c.in_picture(), 20, 20), 4..5, 122);
-    flat(&accepted(c.alone(), 20, 20), 4..5, 122);
+    flat(&accepted(c.in_picture(), 20, 20, NONE), 4..5, 122);
+    flat(&accepted(c.alone(), 20, 20, NONE), 4..5, 122);
 }
 
 #[test]
 fn without_dc_codes() {
     let mut c = reading("", 0, 0);
     c.context.use_intra_dc_vlc = false;
-    flat(&accepted(c.in_picture(), 0, 0), 0..6, 128);
+    flat(&accepted(c.in_picture(), 0, 0, NONE), 0..6, 128);
     // last, run 0, level -1 at place 0: 63 * 16 / 8 = 126
     (c.data, c.header) = (bytes("01111"), Header::intra(8, 0));
-    flat(&accepted(c.in_picture(), 5, 5), 0..4, 126);
-    let samples = accepted(c.alone(), 5, 5);
+    flat(&accepted(c.in_picture(), 5, 5, ONE_PLAIN), 0..4, 126);
+    let samples = accepted(c.alone(), 5, 5, ONE_PLAIN);
     flat(&samples, 0..1, 126);
     flat(&samples, 1..6, 128);
 }
@@ -185,15 +207,15 @@ fn without_dc_codes() {
 fn one_level() {
     let wave = [124, 125, 126, 127, 129, 130, 131, 132];
     let mut c = reading("011 01111 011 011 011 11 11", 8, 0);
-    let samples = accepted(c.in_picture(), 21, 21);
+    let samples = accepted(c.in_picture(), 21, 21, ONE_PLAIN);
     rows_are(&samples, 0..1, wave);
     flat(&samples, 1..6, 128);
     c.context.alternate_vertical_scan = true;
-    columns_are(&accepted(c.in_picture(), 21, 21), 0..1, wave);
+    columns_are(&accepted(c.in_picture(), 21, 21, ONE_PLAIN), 0..1, wave);
     // as a reversible escape
     let mut c = reading("011 00001 1 000000 1 00000000001 1 0000 1 011 011 011 11 11", 8, 0);
     c.context.reversible_vlc = true;
-    rows_are(&accepted(c.in_picture(), 46, 46), 0..1, wave);
+    rows_are(&accepted(c.in_picture(), 46, 46, [0, 0, 0, 0, 1]), 0..1, wave);
 }
 
 // Method 1: -1 * 64 * 8 * 2 / 16 = -64 by the entry in row 0, column 1.
@@ -205,7 +227,7 @@ fn by_the_matrix() {
     c.matrix = Matrix([[16; 8]; 8]);
     c.matrix.0[0][1] = 64;
     for answer in [c.in_picture(), c.alone()] {
-        let samples = accepted(answer, 21, 21);
+        let samples = accepted(answer, 21, 21, ONE_PLAIN);
         rows_are(&samples, 0..1, [117, 119, 122, 126, 130, 134, 137, 139]);
         flat(&samples, 1..6, 128);
     }
@@ -216,12 +238,12 @@ fn by_the_matrix() {
 fn mismatch_control() {
     let mut c = worked().with(|c| c.method = Method::One);
     for answer in [c.in_picture(), c.alone()] {
-        let samples = accepted(answer, 16, 16);
+        let samples = accepted(answer, 16, 16, NONE);
         flat(&samples, 0..4, 128);
         (0..128).for_each(|n| assert_eq!(sample(&samples, 4 + n / 64, n % 8, n / 8 % 8), 128 - ((n % 8 + n / 8) % 2) as i32));
     }
     c.context.intra_mismatch_exempt = true;
-    flat(&accepted(c.in_picture(), 16, 16), 0..6, 128);
+    flat(&accepted(c.in_picture(), 16, 16, NONE), 0..6, 128);
 }
 
 // A's column at quantiser 16, -1 * 16 / 8 = -2, is -39 at quantiser 8; C's row at 8 is -23.
@@ -231,14 +253,14 @@ fn neighbours() {
     c.context.ac_pred_flag = true;
     c.neighbours.qp_a = 16;
     c.neighbours.a_first_column = Some([-1, 0, 0, 0, 0, 0, 0]);
-    let samples = accepted(c.alone(), 16, 16);
+    let samples = accepted(c.alone(), 16, 16, NONE);
     columns_are(&samples, 0..4, [121, 122, 124, 127, 129, 132, 134, 135]);
     columns_are(&samples, 4..6, [121, 122, 124, 126, 129, 131, 133, 134]);
     c.neighbours.fc_dc = 1040;
     c.neighbours.c_first_row = Some([-1, 0, 0, 0, 0, 0, 0]);
-    rows_are(&accepted(c.alone(), 16, 16), 0..6, [126, 127, 128, 129, 131, 132, 133, 134]);
+    rows_are(&accepted(c.alone(), 16, 16, NONE), 0..6, [126, 127, 128, 129, 131, 132, 133, 134]);
     c.neighbours.c_first_row = None;
-    flat(&accepted(c.alone(), 16, 16), 0..6, 130);
+    flat(&accepted(c.alone(), 16, 16, NONE), 0..6, 130);
 }
 
 // Block 0's level goes down from A, and block 1 takes its column; block 2's goes across from C, which is block 0.
@@ -246,18 +268,18 @@ fn neighbours() {
 fn ac_prediction() {
     let mut c = reading("011 01111 011 011 011 11 11", 8, 0);
     c.context.ac_pred_flag = true;
-    let samples = accepted(c.in_picture(), 21, 21);
+    let samples = accepted(c.in_picture(), 21, 21, ONE_PLAIN);
     columns_are(&samples, 0..2, [124, 125, 126, 127, 129, 130, 131, 132]);
     flat(&samples, 2..6, 128);
     let higher = [126, 127, 128, 129, 131, 132, 133, 134];
     let mut c = reading("111 011 011 01111 011 11 11", 2, 0);
     c.context.ac_pred_flag = true;
-    let samples = accepted(c.in_picture(), 21, 21);
+    let samples = accepted(c.in_picture(), 21, 21, ONE_PLAIN);
     flat(&samples, 0..2, 130);
     rows_are(&samples, 2..3, higher);
     flat(&samples, 3..4, 130);
     (c.context.ac_pred_flag, c.context.alternate_vertical_scan) = (false, true);
-    columns_are(&accepted(c.in_picture(), 21, 21), 2..3, higher);
+    columns_are(&accepted(c.in_picture(), 21, 21, ONE_PLAIN), 2..3, higher);
 }
 
 // The second macroblock takes its DC from the first; then the picture is complete.
@@ -271,12 +293,12 @@ fn two_beside_each_other() {
         (2, 1, 8, Method::Two)
     );
     assert_eq!(picture.due(), Some((0, 0)));
-    assert_eq!(c.in_this(&mut picture, &mut samples), Ok(Decoded { bits: 16, position: 16 }));
+    assert_eq!(c.in_this(&mut picture, &mut samples), Ok(decoded(16, 16, NONE)));
     assert_eq!((picture.accepted(), picture.due()), (1, Some((1, 0))));
     samples = BEFORE;
     assert_eq!(
         c.clone().with(|c| c.at = 16).in_this(&mut picture, &mut samples),
-        Ok(Decoded { bits: 16, position: 32 })
+        Ok(decoded(32, 16, NONE))
     );
     flat(&samples, 0..4, 130);
     flat(&samples, 4..6, 128);
@@ -284,6 +306,147 @@ fn two_beside_each_other() {
     let more = c.with(|c| c.at = 32).in_this(&mut picture, &mut samples);
     refused((more, samples), 15, 0, "Complete");
     assert_eq!((picture.accepted(), picture.due()), (2, None));
+}
+
+// The worked events: last, each of another spelling.
+const P3: &str = "01111";
+const P4: &str = "0000011 0 01110";
+const P5: &str = "0000011 10 01110";
+const P6: &str = "0000011 11 1 000000 1 100000000001 1";
+
+// Not last: run 0, level 1; run 0, level 1 + 27; run 14 + 1, level 1; run 0, level 5.
+const PLAIN: &str = "10 0";
+const TYPE1: &str = "0000011 0 10 0";
+const TYPE2: &str = "0000011 10 10 0";
+const TYPE3: &str = "0000011 11 0 000000 1 000000000101 1";
+
+// Reversible: run 0, level 1, not last and last.
+const CODE: &str = "110 0";
+const LAST_CODE: &str = "1011 0";
+const ESCAPE: &str = "00001 0 000000 1 00000000001 1 0000 0";
+const LAST_ESCAPE: &str = "00001 1 000000 1 00000000001 1 0000 0";
+
+// Six blocks, and other bits after them; how many bits the six have. Where DC codes are in use each has a DC part of difference 0; a
+// block without events is not coded.
+fn blocks(lists: [&[&str]; 6], dc_coded: bool, reversible: bool, after: &str) -> (Call, usize) {
+    let (mut text, mut pattern) = (String::new(), 0);
+    for (i, list) in lists.iter().enumerate() {
+        if dc_coded {
+            text += if i < 4 { "011" } else { "11" };
+        }
+        text += &list.concat();
+        pattern = 2 * pattern + u8::from(!list.is_empty());
+    }
+    let bits = text.bytes().filter(|b| *b != b' ').count();
+    let mut c = reading(&(text + after), pattern >> 2, pattern & 3);
+    (c.context.use_intra_dc_vlc, c.context.reversible_vlc) = (dc_coded, reversible);
+    (c, bits)
+}
+
+// With DC codes and without, at the end of the data and before bits that would be events, in a picture and alone.
+fn each_way(lists: [&[&str]; 6], reversible: bool, events: [u32; 5]) {
+    let more = if reversible { [CODE, LAST_ESCAPE] } else { [TYPE1, P5] }.concat();
+    for (dc_coded, after) in [(false, ""), (false, &more), (true, ""), (true, &more)] {
+        let (c, bits) = blocks(lists, dc_coded, reversible, after);
+        accepted(c.in_picture(), bits, bits, events);
+        accepted(c.alone(), bits, bits, events);
+    }
+}
+
+#[test]
+fn spellings() {
+    each_way([&[]; 6], false, NONE);
+    each_way([&[P3], &[], &[], &[], &[], &[]], false, ONE_PLAIN);
+    each_way([&[], &[P4], &[], &[], &[], &[]], false, [0, 1, 0, 0, 0]);
+    each_way([&[], &[], &[P5], &[], &[], &[]], false, [0, 0, 1, 0, 0]);
+    each_way([&[], &[], &[], &[], &[P6], &[]], false, [0, 0, 0, 1, 0]);
+    let list = [PLAIN, TYPE1, PLAIN, TYPE2, TYPE3, TYPE3, P4];
+    each_way([&list, &[], &[], &[], &[], &[]], false, [2, 2, 1, 2, 0]);
+    each_way([&[], &[], &[], &[], &[], &list], false, [2, 2, 1, 2, 0]);
+    let last = [PLAIN, PLAIN, PLAIN, TYPE2, TYPE3, P6];
+    each_way(
+        [&[P3], &[TYPE1, P4], &[P5], &[TYPE3, P3], &[TYPE1, P6], &last],
+        false,
+        [5, 3, 2, 4, 0],
+    );
+}
+
+#[test]
+fn reversible_spellings() {
+    each_way([&[]; 6], true, NONE);
+    each_way([&[LAST_CODE], &[], &[], &[], &[], &[]], true, ONE_PLAIN);
+    each_way([&[], &[], &[], &[], &[], &[LAST_ESCAPE]], true, [0, 0, 0, 0, 1]);
+    each_way(
+        [&[], &[CODE, CODE, LAST_CODE], &[], &[], &[CODE, LAST_CODE], &[]],
+        true,
+        [5, 0, 0, 0, 0],
+    );
+    let list = [CODE, ESCAPE, CODE, ESCAPE, ESCAPE, LAST_ESCAPE];
+    each_way([&[], &[], &[], &list, &[], &[]], true, [2, 0, 0, 0, 4]);
+    each_way(
+        [
+            &[LAST_ESCAPE],
+            &[CODE, LAST_CODE],
+            &[],
+            &list,
+            &[ESCAPE, LAST_CODE],
+            &[CODE, LAST_CODE],
+        ],
+        true,
+        [7, 0, 0, 0, 6],
+    );
+}
+
+// Type 2 adds 1 or more to the run: 1 to that of level 11 and, last, of level 6, which have codes of run 0 only.
+#[test]
+fn most_events() {
+    let type_2 = ["0000011 10 00011110 1", "0000011 10 00000000101 0"];
+    for (which, reversible, [event, last], most) in [
+        (0, false, [PLAIN, P3], 64),
+        (1, false, [TYPE1, P4], 64),
+        (2, false, type_2, 32),
+        (3, false, [TYPE3, P6], 64),
+        (0, true, [CODE, LAST_CODE], 64),
+        (4, true, [ESCAPE, LAST_ESCAPE], 64),
+    ] {
+        for dc_coded in [false, true] {
+            // a DC code takes place 0
+            let n = most - usize::from(dc_coded);
+            let list = event.repeat(n - 1) + last;
+            let (c, bits) = blocks([&[&list]; 6], dc_coded, reversible, "");
+            let mut events = NONE;
+            events[which] = 6 * n as u32;
+            accepted(c.in_picture(), bits, bits, events);
+            accepted(c.alone(), bits, bits, events);
+        }
+    }
+}
+
+// A DC difference of 9 bits, and events in blocks 0 and 1 and in Cb.
+#[test]
+fn after_a_long_difference() {
+    let text = ["00000001 100000000 1", PLAIN, P4, "011", P5, "011 011 11", P6, "11"].concat();
+    let c = reading(&text, 12, 2);
+    accepted(c.in_picture(), 91, 91, [1, 1, 1, 1, 0]);
+    accepted(c.alone(), 91, 91, [1, 1, 1, 1, 0]);
+}
+
+// Two macroblocks of 62 and 30 bits, and between them the second cut after the first bit of its event; then one without events.
+#[test]
+fn one_after_the_other() {
+    let text = ["011", PLAIN, P4, "011 011 011 11", P6, "11  011 011 011", P5, "011 11 11"].concat();
+    let first = reading(&text, 8, 2);
+    let second = first.clone().with(|c| (c.at, c.header) = (62, Header::intra(2, 0)));
+    let (mut store, mut samples) = ([-7; 3 * STORE], BEFORE);
+    let mut picture = Picture::open(3, 1, 8, Method::Two, &mut store).unwrap();
+    assert_eq!(first.in_this(&mut picture, &mut samples), Ok(decoded(62, 62, [1, 1, 0, 1, 0])));
+    let cut = second.clone().with(|c| c.data.truncate(9)).in_this(&mut picture, &mut samples);
+    assert_eq!(cut, Err(Refusal { number: 4, figure: 0 }));
+    assert_eq!(second.in_this(&mut picture, &mut samples), Ok(decoded(92, 30, [0, 0, 1, 0, 0])));
+    assert_eq!(worked().in_this(&mut picture, &mut samples), Ok(decoded(16, 16, NONE)));
+    accepted(second.alone(), 92, 30, [0, 0, 1, 0, 0]);
+    accepted(first.alone(), 62, 62, [1, 1, 0, 1, 0]);
+    accepted(worked().alone(), 16, 16, NONE);
 }
 
 #[test]
@@ -345,7 +508,7 @@ fn ranges() {
         both_refuse(&worked().with(|c| c.bits_per_pixel = depth), 12, 0, "Context");
     }
     let mut c = worked().with(|c| c.matrix.0[7][7] = 0);
-    flat(&accepted(c.in_picture(), 16, 16), 0..6, 128);
+    flat(&accepted(c.in_picture(), 16, 16, NONE), 0..6, 128);
     c.method = Method::One;
     both_refuse(&c, 12, 0, "Context");
 }
@@ -369,37 +532,90 @@ fn neighbours_out_of_range() {
     assert_eq!(Neighbours::outside(12, 5).fb_dc, 16384);
 }
 
+// The C functions, with DC codes and an answer of any length.
+#[rustfmt::skip]
+fn raw_in_picture(c: &Call, state: &mut [u32], store: &mut [i32], samples: &mut Samples, answer: &mut [usize]) -> u32 {
+    unsafe {
+        ffi::vaxembro_decode_macroblock(
+            state.as_mut_ptr(), state.len(), c.data.as_ptr(), c.data.len(), c.at, c.header.mb_type as u32, c.header.cbpy, c.header.cbpc,
+            c.context.quantiser_scale, 32, c.matrix.0.as_ptr().cast(), 64, samples.as_mut_ptr(), samples.len(),
+            store.as_mut_ptr(), store.len(), answer.as_mut_ptr(), answer.len(),
+        )
+    }
+}
+
+#[rustfmt::skip]
+fn raw_alone(c: &Call, samples: &mut Samples, answer: &mut [usize]) -> u32 {
+    let mut neighbours = [0; 21];
+    neighbours[..5].copy_from_slice(&[1024, 1024, 1024, 8, 8]);
+    unsafe {
+        ffi::vaxembro_decode_intra_macroblock(
+            c.data.as_ptr(), c.data.len(), c.at, c.header.mb_type as u32, c.header.cbpy, c.header.cbpc, c.context.quantiser_scale,
+            c.bits_per_pixel, 32, neighbours.as_ptr(), neighbours.len(), c.matrix.0.as_ptr().cast(), 64,
+            samples.as_mut_ptr(), samples.len(), answer.as_mut_ptr(), answer.len(),
+        )
+    }
+}
+
 // A picture and a store that no call of the wrapper leaves.
 #[test]
 fn store_out_of_range() {
-    let (mut state, mut store, mut samples, mut answer) = ([2, 1, 8, 0, 1], [65537; 2 * STORE], BEFORE, [9; 4]);
-    let c = worked();
-    let number = unsafe {
-        ffi::vaxembro_decode_macroblock(
-            state.as_mut_ptr(),
-            state.len(),
-            c.data.as_ptr(),
-            c.data.len(),
-            0,
-            c.header.mb_type as u32,
-            0,
-            0,
-            8,
-            32,
-            c.matrix.0.as_ptr().cast(),
-            64,
-            samples.as_mut_ptr(),
-            samples.len(),
-            store.as_mut_ptr(),
-            store.len(),
-            answer.as_mut_ptr(),
-            answer.len(),
-        )
-    };
+    let (mut state, mut store, mut samples, mut answer) = ([2, 1, 8, 0, 1], [65537; 2 * STORE], BEFORE, [7; 9]);
+    let number = raw_in_picture(&worked(), &mut state, &mut store, &mut samples, &mut answer);
     refused((Err(Refusal { number, figure: 0 }), samples), 13, 0, "Predictor");
-    assert_eq!((state, store, answer), ([2, 1, 8, 0, 1], [65537; 2 * STORE], [13, 0, 0, 0]));
-    assert_eq!(unsafe { ffi::vaxembro_number(answer.as_ptr(), 4) }, 13);
-    assert_eq!(unsafe { ffi::vaxembro_number(answer.as_ptr(), 3) }, 0);
+    assert_eq!(
+        (state, store, answer),
+        ([2, 1, 8, 0, 1], [65537; 2 * STORE], [13, 0, 0, 0, 0, 0, 0, 0, 0])
+    );
+    assert_eq!(unsafe { ffi::vaxembro_number(answer.as_ptr(), 9) }, 13);
+    assert_eq!(unsafe { ffi::vaxembro_number(answer.as_ptr(), 8) }, 0);
+}
+
+// Both calls with an answer of so many numbers, out of twelve: what they give, and what they leave in the twelve. Where they refuse,
+// nothing else is written.
+fn with_answer(c: &Call, len: usize) -> (u32, [usize; 12]) {
+    let (mut state, mut store, mut samples, mut answer) = ([1, 1, 8, 0, 0], [-7; STORE], BEFORE, [7; 12]);
+    let number = raw_in_picture(c, &mut state, &mut store, &mut samples, &mut answer[..len]);
+    assert!(number == 0 || (state, store, samples) == ([1, 1, 8, 0, 0], [-7; STORE], BEFORE));
+    let (mut samples, mut alone) = (BEFORE, [7; 12]);
+    assert_eq!(raw_alone(c, &mut samples, &mut alone[..len]), number);
+    assert!(number == 0 || samples == BEFORE);
+    assert_eq!(alone, answer);
+    (number, answer)
+}
+
+// Too short an answer is not written, and a longer one keeps its rest; a refusal counts no event.
+#[test]
+fn answers_of_every_length() {
+    let c = reading(&["011", PLAIN, P4, "011 011 011 11", P6, "11"].concat(), 8, 2);
+    let bad = c.clone().with(|c| c.context.quantiser_scale = 0);
+    // no DC code after the events of block 0
+    let broken = reading(&["011", PLAIN, P4, "0000000000001"].concat(), 8, 0);
+    for len in 0..9 {
+        for c in [&c, &bad, &broken] {
+            assert_eq!(with_answer(c, len), (14, [7; 12]));
+        }
+    }
+    for len in 9..=12 {
+        assert_eq!(with_answer(&c, len), (0, [0, 0, 62, 62, 1, 1, 0, 1, 0, 7, 7, 7]));
+        assert_eq!(with_answer(&bad, len), (12, [12, 0, 0, 0, 0, 0, 0, 0, 0, 7, 7, 7]));
+        assert_eq!(with_answer(&broken, len), (2, [2, 1, 0, 0, 0, 0, 0, 0, 0, 7, 7, 7]));
+    }
+}
+
+#[test]
+fn spelling_read_out() {
+    let answer = [1, 2, 3, 4, 5, 6, 7, 8, 9, 10];
+    let of = |len, which| unsafe { ffi::vaxembro_spelling(answer.as_ptr(), len, which) };
+    assert_eq!([0, 1, 2, 3, 4].map(|which| of(9, which)), [5, 6, 7, 8, 9]);
+    assert_eq!([0, 1, 2, 3, 4].map(|which| of(10, which)), [5, 6, 7, 8, 9]);
+    for which in [5, 255, 1 << 31, u32::MAX - 3, u32::MAX] {
+        assert_eq!(of(10, which), 0);
+    }
+    for which in 0..6 {
+        (0..9).for_each(|len| assert_eq!(of(len, which), 0));
+        assert_eq!(unsafe { ffi::vaxembro_spelling(std::ptr::null(), 0, which) }, 0);
+    }
 }
 
 #[test]

@@ -8,6 +8,7 @@ use Rattle.bits.specs.declared.cursor.Cursor.{Cursor}
 use Rattle.codes.specs.declared.dc_size.DcComponent.{DcComponent}
 use Rattle.coefficients.proofs.BlockTests.{test-all}
 use Rattle.coefficients.proofs.RefusalLaws.{places-fine}
+use Rattle.events.specs.declared.spelling.Spellings.{Spellings}
 use Rattle.inverse_quant.proofs.LimitLaws.{Limited, dequantised1-limited, dequantised1-small, dequantised1-square, dequantised2-limited, dequantised2-small, dequantised2-square}
 use Rattle.inverse_quant.specs.Dequantised.{dequantised1, dequantised2}
 use Rattle.coefficients.specs.Level.{placesFine}
@@ -27,7 +28,7 @@ use Rattle.assembly.specs.declared.context.MacroblockTextureContext.{Macroblock
 pub good-places : (rev dcCoded : Bool) (s : Place) (p : Parts) → GoodBlock dcCoded rev s p → placesFine (qfsOf (s .0) dcCoded p) ≡ true
 good-places rev dcCoded s p g = let r = in-range rev dcCoded s p g in places-fine (qfsOf (s .0) dcCoded p) (r .long) (r .first) (λ k a b. r .later k a)
 
-pub sentence-fine : {d : List ℕ} {at : ℕ} {m : DcComponent} {coded dcCoded rev : Bool} {qfs : List ℤ} {next : Cursor} → Sentence d at m coded dcCoded rev qfs next → placesFine qfs ≡ true
+pub sentence-fine : {d : List ℕ} {at : ℕ} {m : DcComponent} {coded dcCoded rev : Bool} {qfs : List ℤ} {next : Cursor} {n : Spellings} → Sentence d at m coded dcCoded rev qfs next n → placesFine qfs ≡ true
 sentence-fine {m = m} {coded = coded} {dcCoded = dcCoded} {rev = rev} s = ap placesFine (s .qfs-is) ∙ good-places rev dcCoded (m, coded) (s .parts) (s .good)
 
 -- ---- the values lie within the depth's limits

@@ -10,6 +10,7 @@ use Rattle.codes.specs.Component.{componentAt, componentOf}
 use Rattle.codes.specs.declared.dc_size.BlockComponent.{BlockComponent}
 use Rattle.codes.specs.declared.dc_size.BlockComponent.the-variants.{Component, OutOfRange as NoComponent}
 use Rattle.prediction.specs.declared.predictor.BlockPredictors.{BlockPredictors}
+use Rattle.events.specs.declared.spelling.Spellings.{Spellings}
 use Rattle.sentences.proofs.ByBits.{block-by-bits}
 use Rattle.sentences.specs.MacroblockReader.{readBlock}
 use Rattle.assembly.proofs.Apart.{Told, after-told, answers-apart, check-told, failed, first-told, read-told, taken}
@@ -25,8 +26,8 @@ use Rattle.block.specs.declared.intra.BlockDecoded.the-variants.{Decoded
 use Rattle.block.specs.declared.reconstruct.BlockRebuilt.{BlockRebuilt}
 use Rattle.block.specs.declared.reconstruct.BlockRebuilt.the-variants.{Rebuilt, Refused as NotRebuilt}
 
-abbrev pub decoded : ℤ × ℕ → BlockDecoded
-decoded a = Decoded (a .0) (cursorAt (a .1))
+abbrev pub decoded : ℤ × (ℕ × Spellings) → BlockDecoded
+decoded a = Decoded (a .0) (cursorAt (a .1 .0)) (a .1 .1)
 
 pub block-apart : (r s : BlockDecoded) → Told decoded Refused r → Told decoded Refused s → blockOutcome r ≡ blockOutcome s → r ≡ s
 block-apart = answers-apart decoded Refused blockOutcome (λ a. refl) (λ e. refl)
@@ -39,7 +40,7 @@ block-told d at coded dcCoded rev x p w i = go (componentOf i)
     go NoComponent = failed OutOfRange tt refl
     go (Component c) =
         after-told decoded Refused (answerOf d at coded dcCoded rev x p w (Component c)) (λ e. refl)
-        (read-told decoded Refused (told d c dcCoded x p w) (λ s r. taken (_, _) refl) (λ e. refl) (readBlock dcCoded rev (c, coded) (bitsFrom d at)) (block-by-bits dcCoded rev (c, coded) (bitsFrom d at)))
+        (read-told decoded Refused (told d c dcCoded x p w) (λ s r. taken (_, (_, _)) refl) (λ e. refl) (readBlock dcCoded rev (c, coded) (bitsFrom d at)) (block-by-bits dcCoded rev (c, coded) (bitsFrom d at)))
         (checkOf d at x p w) (check-told d at x p w)
 
 pub rebuilt-apart : (r s : BlockRebuilt) → Told Rebuilt NotRebuilt r → Told Rebuilt NotRebuilt s → rebuiltOutcome r ≡ rebuiltOutcome s → r ≡ s

@@ -17,6 +17,7 @@ use Rattle.sentences.proofs.Sentences.{block-sentences}
 use Rattle.events.specs.Event.{_▸_}
 use Rattle.sentences.specs.Macroblock.{GoodBlock, Parts, blockBits}
 use Rattle.sentences.specs.MacroblockReader.{readBlock}
+use Rattle.events.specs.declared.spelling.Spellings.{Spellings}
 use Rattle.fields.specs.Reader.{Res, ok, no}
 use Rattle.block.proofs.AnswerLaws.{values-fine}
 use Rattle.assembly.proofs.ContextLaws.{depth-fine}
@@ -29,15 +30,15 @@ module _ (d : List ℕ) (at : ℕ) (c : DcComponent) (coded dcCoded rev : Bool) 
   abbrev read : Res Parts
   read = readBlock dcCoded rev (c, coded) (bitsFrom d at)
 
-  decoded-read : (y : Res Parts) (z : ℤ) (n : Cursor) → told d c dcCoded x p w y ≡ Decoded z n → (s : Parts) × ((r : Bits) × (y ≡ ok s r))
-  decoded-read (ok s r) z n q = (s, (r, refl))
-  decoded-read (no e) z n q = absurd (let z : _≡_ {A = ℕ} 0 1 = cc in omega arith)
+  decoded-read : (y : Res Parts) (z : ℤ) (n : Cursor) (k : Spellings) → told d c dcCoded x p w y ≡ Decoded z n k → (s : Parts) × ((r : Bits) × (y ≡ ok s r))
+  decoded-read (ok s r) z n k q = (s, (r, refl))
+  decoded-read (no e) z n k q = absurd (let z : _≡_ {A = ℕ} 0 1 = cc in omega arith)
 
-  pub accepted : ((z : ℤ) × ((n : Cursor) × (told d c dcCoded x p w read ≡ Decoded z n)))
+  pub accepted : ((z : ℤ) × ((n : Cursor) × ((k : Spellings) × (told d c dcCoded x p w read ≡ Decoded z n k))))
       ↔ ((s : Parts) × (GoodBlock dcCoded rev (c, coded) s × ((r : Bits) × (bitsFrom d at ≡ blockBits (c, coded) s ▸ r))))
   accepted = (
-    λ q. block-sentences dcCoded rev (c, coded) .accepted (bitsFrom d at) .0 (decoded-read read (q .0) (q .1 .0) (q .1 .1)),
-    λ q. let r = block-sentences dcCoded rev (c, coded) .accepted (bitsFrom d at) .1 q in (_, (_, ap (told d c dcCoded x p w) (r .1 .1))),
+    λ q. block-sentences dcCoded rev (c, coded) .accepted (bitsFrom d at) .0 (decoded-read read (q .0) (q .1 .0) (q .1 .1 .0) (q .1 .1 .1)),
+    λ q. let r = block-sentences dcCoded rev (c, coded) .accepted (bitsFrom d at) .1 q in (_, (_, (_, ap (told d c dcCoded x p w) (r .1 .1)))),
   )
 
   pub near : contextFine x w ≡ true → (s : Parts) (y u : ℕ) → y < 8 → u < 8

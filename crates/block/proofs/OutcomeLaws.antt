@@ -21,6 +21,8 @@ use Rattle.codes.specs.declared.dc_size.DcComponent.{DcComponent}
 use Rattle.codes.specs.declared.dc_size.DcComponent.the-variants.{Chrominance, Luminance}
 use Rattle.coefficients.specs.Level.{predictorsFine}
 use Rattle.prediction.specs.declared.predictor.BlockPredictors.{BlockPredictors}
+use Rattle.events.specs.declared.spelling.Spellings.{Spellings}
+use Rattle.sentences.proofs.CountLaws.{countsOf}
 use Rattle.sentences.specs.MacroblockReader.{readBlock}
 use Rattle.fields.specs.Outcomes.{readAs}
 use Rattle.assembly.proofs.OutcomeLaws.{answered, read-by}
@@ -35,19 +37,19 @@ module _ (d : List ℕ) (at : ℕ) (coded dcCoded rev : Bool) (x : MacroblockTex
   -- of a component
   component-due : (c : DcComponent) → blockOutcome (answerOf d at coded dcCoded rev x p w (Component c) (checkOf d at x p w))
       ≡ checked ((inData (length d) at, 11) ∷ (contextFine x w, 12) ∷ (predictorsFine p, 13) ∷ [])
-      (readAs (λ s position. (cell (valuesIn d c dcCoded x p w s) 0 0, position)) d (readBlock dcCoded rev (c, coded) (bitsFrom d at)))
+      (readAs (λ s position. (cell (valuesIn d c dcCoded x p w s) 0 0, (position, countsOf s))) d (readBlock dcCoded rev (c, coded) (bitsFrom d at)))
   component-due c =
       answered blockOutcome (answerOf d at coded dcCoded rev x p w (Component c)) (λ e. refl) (testsOf d at x p w) (refl, (refl, (refl, tt)))
       ∙ ap (checked ((inData (length d) at, 11) ∷ (contextFine x w, 12) ∷ (predictorsFine p, 13) ∷ []))
-      (read-by blockOutcome (told d c dcCoded x p w) (λ s position. (cell (valuesIn d c dcCoded x p w s) 0 0, position)) d (λ a r. refl) (λ e. refl) (readBlock dcCoded rev (c, coded) (bitsFrom d at)))
+      (read-by blockOutcome (told d c dcCoded x p w) (λ s position. (cell (valuesIn d c dcCoded x p w s) 0 0, (position, countsOf s))) d (λ a r. refl) (λ e. refl) (readBlock dcCoded rev (c, coded) (bitsFrom d at)))
 
   abbrev answer : BlockComponent → BlockDecoded
   answer m = answerOf d at coded dcCoded rev x p w m (checkOf d at x p w)
 
-  abbrev dueOf : Bool → DcComponent → Outcome (ℤ × ℕ)
+  abbrev dueOf : Bool → DcComponent → Outcome (ℤ × (ℕ × Spellings))
   dueOf t c =
       cond t (checked ((inData (length d) at, 11) ∷ (contextFine x w, 12) ∷ (predictorsFine p, 13) ∷ [])
-      (readAs (λ s position. (cell (valuesIn d c dcCoded x p w s) 0 0, position)) d (readBlock dcCoded rev (c, coded) (bitsFrom d at)))) (refused 11 0)
+      (readAs (λ s position. (cell (valuesIn d c dcCoded x p w s) 0 0, (position, countsOf s))) d (readBlock dcCoded rev (c, coded) (bitsFrom d at)))) (refused 11 0)
 
   abbrev componentBy : Bool → Bool → BlockComponent
   componentBy s t = cond s (Component Luminance) (cond t (Component Chrominance) NoComponent)

@@ -12,7 +12,9 @@ use Rattle.codes.specs.declared.dc_size.DcComponent.{DcComponent}
 use Rattle.prediction.specs.declared.predictor.BlockPredictors.{BlockPredictors}
 use Rattle.numbers.specs.Grid.{cell}
 use Rattle.fields.specs.Answer.{after}
-use Rattle.sentences.specs.Macroblock.{Parts}
+use Rattle.events.specs.Spellings.{spellingsOf}
+use Rattle.events.specs.declared.spelling.Spellings.{Spellings}
+use Rattle.sentences.specs.Macroblock.{Parts, eventsOf}
 use Rattle.sentences.specs.MacroblockReader.{readBlock}
 use Rattle.fields.specs.Reader.{Res, ok, no}
 use Rattle.block_reader.specs.Reading.{qfsOf}
@@ -27,10 +29,10 @@ use Rattle.block.specs.declared.intra.BlockDecoded.the-variants.{Decoded
 use Rattle.block.specs.declared.reconstruct.BlockRebuilt.{BlockRebuilt}
 use Rattle.block.specs.declared.reconstruct.BlockRebuilt.the-variants.{Rebuilt, Refused as NotRebuilt}
 
--- a block that was rebuilt, with the cursor after it
-abbrev pub decodedBy : BlockRebuilt → Cursor → BlockDecoded
-decodedBy (Rebuilt dc) next = Decoded dc next
-decodedBy (NotRebuilt e) next = Refused e
+-- a block that was rebuilt, with the cursor after it and the number of its events of each spelling
+abbrev pub decodedBy : BlockRebuilt → Cursor → Spellings → BlockDecoded
+decodedBy (Rebuilt dc) next n = Decoded dc next n
+decodedBy (NotRebuilt e) next n = Refused e
 
 -- ---- a block of a component, whose bits were read
 
@@ -42,9 +44,9 @@ module _ (d : List ℕ) (c : DcComponent) (dcCoded : Bool) (x : MacroblockTextur
   abbrev pub valuesIn : Parts → List (List ℤ)
   valuesIn s = valuesOf c x w (levelsIn s)
 
-  -- the dequantised DC and the position after the block
+  -- the dequantised DC, the position after the block and the number of its events of each spelling
   abbrev pub told : Res Parts → BlockDecoded
-  told (ok s r) = Decoded (cell (valuesIn s) 0 0) (after d r)
+  told (ok s r) = Decoded (cell (valuesIn s) 0 0) (after d r) (spellingsOf (eventsOf (s .1)))
   told (no e) = Refused (Texture e)
 
   abbrev pub samplesTold : Res Parts → List (List ℤ) → List (List ℤ)

@@ -12,6 +12,9 @@ use Rattle.bits.specs.Cursor.{inData}
 use Rattle.codes.specs.Component.{componentAt}
 use Rattle.coefficients.specs.Level.{predictorsFine}
 use Rattle.prediction.specs.declared.predictor.BlockPredictors.{BlockPredictors}
+use Rattle.events.specs.Spellings.{spellingsOf}
+use Rattle.events.specs.declared.spelling.Spellings.{Spellings}
+use Rattle.sentences.specs.Macroblock.{eventsOf}
 use Rattle.sentences.specs.MacroblockReader.{readBlock}
 use Rattle.fields.specs.Outcomes.{readAs}
 use Rattle.assembly.specs.Answer.{figureOf, numberOf}
@@ -21,14 +24,14 @@ use Rattle.assembly.specs.declared.context.MacroblockTextureContext.{Macroblock
 use Rattle.block.specs.declared.intra.BlockDecoded.{BlockDecoded}
 use Rattle.block.specs.declared.intra.BlockDecoded.the-variants.{Decoded, Refused}
 
--- the dequantised DC, and the position after the block
-abbrev pub blockOutcome : BlockDecoded → Outcome (ℤ × ℕ)
-blockOutcome (Decoded dc c) = accepted (dc, c .«bit_pos»)
+-- the dequantised DC, the position after the block and the number of its events of each spelling
+abbrev pub blockOutcome : BlockDecoded → Outcome (ℤ × (ℕ × Spellings))
+blockOutcome (Decoded dc c n) = accepted (dc, (c .«bit_pos», n))
 blockOutcome (Refused e) = refused (numberOf e) (figureOf e)
 
 module _ (d : List ℕ) (at : ℕ) (x : MacroblockTextureContext) (p : BlockPredictors) (w : List (List ℕ)) where
   -- block i: 11 for its index too, then what is read
-  abbrev pub blockDue : ℕ → Bool → Bool → Bool → Outcome (ℤ × ℕ)
+  abbrev pub blockDue : ℕ → Bool → Bool → Bool → Outcome (ℤ × (ℕ × Spellings))
   blockDue i coded dcCoded rev =
       checked ((ltb i 6, 11) ∷ (inData (length d) at, 11) ∷ (contextFine x w, 12) ∷ (predictorsFine p, 13) ∷ [])
-      (readAs (λ s position. (cell (valuesIn d (componentAt i) dcCoded x p w s) 0 0, position)) d (readBlock dcCoded rev (componentAt i, coded) (bitsFrom d at)))
+      (readAs (λ s position. (cell (valuesIn d (componentAt i) dcCoded x p w s) 0 0, (position, spellingsOf (eventsOf (s .1))))) d (readBlock dcCoded rev (componentAt i, coded) (bitsFrom d at)))

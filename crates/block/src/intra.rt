@@ -17,20 +17,21 @@ use codes::BlockComponent;
 use codes::DcComponent;
 use coefficients::BlockPredictors;
 use texture::EventsRead;
+use texture::Spellings;
 
-// The dequantised DC and the cursor after the block, or a refusal.
+// The dequantised DC, the cursor after the block and the number of its events of each spelling, or a refusal.
 pub enum BlockDecoded {
-    Decoded(i32, Cursor),
+    Decoded(i32, Cursor, Spellings),
     Refused(BlockAssemblyError),
 }
 
-// A block that was rebuilt, with the cursor after it.
-fn decoded(rebuilt: BlockRebuilt, next: Cursor) -> BlockDecoded
-    ensures { λ r. ⌜ r ≡ decodedBy rebuilt next ⌝ }
+// A block that was rebuilt, with what its reading told.
+fn decoded(rebuilt: BlockRebuilt, next: Cursor, spellings: Spellings) -> BlockDecoded
+    ensures { λ r. ⌜ r ≡ decodedBy rebuilt next spellings ⌝ }
 {
     match rebuilt {
         BlockRebuilt::Refused(e) => BlockDecoded::Refused(e),
-        BlockRebuilt::Rebuilt(dc) => BlockDecoded::Decoded(dc, next),
+        BlockRebuilt::Rebuilt(dc) => BlockDecoded::Decoded(dc, next, spellings),
     }
 }
 
@@ -57,7 +58,7 @@ fn decode_checked(
     let answer = one.answer;
     match answer {
         EventsRead::Refused(e) => BlockDecoded::Refused(BlockAssemblyError::Texture(e)),
-        EventsRead::Read(next) => {
+        EventsRead::Read(next, spellings) => {
             let places = one.qfs;
             let mut numbers = [0i32; 11];
             coefficients::needed(
@@ -76,7 +77,7 @@ fn decode_checked(
                 spatial,
                 qf,
             );
-            decoded(rebuilt, next)
+            decoded(rebuilt, next, spellings)
         }
     }
 }

@@ -26,6 +26,8 @@ use Rattle.sentences.specs.ComposeReader.{readOpt}
 use Rattle.dc_parts.specs.Dc.{Dc, dc, dcBits}
 use Rattle.dc_parts.specs.DcReader.{readDc}
 use Rattle.events.specs.Event.{_▸_}
+use Rattle.events.specs.Spellings.{noSpellings, spellingsOf}
+use Rattle.events.specs.declared.spelling.Spellings.{Spellings}
 use Rattle.texture.specs.Events.{Events, firstPlace}
 use Rattle.texture.specs.EventsReader.{list}
 use Rattle.sentences.specs.Macroblock.{Parts}
@@ -56,9 +58,11 @@ module _ (d : List ℕ) (at : ℕ) where
 
 -- ---- the list, if the block is coded
 
-pub not-coded : (d : List ℕ) (c : Cursor) (dcCoded rev : Bool) → inData (length d) (c .«bit_pos») ≡ true → record { answer = EventsAre c; qfs = zeros } ≡ listAnswer d (c .«bit_pos») false dcCoded rev
-not-coded d c dcCoded rev e =
-    ap {B = PlacesRead} (λ (x : Cursor). record { answer = EventsAre x; qfs = zeros }) (place-is d c (in-data-yes (length d) (c .«bit_pos») e .1))
+pub not-coded : (d : List ℕ) (c : Cursor) (n : Spellings) (dcCoded rev : Bool) → n ≡ noSpellings → inData (length d) (c .«bit_pos») ≡ true
+    → record { answer = EventsAre c n; qfs = zeros } ≡ listAnswer d (c .«bit_pos») false dcCoded rev
+unfolding spellingsOf
+not-coded d c n dcCoded rev q e =
+    ap₂ {C = PlacesRead} (λ (x : Cursor) (k : Spellings). record { answer = EventsAre x k; qfs = zeros }) (place-is d c (in-data-yes (length d) (c .«bit_pos») e .1)) q
     ∙ sym (ap (λ (t : Bool). inside t (listAt d (c .«bit_pos») false dcCoded rev)) e)
 
 module _ (d : List ℕ) (at : ℕ) (dcCoded rev : Bool) where

@@ -1,7 +1,7 @@
 -- The code's reading of six blocks, row after row, is the reader's. Assumes nothing.
 use mathlib.Core.Bool.{Bool, cond, false, true}
 use mathlib.Core.List.{List}
-use mathlib.Core.Path.{_≡_, ap, ap₂, refl, subst, sym, _∙_}
+use mathlib.Core.Path.{_≡_, ap, ap₂, refl, subst, subst⁻¹, sym, _∙_}
 use Prim.Native.Nat.{ℕ, suc, zero, _*_, _+_, _<_, _≤_}
 use native.Mathlib.Omega.{arith}
 use lib.IntN.{ℤ}
@@ -13,6 +13,9 @@ use Rattle.bits.specs.Cursor.{cursorAt, inData}
 use Rattle.bits.specs.declared.cursor.Cursor.{Cursor}
 use Rattle.codes.specs.declared.dc_size.DcComponent.{DcComponent}
 use Rattle.fields.proofs.ChainLaws.{place-is}
+use Rattle.events.specs.Spellings.{totalOf}
+use Rattle.events.specs.declared.spelling.Spellings.{Spellings}
+use Rattle.sentences.proofs.CountLaws.{block-few, countsIn, countsOf}
 use Rattle.sentences.proofs.EachLaws.{each-mapped}
 use Rattle.sentences.proofs.Sentences.{block-sentences}
 use Rattle.fields.proofs.StepLaws.{from-on}
@@ -28,7 +31,7 @@ use Rattle.texture.specs.declared.list.EventsRead.the-variants.{Read as EventsA
 use Rattle.block_reader.proofs.SentenceLaws.{none, sentence}
 use Rattle.block_reader.specs.Reading.{partsAt}
 use Rattle.codes.specs.Component.{componentAt}
-use Rattle.block_reader.specs.Rows.{InsideRows, RowsSay, blocksAnswer, blocksTold, readRow, readRows, rowOf, rowsAfter, rowsOf, rowsTold, saidRows}
+use Rattle.block_reader.specs.Rows.{InsideRows, RowsSay, blocksAnswer, blocksTold, readRow, readRows, readSpellings, rowOf, rowsAfter, rowsOf, rowsTold, saidRows, saidSpellings}
 use Rattle.block_reader.specs.declared.read.PlacesRead.{PlacesRead}
 
 -- block i of a pattern
@@ -60,19 +63,36 @@ rest-on {A} {read} {bits} {Good} h d at l a r e =
 
 -- ---- one row
 
-module _ (d : List ℕ) (c : Cursor) (l : c .«bit_pos» ≤ 8 * length d) (m : DcComponent) (coded dcCoded rev : Bool) (one : PlacesRead) (q : one ≡ partsAt d (c .«bit_pos») m coded dcCoded rev) where
-  pub row-refused : {e : TextureParseError} → one .answer ≡ EventsRefused e → readRow dcCoded rev (m, coded) (bitsFrom d (c .«bit_pos»)) ≡ no e
-  row-refused f = ap (mapped (rowOf dcCoded (m, coded))) (none d (c .«bit_pos») m coded dcCoded rev one q f)
+-- what was read of a block
+pub record RowRead (d : List ℕ) (at : ℕ) (s : Place) (dcCoded rev : Bool) (qfs : List ℤ) (next : Cursor) (n : Spellings) : Type 0 where
+  pub parts : Parts
+  pub block-is : readBlock dcCoded rev s (bitsFrom d at) ≡ ok parts (bitsFrom d (next .«bit_pos»))
+  pub row-is : readRow dcCoded rev s (bitsFrom d at) ≡ ok qfs (bitsFrom d (next .«bit_pos»))
+  pub counts-are : n ≡ countsOf parts
+  pub few : totalOf n ≤ 64
+  pub inside : next .«bit_pos» ≤ 8 * length d
 
-  pub row-read : {next : Cursor} → one .answer ≡ EventsAre next
-      → (readRow dcCoded rev (m, coded) (bitsFrom d (c .«bit_pos»)) ≡ ok (one .qfs) (bitsFrom d (next .«bit_pos»))) × (next .«bit_pos» ≤ 8 * length d)
-  row-read {next} f =
+module _ (d : List ℕ) (c : Cursor) (l : c .«bit_pos» ≤ 8 * length d) (m : DcComponent) (coded dcCoded rev : Bool) (one : PlacesRead) (q : one ≡ partsAt d (c .«bit_pos») m coded dcCoded rev) where
+  -- refused, as a block and as a row
+  pub block-refused : {e : TextureParseError} → one .answer ≡ EventsRefused e → readBlock dcCoded rev (m, coded) (bitsFrom d (c .«bit_pos»)) ≡ no e
+  block-refused f = none d (c .«bit_pos») m coded dcCoded rev one q f
+
+  pub row-refused : {e : TextureParseError} → one .answer ≡ EventsRefused e → readRow dcCoded rev (m, coded) (bitsFrom d (c .«bit_pos»)) ≡ no e
+  row-refused f = ap (mapped (rowOf dcCoded (m, coded))) (block-refused f)
+
+  pub row-read : {next : Cursor} {n : Spellings} → one .answer ≡ EventsAre next n → RowRead d (c .«bit_pos») (m, coded) dcCoded rev (one .qfs) next n
+  row-read {next} {n} f =
       let s = sentence d (c .«bit_pos») m coded dcCoded rev one q f in
-      let o = rest-on (block-sentences dcCoded rev (m, coded)) d (c .«bit_pos») l (s .parts) (s .rest) (s .read) in (
-        ap (mapped (rowOf dcCoded (m, coded))) (s .read)
-            ∙ ap₂ (λ (xs : List ℤ) (r : Bits). ok xs r) (sym (s .qfs-is)) (sym (ap (λ (y : Cursor). bitsFrom d (y .«bit_pos»)) (s .place) ∙ o .from)),
-        subst (λ (y : Cursor). y .«bit_pos» ≤ 8 * length d) (sym (s .place)) (o .inside),
-      )
+      let o = rest-on (block-sentences dcCoded rev (m, coded)) d (c .«bit_pos») l (s .parts) (s .rest) (s .read) in
+      let on : s .rest ≡ bitsFrom d (next .«bit_pos») = sym (ap (λ (y : Cursor). bitsFrom d (y .«bit_pos»)) (s .place) ∙ o .from) in
+      record {
+        parts = s .parts;
+        block-is = s .read ∙ ap (λ (r : Bits). ok (s .parts) r) on;
+        row-is = ap (mapped (rowOf dcCoded (m, coded))) (s .read) ∙ ap₂ (λ (xs : List ℤ) (r : Bits). ok xs r) (sym (s .qfs-is)) on;
+        counts-are = s .counts-are;
+        few = subst⁻¹ (λ (k : Spellings). totalOf k ≤ 64) (s .counts-are) (block-few dcCoded rev (m, coded) (s .parts) (s .good));
+        inside = subst (λ (y : Cursor). y .«bit_pos» ≤ 8 * length d) (sym (s .place)) (o .inside);
+      }
 
 -- ---- six rows
 
@@ -94,7 +114,7 @@ module _ (d : List ℕ) (at : ℕ) (pattern : List Bool) (dcCoded rev : Bool) wh
   )
 
   module _ (h : inData (length d) at ≡ true) (r : EventsRead) (rows old : List (List ℤ))
-      (says : RowsSay d r rows (readRows dcCoded rev pattern (bitsFrom d at))) where
+      (says : RowsSay d r rows (readRows dcCoded rev pattern (bitsFrom d at)) (readSpellings dcCoded rev pattern (bitsFrom d at))) where
     in-answer : blocksAnswer d at pattern dcCoded rev ≡ blocksTold d read
     unfolding blocksAnswer
     in-answer = ap (λ (t : Bool). cond t (blocksTold d read) (EventsRefused OutOfRange)) h
@@ -113,19 +133,24 @@ module _ (d : List ℕ) (at : ℕ) (pattern : List Bool) (dcCoded rev : Bool) wh
         go (ok ps s) q = absurd (let z : _≡_ {A = ℕ} 0 1 = cc in omega arith)
         go (no n) q = let z : n ≡ e = cc in ap no z
 
-    pub blocks-read : {next : Cursor} → r ≡ EventsAre next
-        → (EventsAre next ≡ blocksAnswer d at pattern dcCoded rev) × (rows ≡ rowsAfter d at pattern dcCoded rev old)
-    blocks-read {next} q =
+    spellings-read : readSpellings dcCoded rev pattern (bitsFrom d at) ≡ mapped countsIn read
+    unfolding readSpellings
+    spellings-read = refl
+
+    pub blocks-read : {next : Cursor} {n : Spellings} → r ≡ EventsAre next n
+        → (EventsAre next n ≡ blocksAnswer d at pattern dcCoded rev) × (rows ≡ rowsAfter d at pattern dcCoded rev old)
+    blocks-read {next} {n} q =
         let k : next .«bit_pos» ≤ 8 * length d = subst (InsideRows d) q (says .inside) in
-        let w = go read (sym (ap (λ (x : EventsRead). saidRows d x rows) q) ∙ says .is ∙ rows-read) in (
-          ap EventsAre (place-is d next k) ∙ w .0 ∙ sym in-answer,
+        let w = go read (sym (ap (λ (x : EventsRead). saidRows d x rows) q) ∙ says .is ∙ rows-read) (sym (ap (saidSpellings d) q) ∙ says .counted ∙ spellings-read) in (
+          ap (λ (c : Cursor). EventsAre c n) (place-is d next k) ∙ w .0 ∙ sym in-answer,
           w .1 ∙ sym in-rows,
         )
       where
-        go : (y : Res (List Parts)) → ok rows (bitsFrom d (next .«bit_pos»)) ≡ mapped (rowsOf dcCoded pattern) y
-            → (EventsAre (after d (bitsFrom d (next .«bit_pos»))) ≡ blocksTold d y) × (rows ≡ rowsTold dcCoded pattern y old)
-        go (ok ps s) q =
+        go : (y : Res (List Parts)) → ok rows (bitsFrom d (next .«bit_pos»)) ≡ mapped (rowsOf dcCoded pattern) y → ok n (bitsFrom d (next .«bit_pos»)) ≡ mapped countsIn y
+            → (EventsAre (after d (bitsFrom d (next .«bit_pos»))) n ≡ blocksTold d y) × (rows ≡ rowsTold dcCoded pattern y old)
+        go (ok ps s) q p =
             let a : bitsFrom d (next .«bit_pos») ≡ s = cc in
             let b : rows ≡ rowsOf dcCoded pattern ps = cc in
-            (ap (λ (z : Bits). EventsAre (after d z)) a, b)
-        go (no n) q = absurd (let z : _≡_ {A = ℕ} 0 1 = cc in omega arith)
+            let c : n ≡ countsIn ps = cc in
+            (ap₂ (λ (z : Bits) (k : Spellings). EventsAre (after d z) k) a c, b)
+        go (no w) q p = absurd (let z : _≡_ {A = ℕ} 0 1 = cc in omega arith)

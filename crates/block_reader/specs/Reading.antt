@@ -9,12 +9,13 @@ use Rattle.bits.specs.Bits.{bitsFrom}
 use Rattle.bits.specs.Cursor.{inData}
 use Rattle.codes.specs.declared.dc_size.DcComponent.{DcComponent}
 use Rattle.codes.specs.declared.tcoef_tables.TcoefTable.the-variants.{Intra}
+use Rattle.events.specs.Spellings.{spellingsOf}
 use Rattle.fields.specs.Answer.{after}
 use Rattle.sentences.specs.ComposeReader.{readOpt}
 use Rattle.dc_parts.specs.Dc.{Dc, differenceOf}
 use Rattle.texture.specs.Events.{Events, firstPlace}
 use Rattle.texture.specs.EventsReader.{list}
-use Rattle.sentences.specs.Macroblock.{Parts}
+use Rattle.sentences.specs.Macroblock.{Parts, eventsOf}
 use Rattle.sentences.specs.MacroblockReader.{readBlock}
 use Rattle.texture.specs.Places.{placesOf, zeros}
 use Rattle.fields.specs.Reader.{Res, ok, no}
@@ -37,21 +38,21 @@ withDc c (some v) qfs = set qfs 0 (differenceOf c v)
 abbrev pub qfsOf : DcComponent → Bool → Parts → List ℤ
 qfsOf c dcCoded p = withDc c (p .0) (listPlaces dcCoded (p .1))
 
--- what a reading gives: the cursor after the block and its places, or a refusal and zeros
+-- what a reading gives: the cursor after the block, the number of its events of each spelling and its places, or a refusal and zeros
 abbrev pub refusedBy : TextureParseError → PlacesRead
 refusedBy e = record { answer = EventsRefused e; qfs = zeros }
 
 -- a DC part's difference put before what its list gave
 abbrev pub withDifference : EventsRead → List ℤ → ℤ → PlacesRead
-withDifference (EventsAre c) qfs z = record { answer = EventsAre c; qfs = set qfs 0 z }
+withDifference (EventsAre c n) qfs z = record { answer = EventsAre c n; qfs = set qfs 0 z }
 withDifference (EventsRefused e) qfs z = refusedBy e
 
 abbrev pub listRead : List ℕ → Bool → Res (Option Events) → PlacesRead
-listRead d dcCoded (ok l r) = record { answer = EventsAre (after d r); qfs = listPlaces dcCoded l }
+listRead d dcCoded (ok l r) = record { answer = EventsAre (after d r) (spellingsOf (eventsOf l)); qfs = listPlaces dcCoded l }
 listRead d dcCoded (no e) = refusedBy e
 
 abbrev pub partsRead : List ℕ → DcComponent → Bool → Res Parts → PlacesRead
-partsRead d c dcCoded (ok p r) = record { answer = EventsAre (after d r); qfs = qfsOf c dcCoded p }
+partsRead d c dcCoded (ok p r) = record { answer = EventsAre (after d r) (spellingsOf (eventsOf (p .1))); qfs = qfsOf c dcCoded p }
 partsRead d c dcCoded (no e) = refusedBy e
 
 abbrev pub listAt : List ℕ → ℕ → Bool → Bool → Bool → PlacesRead

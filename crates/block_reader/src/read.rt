@@ -1,23 +1,26 @@
 // The bits of one block into its 64 places, and of the six blocks of a macroblock.
 ghost use mathlib.Core.Path.{_≡_};
 ghost use mathlib.Core.Bool.{false, true};
+ghost use Prim.Native.Nat.{_≤_};
 ghost use lib.ListN.{length};
 ghost use Rattle.bits.specs.Bits.{bitsFrom};
+ghost use Rattle.events.specs.Spellings.{together, totalOf};
 ghost use Rattle.fields.specs.Inside.{Readable};
 ghost use Rattle.block_reader.specs.Reading.{listAnswer, placesAnswer, refusedBy, withDifference};
 ghost use Rattle.codes.specs.Component.{componentAt};
 ghost use Rattle.texture.specs.Outcomes.{listOutcome};
 ghost use Rattle.block_reader.specs.Outcomes.{blocksDue, placesDue};
-ghost use Rattle.block_reader.specs.Rows.{RowsSay, blocksAnswer, readRows, rowsAfter};
+ghost use Rattle.block_reader.specs.Rows.{RowsSay, blocksAnswer, readRows, readSpellings, rowsAfter};
 use bits::BitCount;
 use bits::Cursor;
 use codes::DcComponent;
 use codes::TcoefTable;
 use texture::DcRead;
 use texture::EventsRead;
+use texture::Spellings;
 use texture::TextureParseError;
 
-// The cursor after a block, or a refusal, and its 64 places, zeros where it refused.
+// The cursor after a block and the number of its events of each spelling, or a refusal, and its 64 places, zeros where it refused.
 pub struct PlacesRead {
     pub answer: EventsRead,
     pub qfs: [i32; 64],
@@ -45,7 +48,7 @@ fn read_list(data: &[u8], c: Cursor, coded: bool, dc_coded: bool, reversible: bo
             }
             BitCount::Bits(_) => {
                 return PlacesRead {
-                    answer: EventsRead::Read(c),
+                    answer: EventsRead::Read(c, Spellings::none()),
                     qfs,
                 };
             }
@@ -67,11 +70,11 @@ fn with_difference(one: PlacesRead, difference: i32) -> PlacesRead
     let answer = one.answer;
     match answer {
         EventsRead::Refused(e) => refusal(e),
-        EventsRead::Read(next) => {
+        EventsRead::Read(next, spellings) => {
             let mut qfs = one.qfs;
             qfs[0] = difference;
             PlacesRead {
-                answer: EventsRead::Read(next),
+                answer: EventsRead::Read(next, spellings),
                 qfs,
             }
         }
@@ -113,6 +116,20 @@ fn component(i: usize) -> DcComponent
     DcComponent::Chrominance
 }
 
+// The events of two parts together.
+fn sum(n: Spellings, m: Spellings) -> Spellings
+    requires { ⌜ (totalOf n ≤ 384) × (totalOf m ≤ 64) ⌝ }
+    ensures { λ r. ⌜ r ≡ together n m ⌝ }
+{
+    Spellings {
+        plain: n.plain + m.plain,
+        type1: n.type1 + m.type1,
+        type2: n.type2 + m.type2,
+        type3: n.type3 + m.type3,
+        rvlc_escape: n.rvlc_escape + m.rvlc_escape,
+    }
+}
+
 // Six blocks, row after row.
 fn read_rows(
     data: &[u8],
@@ -123,9 +140,10 @@ fn read_rows(
     rows: &mut [[i32; 64]; 6],
 ) -> EventsRead
     requires { ⌜ Readable (now «data») start × (length (now rows) ≡ 6) ⌝ }
-    ensures { λ r. ⌜ RowsSay (now («data» .entry)) r (now (rows .exit)) (readRows «dc_coded» reversible pattern (bitsFrom (now («data» .entry)) (start .«bit_pos»))) ⌝ }
+    ensures { λ r. ⌜ RowsSay (now («data» .entry)) r (now (rows .exit)) (readRows «dc_coded» reversible pattern (bitsFrom (now («data» .entry)) (start .«bit_pos»))) (readSpellings «dc_coded» reversible pattern (bitsFrom (now («data» .entry)) (start .«bit_pos»))) ⌝ }
 {
     let mut c = start;
+    let mut spellings = Spellings::none();
     for i in 0..6 {
         let one = read_block(data, c, component(i), pattern[i], dc_coded, reversible);
         let answer = one.answer;
@@ -133,14 +151,15 @@ fn read_rows(
             EventsRead::Refused(e) => {
                 return EventsRead::Refused(e);
             }
-            EventsRead::Read(next) => {
+            EventsRead::Read(next, more) => {
                 let qfs = one.qfs;
                 rows[i] = qfs;
                 c = next;
+                spellings = sum(spellings, more);
             }
         }
     }
-    EventsRead::Read(c)
+    EventsRead::Read(c, spellings)
 }
 
 // The six blocks of a macroblock for its pattern, each into its row of 64 places.
@@ -171,9 +190,9 @@ pub fn read_blocks(
             );
             match answer {
                 EventsRead::Refused(e) => EventsRead::Refused(e),
-                EventsRead::Read(next) => {
+                EventsRead::Read(next, spellings) => {
                     *rows = filled;
-                    EventsRead::Read(next)
+                    EventsRead::Read(next, spellings)
                 }
             }
         }

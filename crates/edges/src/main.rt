@@ -6,6 +6,8 @@ use libc::STDOUT_FILENO;
 use texture::DcRead;
 use texture::EventRead;
 use texture::EventsRead;
+use texture::Spelling;
+use texture::Spellings;
 use texture::TextureParseError;
 
 fn text(s: &[u8]) {
@@ -64,6 +66,16 @@ fn dc(name: &[u8], data: &[u8], at: usize, component: DcComponent) {
     text(b"\n");
 }
 
+fn spelling(k: Spelling) {
+    match k {
+        Spelling::Plain => text(b" plain"),
+        Spelling::Type1 => text(b" type 1"),
+        Spelling::Type2 => text(b" type 2"),
+        Spelling::Type3 => text(b" type 3"),
+        Spelling::RvlcEscape => text(b" reversible escape"),
+    }
+}
+
 fn print_event(answer: EventRead) {
     match answer {
         EventRead::Refused(e) => refused(e),
@@ -72,6 +84,8 @@ fn print_event(answer: EventRead) {
             number(v.run as u64);
             signed(v.level);
             number(next.bit_pos as u64);
+            let k = v.spelling;
+            spelling(k);
         }
     }
     text(b"\n");
@@ -87,15 +101,35 @@ fn event_rvlc(name: &[u8], data: &[u8], at: usize, table: TcoefTable) {
     print_event(texture::decode_ac_event_rvlc(data, at_bit(at), table));
 }
 
-fn print_list(answer: EventsRead, qfs: [i32; 64]) {
-    match answer {
-        EventsRead::Refused(e) => refused(e),
-        EventsRead::Read(next) => number(next.bit_pos as u64),
-    }
+fn places(qfs: [i32; 64]) {
     for i in 0..64 {
         if qfs[i] != 0 {
             number(i as u64);
             signed(qfs[i]);
+        }
+    }
+}
+
+// How many events of each spelling.
+fn spelled(n: Spellings) {
+    text(b" spelled");
+    number(n.plain as u64);
+    number(n.type1 as u64);
+    number(n.type2 as u64);
+    number(n.type3 as u64);
+    number(n.rvlc_escape as u64);
+}
+
+fn print_list(answer: EventsRead, qfs: [i32; 64]) {
+    match answer {
+        EventsRead::Refused(e) => {
+            refused(e);
+            places(qfs);
+        }
+        EventsRead::Read(next, n) => {
+            number(next.bit_pos as u64);
+            places(qfs);
+            spelled(n);
         }
     }
     text(b"\n");
@@ -239,8 +273,9 @@ fn reversible_without_bits() {
     event_rvlc(b"start past the end", &[0xFF], 9, TcoefTable::Intra);
 }
 
-// Reversible escapes.
+// Reversible escapes, after a code that is none.
 fn reversible_escapes() {
+    event_rvlc(b"reversible code", &[0xB8], 0, TcoefTable::Intra);
     event_rvlc(
         b"reversible escape",
         &[0x0C, 0x08, 0x05, 0x84],
@@ -405,6 +440,22 @@ fn reversible_landings() {
     );
 }
 
+// Each spelling in one list.
+fn spellings_in_lists() {
+    list(
+        b"after a DC, a plain event, types 1, 2 and 3",
+        &[0x80, 0xD4, 0x1D, 0x01, 0xF0, 0xA0, 0x0B],
+        0,
+        true,
+    );
+    list_rvlc(
+        b"after a DC, two reversible codes and an escape",
+        &[0xC1, 0x86, 0x04, 0x02, 0xC0],
+        0,
+        true,
+    );
+}
+
 fn main() {
     dc_without_a_code();
     dc_examples();
@@ -418,4 +469,5 @@ fn main() {
     plain_landings();
     reversible_list_ends();
     reversible_landings();
+    spellings_in_lists();
 }

@@ -6,17 +6,17 @@ use Rattle.bits.specs.Bits.{Bits}
 use Rattle.codes.specs.Rvlc.{rvlcCodes, rvlcLens}
 use Rattle.codes.specs.Tcoef.{vlcCodes, vlcLens}
 use Rattle.events.specs.EventReader.{escaped, event, fixed, level, longer, plainEvent, runAndLevel, rvlcDelimiter, rvlcEscaped, rvlcEvent, rvlcMagnitude, rvlcRun, rvlcSign, sign, signed}
-use Rattle.events.specs.declared.event.Spelling.{Spelling}
-use Rattle.events.specs.declared.event.Spelling.the-variants.{Plain, Reversible, Type1, Type2}
+use Rattle.events.specs.declared.event.RowForm.{RowForm}
+use Rattle.events.specs.declared.event.RowForm.the-variants.{Plain, Reversible, Type1, Type2}
 use Rattle.fields.proofs.ByBits.{ByBits, code-by-bits, either, field-by-bits, marker-by-bits, then}
 use Rattle.fields.specs.Reader.{code, field, marker}
 use Rattle.fields.specs.declared.error.TextureParseError.the-variants.{EscapeMarkerBitMissing, InvalidTcoef}
 
-sign-by-bits : (k : Spelling) (i : ℕ) (b : Bits) → ByBits (sign k i b)
+sign-by-bits : (k : RowForm) (i : ℕ) (b : Bits) → ByBits (sign k i b)
 unfolding sign
 sign-by-bits k i b = then (field 1 b) _ (field-by-bits 1 b) (λ s r. tt)
 
-signed-by-bits : (k : Spelling) (b : Bits) → ByBits (signed k b)
+signed-by-bits : (k : RowForm) (b : Bits) → ByBits (signed k b)
 unfolding signed
 signed-by-bits k b = then (code vlcCodes vlcLens 13 102 InvalidTcoef b) _ (code-by-bits vlcCodes vlcLens 13 102 InvalidTcoef b (λ w. tt)) (λ i r. sign-by-bits k i r)
 

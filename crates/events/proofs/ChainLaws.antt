@@ -16,14 +16,14 @@ use Rattle.events.proofs.EventLaws.{fixed-sound}
 use Rattle.events.proofs.RowLaws.{row-of-is}
 use Rattle.events.proofs.RvlcLaws.{rvlc-escaped-sound}
 use Rattle.events.specs.Answer.{eventAnswer, eventTold, fixedAnswer, rvlcEscapeAnswer, signAnswer}
-use Rattle.events.specs.Event.{Event, _▸_, eventBits, valueOf, lastNumber, levelOf, runOf, rvlcEscape, type3}
+use Rattle.events.specs.Event.{Event, _▸_, eventBits, valueOf, lastNumber, levelOf, runOf, rvlcEscape, spellingOf, type3}
 use Rattle.events.specs.EventReader.{event, fixed, runAndLevel, rvlcEscaped, rvlcRun, sign, spelled}
 use Rattle.events.specs.Inside.{saidEvent, InsideEvent, SaysEvent, marked, rvlcSettled, settled}
 use Rattle.events.specs.Rows.{RowIn, columns, rowOf}
 use Rattle.events.specs.declared.event.AcEvent.{AcEvent}
 use Rattle.events.specs.declared.event.EventRead.{EventRead}
 use Rattle.events.specs.declared.event.EventRead.the-variants.{Event as EventIs, Refused as EventRefused}
-use Rattle.events.specs.declared.event.Spelling.{Spelling}
+use Rattle.events.specs.declared.event.RowForm.{RowForm}
 use Rattle.fields.proofs.ChainLaws.{field-asked, field-first, number-is, place-is, refused-first, refused-is, rest-is}
 use Rattle.fields.proofs.ReadLaws.{bind-ok, field-sound, no-ok}
 use Rattle.fields.specs.Answer.{fieldAnswer, gotTold}
@@ -98,7 +98,7 @@ module _ (d : List ℕ) (t : TcoefTable) where
   -- the answer for a type 3 escape is the reader's
   pub settled-says : (l n v : ℕ) (c : Cursor) (r : EventRead) → r ≡ settled l n v c → c .«bit_pos» ≤ 8 * length d
       → SaysEvent d r (mapped (valueOf t) (cond (eqb v 0) (no ReservedEscapeLevel) (cond (eqb v 2048) (no ReservedEscapeLevel) (ok (type3 l n v) (bitsFrom d (c .«bit_pos»))))))
-  unfolding lastNumber runOf levelOf
+  unfolding lastNumber runOf levelOf spellingOf
   settled-says l n v c r q h = go (eqb v 0) (eqb v 2048) q
     where
       go : (a b : Bool) → r ≡ cond a (EventRefused ReservedEscapeLevel) (cond b (EventRefused ReservedEscapeLevel) (EventIs (valueOf t (type3 l n v)) c))
@@ -110,7 +110,7 @@ module _ (d : List ℕ) (t : TcoefTable) where
   -- and for a reversible one
   pub rvlc-settled-says : (l n m s : ℕ) (c : Cursor) (r : EventRead) → r ≡ rvlcSettled l n m s c → c .«bit_pos» ≤ 8 * length d
       → SaysEvent d r (mapped (valueOf t) (cond (eqb m 0) (no ReservedEscapeLevel) (ok (rvlcEscape l n m s) (bitsFrom d (c .«bit_pos»)))))
-  unfolding lastNumber runOf levelOf
+  unfolding lastNumber runOf levelOf spellingOf
   rvlc-settled-says l n m s c r q h = go (eqb m 0) q
     where
       go : (a : Bool) → r ≡ cond a (EventRefused ReservedEscapeLevel) (EventIs (valueOf t (rvlcEscape l n m s)) c)
@@ -172,7 +172,7 @@ module _ (d : List ℕ) (c : Cursor) (h : Readable d c) (r : EventRead) where
       says t (rvlcEscaped b)
       (λ e s p. let w = rvlc-escaped-sound b p in (bin 1 (w .last) ▸ bin 6 (w .run) ▸ bin 1 1 ▸ bin 11 (w .magnitude) ▸ bin 1 1 ▸ bin 4 0 ▸ bin 1 (w .sign), w .bits ∙ simp append-assoc)) q
 
-  pub sign-says : (t : TcoefTable) (k : Spelling) (i : ℕ) → RowIn k i → (es : List ℕ) → es ≡ columns k t → r ≡ signAnswer d (c .«bit_pos») es k i
+  pub sign-says : (t : TcoefTable) (k : RowForm) (i : ℕ) → RowIn k i → (es : List ℕ) → es ≡ columns k t → r ≡ signAnswer d (c .«bit_pos») es k i
       → SaysEvent d r (mapped (valueOf t) (sign k i b))
   unfolding sign
   sign-says t k i l es e q =
@@ -195,10 +195,10 @@ module _ (d : List ℕ) (at : ℕ) (g : Got) (q : g ≡ fieldAnswer d at 1) wher
   asked : g ≡ cond (inData (length d) at) (gotTold d first) (NumberRefused OutOfRange)
   asked = q ∙ field-asked d at 1 (omega arith)
 
-  pub sign-refused : (es : List ℕ) (k : Spelling) (i : ℕ) {e : TextureParseError} → g ≡ NumberRefused e → EventRefused e ≡ signAnswer d at es k i
+  pub sign-refused : (es : List ℕ) (k : RowForm) (i : ℕ) {e : TextureParseError} → g ≡ NumberRefused e → EventRefused e ≡ signAnswer d at es k i
   sign-refused es k i f = refused-first d (eventTold d) EventRefused (λ e. refl) (inData (length d) at) first (λ s r. ok (rowOf es k i s) r) g asked f
 
-  pub sign-given : (es : List ℕ) (k : Spelling) (i : ℕ) {s : ℕ} {next : Cursor} → g ≡ Number s next → EventIs (rowOf es k i s) next ≡ signAnswer d at es k i
+  pub sign-given : (es : List ℕ) (k : RowForm) (i : ℕ) {s : ℕ} {next : Cursor} → g ≡ Number s next → EventIs (rowOf es k i s) next ≡ signAnswer d at es k i
   sign-given es k i {s} {next} f =
       let x = field-first d at 1 (omega arith) g q f in
       ap (EventIs (rowOf es k i s)) (place-is d next (x .readable .0))

@@ -13,13 +13,13 @@ use Rattle.codes.proofs.PrefixFree.{vlc-prefix-free, vlc-rows}
 use Rattle.codes.specs.Tcoef.{vlcCodes, vlcLens}
 use Rattle.events.specs.Event.{Event, plain, type1, type2, type3, vlcBits, escape, eventBits, GoodEvent, _▸_}
 use Rattle.events.specs.EventReader.{spelled, sign, signed, level, runAndLevel, longer, fixed, escaped, plainEvent}
-use Rattle.events.specs.declared.event.Spelling.{Spelling}
-use Rattle.events.specs.declared.event.Spelling.the-variants.{Plain, Type1, Type2}
+use Rattle.events.specs.declared.event.RowForm.{RowForm}
+use Rattle.events.specs.declared.event.RowForm.the-variants.{Plain, Type1, Type2}
 use Rattle.fields.proofs.ReadLaws.{bind-ok, bind-by, cond-ok, no-ok, field-sound, field-complete, marker-sound, marker-complete, code-sound, code-complete}
 use Rattle.fields.specs.Reader.{ok, no, bind, field, code, marker}
 use Rattle.fields.specs.declared.error.TextureParseError.the-variants.{InvalidTcoef, EscapeMarkerBitMissing, ReservedEscapeLevel}
 
-pub record Signed (k : Spelling) (b : Bits) (e : Event) (r : Bits) : Type 0 where
+pub record Signed (k : RowForm) (b : Bits) (e : Event) (r : Bits) : Type 0 where
   pub row : ℕ
   pub sign : ℕ
   pub row-lt : row < 102
@@ -27,7 +27,7 @@ pub record Signed (k : Spelling) (b : Bits) (e : Event) (r : Bits) : Type 0 wher
   pub is : e ≡ spelled k row sign
   pub bits : b ≡ vlcBits row ▸ bin 1 sign ▸ r
 
-pub signed-sound : (k : Spelling) (b : Bits) {e : Event} {r : Bits} → signed k b ≡ ok e r → Signed k b e r
+pub signed-sound : (k : RowForm) (b : Bits) {e : Event} {r : Bits} → signed k b ≡ ok e r → Signed k b e r
 unfolding signed sign
 signed-sound k b {e} {r} q =
     let x = bind-ok (code vlcCodes vlcLens 13 102 InvalidTcoef b) _ q in
@@ -52,7 +52,7 @@ enough = let n = vlc-rows .0 in omega arith
 every : 103 ≤ length vlcCodes
 every = let n = vlc-rows .0 in omega arith
 
-pub signed-complete : (k : Spelling) (i s : ℕ) (r : Bits) → i < 102 → s < 2 → signed k (vlcBits i ▸ bin 1 s ▸ r) ≡ ok (spelled k i s) r
+pub signed-complete : (k : RowForm) (i s : ℕ) (r : Bits) → i < 102 → s < 2 → signed k (vlcBits i ▸ bin 1 s ▸ r) ≡ ok (spelled k i s) r
 unfolding signed sign
 signed-complete k i s r h h′ =
     bind-by _ (code-complete vlcCodes vlcLens 13 102 InvalidTcoef vlc-prefix-free enough i (bin 1 s ▸ r) h)

@@ -1,4 +1,4 @@
--- The laws of events: the lent tables, the readers and their grammar, how the answers of the code go together, the answers by number, and that 11 is none of reading.
+-- The laws of events: the lent tables, the readers and their grammar, how the answers of the code go together, the answers by number, that 11 is none of reading, and the counts of spellings.
 pub mod RowLaws
 pub mod EventLaws
 pub mod RvlcLaws
@@ -7,3 +7,4 @@ pub mod ChainLaws
 pub mod OutcomeLaws
 pub mod Apart
 pub mod ByBits
+pub mod SpellingLaws

@@ -16,7 +16,8 @@ use Rattle.events.specs.Rows.{rowOf}
 use Rattle.events.specs.declared.event.AcEvent.{AcEvent}
 use Rattle.events.specs.declared.event.EventRead.{EventRead}
 use Rattle.events.specs.declared.event.EventRead.the-variants.{Refused as EventRefused}
-use Rattle.events.specs.declared.event.Spelling.{Spelling}
+use Rattle.events.specs.declared.event.RowForm.{RowForm}
+use Rattle.events.specs.declared.spelling.Spelling.{Spelling}
 use Rattle.fields.proofs.OutcomeLaws.{after-test}
 use Rattle.fields.specs.Outcomes.{readAs}
 use Rattle.fields.specs.Reader.{Res, bind, field, mapped, no, ok}
@@ -33,13 +34,13 @@ module _ (d : List ℕ) where
   row-said f (no e) = refl
 
   module _ (at : ℕ) where
-    due : {o : Outcome ((Bool × (ℕ × ℤ)) × ℕ)} (r : EventRead) → eventOutcome r ≡ o → eventOutcome (cond (inData (length d) at) r (EventRefused OutOfRange)) ≡ checked ((inData (length d) at, 11) ∷ []) o
+    due : {o : Outcome ((Bool × (ℕ × (ℤ × Spelling))) × ℕ)} (r : EventRead) → eventOutcome r ≡ o → eventOutcome (cond (inData (length d) at) r (EventRefused OutOfRange)) ≡ checked ((inData (length d) at, 11) ∷ []) o
     due r h = after-test eventOutcome EventRefused (λ e. refl) (inData (length d) at) r h
 
     pub event-due : (rev : Bool) (t : TcoefTable) → eventOutcome (eventAnswer d at rev t) ≡ eventDue d at rev t
     event-due rev t = due _ (event-said t (event rev (bitsFrom d at)))
 
-    pub sign-due : (es : List ℕ) (k : Spelling) (i : ℕ) → eventOutcome (signAnswer d at es k i) ≡ signDue d at es k i
+    pub sign-due : (es : List ℕ) (k : RowForm) (i : ℕ) → eventOutcome (signAnswer d at es k i) ≡ signDue d at es k i
     sign-due es k i = due _ (row-said (rowOf es k i) (field 1 (bitsFrom d at)))
 
     pub fixed-due : (t : TcoefTable) → eventOutcome (fixedAnswer d at t) ≡ fixedDue d at t

@@ -12,12 +12,14 @@ use Rattle.codes.specs.Rvlc.{rvlcTcoef, rvlcOf, rvlcColumns}
 use Rattle.codes.specs.Tcoef.{tcoefIntra, tcoefInter, tcoefOf, eventColumns, lmaxBy, lmaxOf, rmaxBy, rmaxOf}
 use Rattle.codes.specs.declared.tcoef_tables.TcoefTable.{TcoefTable}
 use Rattle.codes.specs.declared.tcoef_tables.TcoefTable.the-variants.{Intra, Inter}
-use Rattle.events.specs.Event.{plain, type1, type2, rvlc, noRow, rvlcRowOf, tcoefRow, lastNumber, levelOf, runOf, signedBy, valueOf}
+use Rattle.events.specs.Event.{plain, type1, type2, rvlc, noRow, rvlcRowOf, tcoefRow, lastNumber, levelOf, runOf, signedBy, spellingOf, valueOf}
 use Rattle.events.specs.EventReader.{spelled}
-use Rattle.events.specs.Rows.{RowIn, RowSpelling, columns, rowEvent, rowOf}
+use Rattle.events.specs.Rows.{RowIn, PlainForm, columns, rowEvent, rowOf}
 use Rattle.events.specs.declared.event.AcEvent.{AcEvent}
-use Rattle.events.specs.declared.event.Spelling.{Spelling}
-use Rattle.events.specs.declared.event.Spelling.the-variants.{Plain, Type1, Type2, Reversible}
+use Rattle.events.specs.declared.event.RowForm.{RowForm}
+use Rattle.events.specs.declared.event.RowForm.the-variants.{Plain, Type1, Type2, Reversible}
+use Rattle.events.specs.declared.spelling.Spelling.{Spelling}
+use Rattle.events.specs.declared.spelling.Spelling.the-variants as S
 use Rattle.numbers.proofs.Every.{every-at}
 use Rattle.codes.specs.Tcoef as R
 
@@ -108,11 +110,11 @@ module _ (t : TcoefTable) (i : ℕ) (h : i < 169) where
 
 -- ---- the event of a row and a sign, by the columns
 
-abbrev eventBy : ℕ → ℕ → ℕ → ℕ → AcEvent
-eventBy s l r m = record { last = eqb l 1; run = r; level = signedBy s m }
+abbrev eventBy : Spelling → ℕ → ℕ → ℕ → ℕ → AcEvent
+eventBy k s l r m = record { last = eqb l 1; run = r; level = signedBy s m; spelling = k }
 
-pub same-event : (s : ℕ) {l l′ r r′ m m′ : ℕ} → l ≡ l′ → r ≡ r′ → m ≡ m′ → eventBy s l r m ≡ eventBy s l′ r′ m′
-same-event s {l} {l′} {r} {r′} {m} {m′} a b c = ap₂ (λ (x y : ℕ). eventBy s x y m) a b ∙ ap (eventBy s l′ r′) c
+pub same-event : (k : Spelling) (s : ℕ) {l l′ r r′ m m′ : ℕ} → l ≡ l′ → r ≡ r′ → m ≡ m′ → eventBy k s l r m ≡ eventBy k s l′ r′ m′
+same-event k s {l} {l′} {r} {r′} {m} {m′} a b c = ap₂ (λ (x y : ℕ). eventBy k s x y m) a b ∙ ap (eventBy k s l′ r′) c
 
 raised : {x y n m : ℕ} → x ≡ y → n ≡ m → x + n ≡ y + m
 raised e f = omega arith
@@ -124,40 +126,40 @@ kept : {x y : ℕ} → x ≡ y → x + 0 ≡ y
 kept e = omega arith
 
 module _ (t : TcoefTable) (i s : ℕ) where
-  plain-is : i < 102 → rowEvent (eventColumns (tcoefOf t)) 102 i s 0 0 ≡ valueOf t (plain i s)
-  unfolding lastNumber runOf levelOf
-  plain-is h = same-event s (last-at t i h) (kept (run-at t i h)) (kept (level-at t i h))
+  plain-is : i < 102 → rowEvent (eventColumns (tcoefOf t)) 102 i s 0 0 S.Plain ≡ valueOf t (plain i s)
+  unfolding lastNumber runOf levelOf spellingOf
+  plain-is h = same-event S.Plain s (last-at t i h) (kept (run-at t i h)) (kept (level-at t i h))
 
-  type1-is : i < 102 → (n : ℕ) → n ≡ getD (eventColumns (tcoefOf t)) (306 + i) 0 → rowEvent (eventColumns (tcoefOf t)) 102 i s n 0 ≡ valueOf t (type1 i s)
-  unfolding lastNumber runOf levelOf
-  type1-is h n q = same-event s (last-at t i h) (kept (run-at t i h)) (raised (level-at t i h) (q ∙ lmax-at t i h))
+  type1-is : i < 102 → (n : ℕ) → n ≡ getD (eventColumns (tcoefOf t)) (306 + i) 0 → rowEvent (eventColumns (tcoefOf t)) 102 i s n 0 S.Type1 ≡ valueOf t (type1 i s)
+  unfolding lastNumber runOf levelOf spellingOf
+  type1-is h n q = same-event S.Type1 s (last-at t i h) (kept (run-at t i h)) (raised (level-at t i h) (q ∙ lmax-at t i h))
 
-  type2-is : i < 102 → (n : ℕ) → n ≡ getD (eventColumns (tcoefOf t)) (408 + i) 0 → rowEvent (eventColumns (tcoefOf t)) 102 i s 0 (n + 1) ≡ valueOf t (type2 i s)
-  unfolding lastNumber runOf levelOf
-  type2-is h n q = same-event s (last-at t i h) (again (run-at t i h) (q ∙ rmax-at t i h)) (kept (level-at t i h))
+  type2-is : i < 102 → (n : ℕ) → n ≡ getD (eventColumns (tcoefOf t)) (408 + i) 0 → rowEvent (eventColumns (tcoefOf t)) 102 i s 0 (n + 1) S.Type2 ≡ valueOf t (type2 i s)
+  unfolding lastNumber runOf levelOf spellingOf
+  type2-is h n q = same-event S.Type2 s (last-at t i h) (again (run-at t i h) (q ∙ rmax-at t i h)) (kept (level-at t i h))
 
-  rvlc-is : i < 169 → rowEvent (rvlcColumns (rvlcOf t)) 169 i s 0 0 ≡ valueOf t (rvlc i s)
-  unfolding lastNumber runOf levelOf
-  rvlc-is h = same-event s (rvlc-last-at t i h) (kept (rvlc-run-at t i h)) (kept (rvlc-level-at t i h))
+  rvlc-is : i < 169 → rowEvent (rvlcColumns (rvlcOf t)) 169 i s 0 0 S.Plain ≡ valueOf t (rvlc i s)
+  unfolding lastNumber runOf levelOf spellingOf
+  rvlc-is h = same-event S.Plain s (rvlc-last-at t i h) (kept (rvlc-run-at t i h)) (kept (rvlc-level-at t i h))
 
 -- a row of the table in use, however it is spelled
-row-is : (k : Spelling) (t : TcoefTable) (i s : ℕ) → RowIn k i → rowOf (columns k t) k i s ≡ valueOf t (spelled k i s)
+row-is : (k : RowForm) (t : TcoefTable) (i s : ℕ) → RowIn k i → rowOf (columns k t) k i s ≡ valueOf t (spelled k i s)
 row-is Plain t i s h = plain-is t i s h
 row-is Type1 t i s h = type1-is t i s h (getD (eventColumns (tcoefOf t)) (306 + i) 0) refl
 row-is Type2 t i s h = type2-is t i s h (getD (eventColumns (tcoefOf t)) (408 + i) 0) refl
 row-is Reversible t i s h = rvlc-is t i s h
 
-pub row-of-is : (k : Spelling) (t : TcoefTable) (es : List ℕ) → es ≡ columns k t → (i s : ℕ) → RowIn k i → rowOf es k i s ≡ valueOf t (spelled k i s)
+pub row-of-is : (k : RowForm) (t : TcoefTable) (es : List ℕ) → es ≡ columns k t → (i s : ℕ) → RowIn k i → rowOf es k i s ≡ valueOf t (spelled k i s)
 row-of-is k t es e i s h = ap (λ (es : List ℕ). rowOf es k i s) e ∙ row-is k t i s h
 
 -- a row of the plain tables, however it is spelled
-pub plain-columns : (k : Spelling) (t : TcoefTable) → RowSpelling k → columns k t ≡ eventColumns (tcoefOf t)
+pub plain-columns : (k : RowForm) (t : TcoefTable) → PlainForm k → columns k t ≡ eventColumns (tcoefOf t)
 plain-columns Plain t h = refl
 plain-columns Type1 t h = refl
 plain-columns Type2 t h = refl
 plain-columns Reversible t h = absurd h
 
-pub plain-row : (k : Spelling) (i : ℕ) → RowSpelling k → i < 102 → RowIn k i
+pub plain-row : (k : RowForm) (i : ℕ) → PlainForm k → i < 102 → RowIn k i
 plain-row Plain i h l = l
 plain-row Type1 i h l = l
 plain-row Type2 i h l = l

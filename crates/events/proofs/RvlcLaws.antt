@@ -13,7 +13,7 @@ use Rattle.codes.proofs.PrefixFree.{rvlc-prefix-free, rvlc-rows}
 use Rattle.codes.specs.Rvlc.{rvlcCodes, rvlcLens}
 use Rattle.events.specs.Event.{Event, GoodEvent, _▸_, eventBits, plain, rvlc, rvlcBits, rvlcEscape, rvlcOpening, type1, type2, type3}
 use Rattle.events.specs.EventReader.{sign, rvlcSign, rvlcDelimiter, rvlcMagnitude, rvlcRun, rvlcEscaped, rvlcEvent}
-use Rattle.events.specs.declared.event.Spelling.the-variants.{Reversible}
+use Rattle.events.specs.declared.event.RowForm.the-variants.{Reversible}
 use Rattle.fields.proofs.ReadLaws.{bind-by, bind-ok, code-complete, code-sound, cond-ok, field-complete, field-sound, marker-complete, marker-sound, no-ok}
 use Rattle.fields.specs.Reader.{ok, no, bind, field, code, marker}
 use Rattle.fields.specs.declared.error.TextureParseError.the-variants.{InvalidTcoef, EscapeMarkerBitMissing, ReservedEscapeLevel, RvlcEscapeDelimiterMissing}

@@ -12,7 +12,7 @@ use Rattle.events.specs.Rows.{rowOf}
 use Rattle.events.specs.declared.event.AcEvent.{AcEvent}
 use Rattle.events.specs.declared.event.EventRead.{EventRead}
 use Rattle.events.specs.declared.event.EventRead.the-variants.{Event as EventIs, Refused as EventRefused}
-use Rattle.events.specs.declared.event.Spelling.{Spelling}
+use Rattle.events.specs.declared.event.RowForm.{RowForm}
 use Rattle.fields.specs.Answer.{after}
 use Rattle.fields.specs.Reader.{Res, ok, no, bind, field, mapped}
 use Rattle.fields.specs.declared.error.TextureParseError.the-variants.{OutOfRange}
@@ -27,7 +27,7 @@ eventAnswer d at rev t = cond (inData (length d) at) (eventTold d (mapped (value
 -- ---- parts of events
 
 -- the sign after row i of lent columns
-abbrev pub signAnswer : List ℕ → ℕ → List ℕ → Spelling → ℕ → EventRead
+abbrev pub signAnswer : List ℕ → ℕ → List ℕ → RowForm → ℕ → EventRead
 signAnswer d at es k i = cond (inData (length d) at) (eventTold d (bind (field 1 (bitsFrom d at)) (λ s r. ok (rowOf es k i s) r))) (EventRefused OutOfRange)
 
 -- a type 3 escape after its mode, and a reversible one after its code

@@ -12,6 +12,8 @@ use Rattle.codes.specs.Table.{codeBits}
 use Rattle.codes.specs.Tcoef.{Row, row, tcoefOf, lmaxBy, rmaxBy, vlcCodes, vlcLens}
 use Rattle.codes.specs.declared.tcoef_tables.TcoefTable.{TcoefTable}
 use Rattle.events.specs.declared.event.AcEvent.{AcEvent}
+use Rattle.events.specs.declared.spelling.Spelling.{Spelling}
+use Rattle.events.specs.declared.spelling.Spelling.the-variants.{Plain, RvlcEscape, Type1, Type2, Type3}
 use Rattle.codes.specs.Tcoef as T
 
 -- one string of bits after the other, bracketed to the right
@@ -109,8 +111,17 @@ levelOf t (type3 l r v) = signed12 v
 levelOf t (rvlc i s) = signedBy s (T.levelOf (rvlcRowOf t i))
 levelOf t (rvlcEscape l r m s) = signedBy s m
 
+-- how it is spelled; a reversible code that is no escape is plain
+unfoldable pub spellingOf : Event → Spelling
+spellingOf (plain i s) = Plain
+spellingOf (type1 i s) = Type1
+spellingOf (type2 i s) = Type2
+spellingOf (type3 l r v) = Type3
+spellingOf (rvlc i s) = Plain
+spellingOf (rvlcEscape l r m s) = RvlcEscape
+
 abbrev pub lastOf : TcoefTable → Event → Bool
 lastOf t e = eqb (lastNumber t e) 1
 
 abbrev pub valueOf : TcoefTable → Event → AcEvent
-valueOf t e = record { last = lastOf t e; run = runOf t e; level = levelOf t e }
+valueOf t e = record { last = lastOf t e; run = runOf t e; level = levelOf t e; spelling = spellingOf e }

@@ -6,24 +6,24 @@ use Rattle.bits.specs.Bits.{Bits}
 use Rattle.codes.specs.Rvlc.{rvlcCodes, rvlcLens}
 use Rattle.codes.specs.Tcoef.{vlcCodes, vlcLens}
 use Rattle.events.specs.Event.{Event, plain, type1, type2, type3, rvlc, rvlcEscape}
-use Rattle.events.specs.declared.event.Spelling.{Spelling}
-use Rattle.events.specs.declared.event.Spelling.the-variants.{Plain, Type1, Type2, Reversible}
+use Rattle.events.specs.declared.event.RowForm.{RowForm}
+use Rattle.events.specs.declared.event.RowForm.the-variants.{Plain, Type1, Type2, Reversible}
 use Rattle.fields.specs.Reader.{Res, ok, no, bind, field, code, marker}
 use Rattle.fields.specs.declared.error.TextureParseError.the-variants.{InvalidTcoef, EscapeMarkerBitMissing, ReservedEscapeLevel, RvlcEscapeDelimiterMissing}
 
 -- a row and its sign as an event
-abbrev pub spelled : Spelling → ℕ → ℕ → Event
+abbrev pub spelled : RowForm → ℕ → ℕ → Event
 spelled Plain i s = plain i s
 spelled Type1 i s = type1 i s
 spelled Type2 i s = type2 i s
 spelled Reversible i s = rvlc i s
 
 -- the sign of a row
-unfoldable pub sign : Spelling → ℕ → Bits → Res Event
+unfoldable pub sign : RowForm → ℕ → Bits → Res Event
 sign k i b = bind (field 1 b) (λ s r. ok (spelled k i s) r)
 
 -- a code that is no escape, and its sign
-unfoldable pub signed : Spelling → Bits → Res Event
+unfoldable pub signed : RowForm → Bits → Res Event
 signed k b = bind (code vlcCodes vlcLens 13 102 InvalidTcoef b) (λ i r. sign k i r)
 
 -- ---- plain

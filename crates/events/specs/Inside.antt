@@ -10,6 +10,7 @@ use Rattle.events.specs.Event.{signedBy, signed12}
 use Rattle.events.specs.declared.event.AcEvent.{AcEvent}
 use Rattle.events.specs.declared.event.EventRead.{EventRead}
 use Rattle.events.specs.declared.event.EventRead.the-variants.{Event as EventIs, Refused as EventRefused}
+use Rattle.events.specs.declared.spelling.Spelling.the-variants.{RvlcEscape, Type3}
 use Rattle.fields.specs.Inside.{Says}
 use Rattle.fields.specs.Reader.{Res, ok, no, bind, field, marker}
 use Rattle.fields.specs.declared.error.TextureParseError.the-variants.{EscapeMarkerBitMissing, ReservedEscapeLevel}
@@ -37,8 +38,8 @@ marked n b = bind (field n b) (λ v r. bind (marker EscapeMarkerBitMissing r) (�
 abbrev pub settled : ℕ → ℕ → ℕ → Cursor → EventRead
 settled l n v next =
     cond (eqb v 0) (EventRefused ReservedEscapeLevel)
-    (cond (eqb v 2048) (EventRefused ReservedEscapeLevel) (EventIs (record { last = eqb l 1; run = n; level = signed12 v }) next))
+    (cond (eqb v 2048) (EventRefused ReservedEscapeLevel) (EventIs (record { last = eqb l 1; run = n; level = signed12 v; spelling = Type3 }) next))
 
 abbrev pub rvlcSettled : ℕ → ℕ → ℕ → ℕ → Cursor → EventRead
 rvlcSettled l n m s next =
-    cond (eqb m 0) (EventRefused ReservedEscapeLevel) (EventIs (record { last = eqb l 1; run = n; level = signedBy s m }) next)
+    cond (eqb m 0) (EventRefused ReservedEscapeLevel) (EventIs (record { last = eqb l 1; run = n; level = signedBy s m; spelling = RvlcEscape }) next)

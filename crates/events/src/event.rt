@@ -1,12 +1,14 @@
 // An event, what reading one answers, and how a row and its sign stand for one.
+use crate::spelling::Spelling;
 use bits::Cursor;
 use fields::TextureParseError;
 
-// Last, run and signed level.
+// Last, run and signed level, and how they were spelled.
 pub struct AcEvent {
     pub last: bool,
     pub run: u32,
     pub level: i32,
+    pub spelling: Spelling,
 }
 
 // An event and the cursor after it, or a refusal.
@@ -16,7 +18,7 @@ pub enum EventRead {
 }
 
 // How a row and its sign stand for an event.
-pub enum Spelling {
+pub enum RowForm {
     Plain,
     Type1,
     Type2,

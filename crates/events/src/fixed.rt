@@ -11,6 +11,7 @@ ghost use Rattle.fields.specs.Inside.{Readable, SaysNumber};
 ghost use Rattle.fields.specs.Reader.{mapped};
 use crate::event::AcEvent;
 use crate::event::EventRead;
+use crate::spelling::Spelling;
 use bits::Cursor;
 use codes::TcoefTable;
 use fields::Got;
@@ -52,6 +53,7 @@ fn settle(last: u32, run: u32, v: u32, next: Cursor) -> EventRead
             last: last == 1,
             run,
             level,
+            spelling: Spelling::Type3,
         },
         next,
     )

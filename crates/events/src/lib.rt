@@ -7,10 +7,13 @@ mod event;
 mod fixed;
 mod row;
 mod rvlc;
+mod spelling;
 
 pub use event::AcEvent;
 pub use event::EventRead;
-pub use event::Spelling;
+pub use event::RowForm;
 pub use fixed::read_fixed;
 pub use row::read_sign;
 pub use rvlc::read_rvlc_escape;
+pub use spelling::Spelling;
+pub use spelling::Spellings;

@@ -8,7 +8,8 @@ ghost use Rattle.events.specs.Outcomes.{eventOutcome, signDue};
 ghost use Rattle.events.specs.Rows.{rowEvent, rowOf};
 use crate::event::AcEvent;
 use crate::event::EventRead;
-use crate::event::Spelling;
+use crate::event::RowForm;
+use crate::spelling::Spelling;
 use bits::Cursor;
 use fields::Got;
 
@@ -54,39 +55,51 @@ fn row_event(
     sign: u32,
     more_level: u32,
     more_run: u32,
+    spelling: Spelling,
 ) -> AcEvent
     requires { ⌜ (rows ≤ 169) × (row ≤ 4294967295) × («more_level» ≤ 256) × («more_run» ≤ 256) ⌝ }
-    ensures { λ r. ⌜ r ≡ rowEvent (now (events .entry)) rows row sign «more_level» «more_run» ⌝ }
+    ensures { λ r. ⌜ r ≡ rowEvent (now (events .entry)) rows row sign «more_level» «more_run» spelling ⌝ }
 {
     let last = number(events, row) == 1;
     let run = number(events, rows + row) + more_run;
     let level = signed_level(sign, number(events, 2 * rows + row) + more_level);
-    AcEvent { last, run, level }
+    AcEvent {
+        last,
+        run,
+        level,
+        spelling,
+    }
 }
 
 // The event of a row and a sign: type 1 raises the magnitude by LMAX, type 2 the run by RMAX + 1.
-fn event_of(events: &[u8], row: usize, sign: u32, spelling: Spelling) -> AcEvent
+fn event_of(events: &[u8], row: usize, sign: u32, form: RowForm) -> AcEvent
     requires { ⌜ row ≤ 4294967295 ⌝ }
-    ensures { λ r. ⌜ r ≡ rowOf (now (events .entry)) spelling row sign ⌝ }
+    ensures { λ r. ⌜ r ≡ rowOf (now (events .entry)) form row sign ⌝ }
 {
-    match spelling {
-        Spelling::Plain => row_event(events, 102, row, sign, 0, 0),
-        Spelling::Type1 => row_event(events, 102, row, sign, number(events, 306 + row), 0),
-        Spelling::Type2 => row_event(events, 102, row, sign, 0, number(events, 408 + row) + 1),
-        Spelling::Reversible => row_event(events, 169, row, sign, 0, 0),
+    match form {
+        RowForm::Plain => row_event(events, 102, row, sign, 0, 0, Spelling::Plain),
+        RowForm::Type1 => {
+            let more = number(events, 306 + row);
+            row_event(events, 102, row, sign, more, 0, Spelling::Type1)
+        }
+        RowForm::Type2 => {
+            let more = number(events, 408 + row) + 1;
+            row_event(events, 102, row, sign, 0, more, Spelling::Type2)
+        }
+        RowForm::Reversible => row_event(events, 169, row, sign, 0, 0, Spelling::Plain),
     }
 }
 
 // The sign of a row of a lent table, and the event.
-pub fn read_sign(data: &[u8], c: Cursor, events: &[u8], row: u32, spelling: Spelling) -> EventRead
-    ensures { λ r. ⌜ r ≡ signAnswer (now («data» .entry)) (c .«bit_pos») (now (events .entry)) spelling row ⌝ }
-    ensures outcome { λ r. ⌜ eventOutcome r ≡ signDue (now («data» .entry)) (c .«bit_pos») (now (events .entry)) spelling row ⌝ }
+pub fn read_sign(data: &[u8], c: Cursor, events: &[u8], row: u32, form: RowForm) -> EventRead
+    ensures { λ r. ⌜ r ≡ signAnswer (now («data» .entry)) (c .«bit_pos») (now (events .entry)) form row ⌝ }
+    ensures outcome { λ r. ⌜ eventOutcome r ≡ signDue (now («data» .entry)) (c .«bit_pos») (now (events .entry)) form row ⌝ }
 {
     let g = fields::read_field(data, c, 1);
     match g {
         Got::Refused(e) => EventRead::Refused(e),
         Got::Number(sign, next) => {
-            let v = event_of(events, row as usize, sign, spelling);
+            let v = event_of(events, row as usize, sign, form);
             EventRead::Event(v, next)
         }
     }

@@ -11,6 +11,7 @@ ghost use Rattle.fields.specs.Inside.{Readable};
 ghost use Rattle.fields.specs.Reader.{mapped};
 use crate::event::AcEvent;
 use crate::event::EventRead;
+use crate::spelling::Spelling;
 use bits::Cursor;
 use codes::TcoefTable;
 use fields::Got;
@@ -30,6 +31,7 @@ fn settle(last: u32, run: u32, magnitude: u32, sign: u32, next: Cursor) -> Event
             last: last == 1,
             run,
             level,
+            spelling: Spelling::RvlcEscape,
         },
         next,
     )

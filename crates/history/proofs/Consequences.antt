@@ -75,7 +75,7 @@ module _ (p : Picture) (x : Input) (s : List ℤ) {e : BlockAssemblyError} (q : 
 abbrev pub Refusal : Told → Type 0
 Refusal (opened (Opened p)) = ⊥
 Refusal (opened (Unopened e)) = Unit {0}
-Refusal (decoded (Decoded n c p) samples) = ⊥
+Refusal (decoded (Decoded n c k p) samples) = ⊥
 Refusal (decoded (Refused e) samples) = Unit {0}
 
 module _ (s : State) where
@@ -84,7 +84,7 @@ module _ (s : State) where
   same-opened (Unopened e) k = refl
 
   same-decoded : (x : Input) (a : PictureDecoded) (t : List ℤ) → answerOut (s .picture) x (s .store) ≡ a → Refusal (decoded a t) → next s (macroblock x) ≡ s
-  same-decoded x (Decoded n c p) t e k = absurd k
+  same-decoded x (Decoded n c m p) t e k = absurd k
   same-decoded x (Refused n) t e k = λ i. record { picture = pictureAfter (s .picture) (e i); store = store-kept (s .picture) x (s .store) e i }
 
   pub state-kept : (x : Step) → Refusal (told s x) → next s x ≡ s
@@ -199,9 +199,9 @@ first-around w h depth q method s l =
       above = found b (recordAt s (offset w 0 w));
     }) (mod-eq-of-lt l) (lt-leb w 0 l)
 
--- the same bits are taken, and the same refusals of the bits
+-- the same bits are taken, with the same events of each spelling, and the same refusals of the bits
 abbrev pub withPicture : Picture → MacroblockDecoded → PictureDecoded
-withPicture p (AloneDecoded n c) = Decoded n c (onward p)
+withPicture p (AloneDecoded n c k) = Decoded n c k (onward p)
 withPicture p (AloneRefused e) = Refused e
 
 pub same-reading : (p : Picture) (d : List ℕ) (at : ℕ) (y : Res (List Parts)) → answerTold p d at y ≡ withPicture p (toldAlone d at y)

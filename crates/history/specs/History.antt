@@ -26,7 +26,7 @@ pictureOpened p (Opened q) = q
 pictureOpened p (Unopened e) = p
 
 abbrev pub pictureAfter : Picture → PictureDecoded → Picture
-pictureAfter p (Decoded n c q) = q
+pictureAfter p (Decoded n c k q) = q
 pictureAfter p (Refused e) = p
 
 abbrev pub told : State → Step → Told

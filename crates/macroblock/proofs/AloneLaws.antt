@@ -14,6 +14,8 @@ use Rattle.bits.specs.declared.cursor.Cursor.{Cursor}
 use Rattle.coefficients.specs.Level.{predictorsFine}
 use Rattle.prediction.specs.declared.predictor.BlockPredictors.{BlockPredictors}
 use Rattle.fields.specs.Answer.{after}
+use Rattle.events.specs.declared.spelling.Spellings.{Spellings}
+use Rattle.sentences.proofs.CountLaws.{countsIn}
 use Rattle.sentences.specs.Macroblock.{Parts}
 use Rattle.fields.specs.Reader.{Res}
 use Rattle.assembly.proofs.OutcomeLaws.{answered, read-by}
@@ -71,17 +73,17 @@ module _ (d : List ℕ) (at : ℕ) (h : MacroblockHeader) (dcCoded rev : Bool) (
     fine : StateFine d at x p w (length old)
     fine = state-fine d at h x p w (length old) q
 
-    length-is : (n : ℕ) (c : Cursor) → c ≡ cursorAt (at + n) → Decoded (c .«bit_pos» - at) c ≡ Decoded n (cursorAt (at + n))
-    length-is n c g =
+    length-is : (n : ℕ) (c : Cursor) (k : Spellings) → c ≡ cursorAt (at + n) → Decoded (c .«bit_pos» - at) c k ≡ Decoded n (cursorAt (at + n)) k
+    length-is n c counts g =
         let k : c .«bit_pos» - at ≡ n = let m = ap (λ (y : Cursor). y .«bit_pos») g in omega arith in
-        ap₂ Decoded k g
+        ap₂ (λ (m : ℕ) (y : Cursor). Decoded m y counts) k g
 
     call : Call d at dcCoded rev (patternBy h) x (valuesAlone h dcCoded x p w) (Accepted r) (Told at r) old out
     unfolding sentenceOf
     call = record {
       accepts = λ s b g. subst⁻¹ Accepted (e ∙ ap (told d at) g) tt;
       refuses = λ n g a. subst Accepted (e ∙ ap (told d at) g) a;
-      tells = λ s b g n k. e ∙ ap (told d at) g ∙ length-is n (after d b) k;
+      tells = λ s b g n k. e ∙ ap (told d at) g ∙ length-is n (after d b) (countsIn s) k;
       writes = λ s b g. f ∙ ap (λ (y : Res (List Parts)). samplesTold h dcCoded x p w y old) g;
     }
 

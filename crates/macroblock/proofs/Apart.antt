@@ -9,6 +9,7 @@ use lib.ListN.{length}
 use Rattle.bits.specs.Bits.{bitsFrom}
 use Rattle.bits.specs.Cursor.{cursorAt}
 use Rattle.prediction.specs.declared.predictor.BlockPredictors.{BlockPredictors}
+use Rattle.events.specs.declared.spelling.Spellings.{Spellings}
 use Rattle.fields.proofs.ByBits.{ByBits}
 use Rattle.sentences.proofs.ByBits.{macroblock-by-bits}
 use Rattle.assembly.proofs.Apart.{Told, after-told, answers-apart, fine, first-told, read-told, taken}
@@ -32,8 +33,8 @@ pub sentence-by-bits : (d : List ℕ) (at : ℕ) (h : MacroblockHeader) (dcCoded
 unfolding sentenceOf
 sentence-by-bits d at h dcCoded rev = macroblock-by-bits dcCoded rev (patternBy h) (bitsFrom d at)
 
-abbrev pub decoded : ℕ × ℕ → MacroblockDecoded
-decoded a = Decoded (a .0) (cursorAt (a .1))
+abbrev pub decoded : ℕ × (ℕ × Spellings) → MacroblockDecoded
+decoded a = Decoded (a .0) (cursorAt (a .1 .0)) (a .1 .1)
 
 pub macroblock-apart : (r s : MacroblockDecoded) → Told decoded Refused r → Told decoded Refused s → macroblockOutcome r ≡ macroblockOutcome s → r ≡ s
 macroblock-apart = answers-apart decoded Refused macroblockOutcome (λ a. refl) (λ e. refl)
@@ -48,5 +49,5 @@ module _ (d : List ℕ) (at : ℕ) (h : MacroblockHeader) (dcCoded rev : Bool) (
   macroblock-told old =
       let y = sentenceOf d at h dcCoded rev in
       after-told decoded Refused (λ (k : Checked). answerBy k (told d at y)) (λ e. refl)
-      (read-told decoded Refused (told d at) (λ s r. taken (_, _) refl) (λ e. refl) y (sentence-by-bits d at h dcCoded rev))
+      (read-told decoded Refused (told d at) (λ s r. taken (_, (_, _)) refl) (λ e. refl) y (sentence-by-bits d at h dcCoded rev))
       (stateOf d at h x p w (length old)) (state-told (length old))

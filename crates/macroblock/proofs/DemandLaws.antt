@@ -33,12 +33,12 @@ module _ (d : List ℕ) (at : ℕ) (dcCoded rev : Bool) (pattern : List Bool) wh
   pub read-of : (s : List Parts) → (b : BeginsAt d at dcCoded rev pattern s) → readBy ≡ ok s (b .1 .0)
   read-of s b = ap (readMacroblock dcCoded rev pattern) (b .1 .1) ∙ macroblock-sentences dcCoded rev pattern .own s (b .1 .0) (b .0)
 
-  module _ (x : MacroblockTextureContext) (values : List Parts → List (List (List ℤ))) (Accepted : Type 0) (Told : ℕ → Type 0) (before out : List ℤ) where
+  module _ (x : MacroblockTextureContext) (values : List Parts → List (List (List ℤ))) (Accepted : Type 0) (Told : ℕ → List Parts → Type 0) (before out : List ℤ) where
     -- what is asked of the call
     pub record Call : Type 0 where
       pub accepts : (s : List Parts) (r : Bits) → readBy ≡ ok s r → Accepted
       pub refuses : (e : TextureParseError) → readBy ≡ no e → Accepted → ⊥
-      pub tells : (s : List Parts) (r : Bits) → readBy ≡ ok s r → (n : ℕ) → after d r ≡ cursorAt (at + n) → Told n
+      pub tells : (s : List Parts) (r : Bits) → readBy ≡ ok s r → (n : ℕ) → after d r ≡ cursorAt (at + n) → Told n s
       pub writes : (s : List Parts) (r : Bits) → readBy ≡ ok s r → out ≡ samplesAfter (samplesOfSix x (values s)) before
 
     module _ (inside : at ≤ 8 * length d) (depth : depthFine (x .«bits_per_pixel») ≡ true)

@@ -1,4 +1,4 @@
--- A macroblock's reading is the block's taken six times, and so are its values. Assumes nothing.
+-- A macroblock's reading is the block's taken six times, and so are its values and its counts. Assumes nothing.
 use mathlib.Core.Bool.{Bool}
 use mathlib.Core.List.{List, [], _∷_}
 use mathlib.Core.Option.{none}
@@ -10,10 +10,14 @@ use lib.ListN.{getD, length}
 use Rattle.bits.specs.Bits.{bitsFrom}
 use Rattle.prediction.specs.declared.predictor.BlockPredictors.{BlockPredictors}
 use Rattle.numbers.proofs.Fill.{getD-build}
+use Rattle.events.proofs.SpellingLaws.{counts-together, none-last}
+use Rattle.events.specs.Spellings.{spellingsOf, together}
+use Rattle.events.specs.declared.spelling.Spellings.{Spellings}
+use Rattle.sentences.proofs.CountLaws.{countsIn, countsOf}
 use Rattle.sentences.proofs.Sentences.{block-sentences}
 use Rattle.fields.specs.Answer.{after}
 use Rattle.sentences.specs.ComposeReader.{readEach}
-use Rattle.sentences.specs.Macroblock.{Parts, Place, placesOfPattern}
+use Rattle.sentences.specs.Macroblock.{Parts, Place, eventsIn, eventsOf, placesOfPattern}
 use Rattle.sentences.specs.MacroblockReader.{readBlock, readMacroblock}
 use Rattle.fields.specs.Reader.{Res, bind, no, ok}
 use Rattle.block_reader.proofs.RowLaws.{rest-on}
@@ -62,3 +66,14 @@ six-values d h dcCoded x p w a b c e f g i l =
     row (suc (suc (suc (suc zero)))) l = refl
     row (suc (suc (suc (suc (suc zero))))) l = refl
     row (suc (suc (suc (suc (suc (suc i)))))) l = absurd (omega arith)
+
+-- the counts are those of the six blocks' readings together
+pub six-counts : (a b c e f g : Parts)
+    → countsIn (a ∷ b ∷ c ∷ e ∷ f ∷ g ∷ []) ≡ together (countsOf a) (together (countsOf b) (together (countsOf c) (together (countsOf e) (together (countsOf f) (countsOf g)))))
+unfolding spellingsOf
+six-counts a b c e f g =
+    more a (b ∷ c ∷ e ∷ f ∷ g ∷ []) _
+    (more b (c ∷ e ∷ f ∷ g ∷ []) _ (more c (e ∷ f ∷ g ∷ []) _ (more e (f ∷ g ∷ []) _ (more f (g ∷ []) _ (more g [] _ refl ∙ none-last (countsOf g))))))
+  where
+    more : (p : Parts) (ps : List Parts) (n : Spellings) → countsIn ps ≡ n → countsIn (p ∷ ps) ≡ together (countsOf p) n
+    more p ps n h = counts-together (eventsOf (p .1)) (eventsIn ps) ∙ ap (together (countsOf p)) h

@@ -6,6 +6,8 @@ use Prim.Native.Nat.{ℕ, _+_}
 use lib.IntN.{ℤ}
 use lib.ListN.{length}
 use Rattle.bits.specs.Cursor.{cursorAt}
+use Rattle.events.specs.Spellings.{spellingsOf}
+use Rattle.sentences.specs.Macroblock.{Parts, eventsIn}
 use Rattle.prediction.specs.declared.predictor.BlockPredictors.{BlockPredictors}
 use Rattle.assembly.specs.declared.context.MacroblockTextureContext.{MacroblockTextureContext}
 use Rattle.assembly.specs.declared.error.Checked.the-variants.{Fine}
@@ -18,12 +20,12 @@ use Rattle.macroblock.specs.declared.header.MacroblockHeader.{Macroblock
 
 -- answered without a number
 abbrev pub Accepted : MacroblockDecoded → Type 0
-Accepted (Decoded n c) = Unit {0}
+Accepted (Decoded n c k) = Unit {0}
 Accepted (Refused e) = ⊥
 
--- n bits, and the position n bits on
-abbrev pub Told : ℕ → MacroblockDecoded → ℕ → Type 0
-Told at r n = r ≡ Decoded n (cursorAt (at + n))
+-- n bits, the position n bits on, and the sentence's events of each spelling
+abbrev pub Told : ℕ → MacroblockDecoded → ℕ → List Parts → Type 0
+Told at r n s = r ≡ Decoded n (cursorAt (at + n)) (spellingsOf (eventsIn s))
 
 -- where none of 9 to 15 holds
 abbrev pub DemandAlone : List ℕ → ℕ → MacroblockHeader → Bool → Bool → MacroblockTextureContext → BlockPredictors → List (List ℕ) → List ℤ → MacroblockDecoded → List ℤ → Type 0

@@ -9,7 +9,8 @@ use Rattle.bits.specs.Bits.{bitsFrom}
 use Rattle.prediction.specs.declared.predictor.BlockPredictors.{BlockPredictors}
 use Rattle.samples.specs.Samples.{macroblockSamples, samplesAfter}
 use Rattle.fields.specs.Answer.{after}
-use Rattle.sentences.specs.Macroblock.{Parts}
+use Rattle.events.specs.Spellings.{spellingsOf}
+use Rattle.sentences.specs.Macroblock.{Parts, eventsIn}
 use Rattle.sentences.specs.MacroblockReader.{readMacroblock}
 use Rattle.fields.specs.Reader.{Res, no, ok}
 use Rattle.assembly.specs.Answer.{firstBad, testsOf}
@@ -40,7 +41,7 @@ valuesAlone h dcCoded x p w s = valuesOfSix x p w (rowsOf dcCoded (patternBy h) 
 -- ---- of what was read
 
 abbrev pub told : List ℕ → ℕ → Res (List Parts) → MacroblockDecoded
-told d at (ok s r) = Decoded (after d r .«bit_pos» - at) (after d r)
+told d at (ok s r) = Decoded (after d r .«bit_pos» - at) (after d r) (spellingsOf (eventsIn s))
 told d at (no e) = Refused (Texture e)
 
 abbrev pub samplesTold : MacroblockHeader → Bool → MacroblockTextureContext → BlockPredictors → List (List ℕ) → Res (List Parts) → List ℤ → List ℤ

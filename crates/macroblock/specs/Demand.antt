@@ -26,14 +26,14 @@ pub record Sample (x : MacroblockTextureContext) (f : List (List ℤ)) (after : 
   pub limited : getD after (placeOf i y u) (pos 0) ≡ clampZ (whole (x .«idct_rounding») f y u) (pos 0) (highest (x .«bits_per_pixel»))
   pub near : Near (whole (x .«idct_rounding») f y u) (exact f y u)
 
--- `values` gives the six blocks' values of a sentence; `Accepted` says that the call was answered without a number, `Told n` that it reported n bits and the position n bits on; `before` and `after` are the lent samples
-pub record Demand3 (d : List ℕ) (at : ℕ) (dcCoded rev : Bool) (pattern : List Bool) (x : MacroblockTextureContext) (values : List Parts → List (List (List ℤ))) (Accepted : Type 0) (Told : ℕ → Type 0) (before after : List ℤ) : Type 0 where
+-- `values` gives the six blocks' values of a sentence; `Accepted` says that the call was answered without a number, `Told n s` that it reported n bits, the position n bits on, and what it reports of the sentence s; `before` and `after` are the lent samples
+pub record Demand3 (d : List ℕ) (at : ℕ) (dcCoded rev : Bool) (pattern : List Bool) (x : MacroblockTextureContext) (values : List Parts → List (List (List ℤ))) (Accepted : Type 0) (Told : ℕ → List Parts → Type 0) (before after : List ℤ) : Type 0 where
   -- accepted exactly when the bits begin with a sentence for the pattern
   pub exactly : Accepted ↔ ((s : List Parts) × BeginsAt d at dcCoded rev pattern s)
   -- never with two
   pub never-two : (s t : List Parts) → BeginsAt d at dcCoded rev pattern s → BeginsAt d at dcCoded rev pattern t → s ≡ t
-  -- the length reported is the sentence's, and the position moves on by it
-  pub long : (s : List Parts) → BeginsAt d at dcCoded rev pattern s → Told (length (macroblockBits pattern s))
+  -- the length reported is the sentence's, and the position moves on by it; what is reported of the sentence is of this one
+  pub long : (s : List Parts) → BeginsAt d at dcCoded rev pattern s → Told (length (macroblockBits pattern s)) s
   -- each of the 384 samples
   pub samples : (s : List Parts) → BeginsAt d at dcCoded rev pattern s → (i y u : ℕ) → i < 6 → y < 8 → u < 8 → Sample x (blockAt (values s) i) after i y u
   -- a longer slice keeps its rest

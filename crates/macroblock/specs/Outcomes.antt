@@ -9,7 +9,9 @@ use Rattle.bits.specs.Cursor.{inData}
 use Rattle.coefficients.specs.Level.{predictorsFine}
 use Rattle.prediction.specs.declared.predictor.BlockPredictors.{BlockPredictors}
 use Rattle.samples.specs.Samples.{macroblockSamples}
-use Rattle.sentences.specs.Macroblock.{Parts}
+use Rattle.events.specs.Spellings.{spellingsOf}
+use Rattle.events.specs.declared.spelling.Spellings.{Spellings}
+use Rattle.sentences.specs.Macroblock.{Parts, eventsIn}
 use Rattle.fields.specs.Outcomes.{readAs}
 use Rattle.assembly.specs.Answer.{figureOf, numberOf}
 use Rattle.assembly.specs.Values.{contextFine}
@@ -20,9 +22,9 @@ use Rattle.macroblock.specs.declared.decode.MacroblockDecoded.{Macrobloc
 use Rattle.macroblock.specs.declared.decode.MacroblockDecoded.the-variants.{Decoded, Refused}
 use Rattle.macroblock.specs.declared.header.MacroblockHeader.{MacroblockHeader}
 
--- the number of bits taken, and the position after them
-abbrev pub macroblockOutcome : MacroblockDecoded → Outcome (ℕ × ℕ)
-macroblockOutcome (Decoded n c) = accepted (n, c .«bit_pos»)
+-- the number of bits taken, the position after them and the number of events of each spelling
+abbrev pub macroblockOutcome : MacroblockDecoded → Outcome (ℕ × (ℕ × Spellings))
+macroblockOutcome (Decoded n c k) = accepted (n, (c .«bit_pos», k))
 macroblockOutcome (Refused e) = refused (numberOf e) (figureOf e)
 
 -- 9, then 10
@@ -32,12 +34,12 @@ headerNumbers h = (not (h .«not_coded»), 9) ∷ (isIntra (h .«mb_type»), 10)
 abbrev pub headerDue : MacroblockHeader → Outcome (Unit {0})
 headerDue h = checked (headerNumbers h) done
 
--- how many bits a sentence that begins at `at` takes, by the position after it, and that position
-abbrev pub bitsSaid : ℕ → List Parts → ℕ → ℕ × ℕ
-bitsSaid at s position = (position - at, position)
+-- how many bits a sentence that begins at `at` takes, by the position after it, that position, and its events of each spelling
+abbrev pub bitsSaid : ℕ → List Parts → ℕ → ℕ × (ℕ × Spellings)
+bitsSaid at s position = (position - at, (position, spellingsOf (eventsIn s)))
 
 -- 11, 12, 13, 14, 9, 10, then what is read
-abbrev pub macroblockDue : List ℕ → ℕ → MacroblockHeader → Bool → Bool → MacroblockTextureContext → BlockPredictors → List (List ℕ) → ℕ → Outcome (ℕ × ℕ)
+abbrev pub macroblockDue : List ℕ → ℕ → MacroblockHeader → Bool → Bool → MacroblockTextureContext → BlockPredictors → List (List ℕ) → ℕ → Outcome (ℕ × (ℕ × Spellings))
 macroblockDue d at h dcCoded rev x p w room =
     checked ((inData (length d) at, 11) ∷ (contextFine x w, 12) ∷ (predictorsFine p, 13) ∷ (leb macroblockSamples room, 14) ∷ headerNumbers h)
     (readAs (bitsSaid at) d (sentenceOf d at h dcCoded rev))

@@ -12,10 +12,11 @@ use block::Checked;
 use block::MacroblockTextureContext;
 use coefficients::BlockPredictors;
 use texture::EventsRead;
+use texture::Spellings;
 
-// The number of bits taken and the cursor after them, or a refusal.
+// The number of bits taken, the cursor after them and the number of events of each spelling, or a refusal.
 pub enum MacroblockDecoded {
-    Decoded(usize, Cursor),
+    Decoded(usize, Cursor, Spellings),
     Refused(BlockAssemblyError),
 }
 
@@ -73,13 +74,13 @@ fn decode_checked(
     );
     match answer {
         EventsRead::Refused(e) => MacroblockDecoded::Refused(BlockAssemblyError::Texture(e)),
-        EventsRead::Read(next) => {
+        EventsRead::Read(next, spellings) => {
             let rebuilt = crate::six::samples_of_six(&rows, ends, ctx, predictors, w, samples);
             match rebuilt {
                 Checked::Bad(e) => MacroblockDecoded::Refused(e),
                 Checked::Fine => {
                     let bits = next.bit_pos - c.bit_pos;
-                    MacroblockDecoded::Decoded(bits, next)
+                    MacroblockDecoded::Decoded(bits, next, spellings)
                 }
             }
         }

@@ -11,6 +11,8 @@ use Rattle.bits.proofs.CursorLaws.{in-data-yes}
 use Rattle.bits.specs.Cursor.{cursorAt}
 use Rattle.bits.specs.declared.cursor.Cursor.{Cursor}
 use Rattle.fields.specs.Answer.{after}
+use Rattle.events.specs.declared.spelling.Spellings.{Spellings}
+use Rattle.sentences.proofs.CountLaws.{countsIn}
 use Rattle.sentences.specs.Macroblock.{Parts}
 use Rattle.fields.specs.Reader.{Res}
 use Rattle.assembly.proofs.OutcomeLaws.{answered, read-by}
@@ -77,17 +79,17 @@ module _ (p : Picture) (x : Input) (store : List ℤ) where
     fine : FirstFine p (x .bytes) (x .start) (contextHere p x) (x .matrix) (length (x .samples)) (length store)
     fine = state-first p (x .bytes) (x .start) (contextHere p x) (x .matrix) (length (x .samples)) (length store) (x .header) (aroundHere p x store) q
 
-    length-is : (n : ℕ) (c : Cursor) → c ≡ cursorAt (x .start + n) → Decoded (c .«bit_pos» - x .start) c (onward p) ≡ Decoded n (cursorAt (x .start + n)) (onward p)
-    length-is n c k =
+    length-is : (n : ℕ) (c : Cursor) (counts : Spellings) → c ≡ cursorAt (x .start + n) → Decoded (c .«bit_pos» - x .start) c counts (onward p) ≡ Decoded n (cursorAt (x .start + n)) counts (onward p)
+    length-is n c counts k =
         let m : c .«bit_pos» - x .start ≡ n = let z = ap (λ (y : Cursor). y .«bit_pos») k in omega arith in
-        λ i. Decoded (m i) (k i) (onward p)
+        λ i. Decoded (m i) (k i) counts (onward p)
 
     call : Call (x .bytes) (x .start) dcCoded rev (patternBy (x .header)) (contextHere p x) (valuesHere (x .header) dcCoded (contextHere p x) (x .matrix) (aroundHere p x store)) (Accepted r) (Told p (x .start) r) (x .samples) out
     unfolding sentenceOf
     call = record {
       accepts = λ s b k. subst⁻¹ Accepted (e ∙ ap (answerTold p (x .bytes) (x .start)) k) tt;
       refuses = λ n k a. subst Accepted (e ∙ ap (answerTold p (x .bytes) (x .start)) k) a;
-      tells = λ s b k n m. e ∙ ap (answerTold p (x .bytes) (x .start)) k ∙ length-is n (after (x .bytes) b) m;
+      tells = λ s b k n m. e ∙ ap (answerTold p (x .bytes) (x .start)) k ∙ length-is n (after (x .bytes) b) (countsIn s) m;
       writes = λ s b k. f ∙ ap samplesRead k;
     }
 

@@ -9,6 +9,7 @@ use lib.ListN.{length}
 use mir.Syntax.{w32}
 use mir.Val.{Fits}
 use Rattle.bits.specs.declared.cursor.Cursor.{Cursor}
+use Rattle.events.specs.declared.spelling.Spellings.{Spellings}
 use Rattle.samples.specs.Samples.{samplesAfter}
 use Rattle.fields.specs.declared.error.TextureParseError.{TextureParseError}
 use Rattle.texture.specs.declared.list.EventsRead.{EventsRead}
@@ -58,8 +59,8 @@ module _ (p : Picture) (x : Input) (store : List ℤ) (q : stateHere p x store �
       whole p x store q _ _ _ (sym (ap (answerTold p (x .bytes) (x .start)) n)) (sym (ap (samplesRead p x store) n)) (sym (ap (storeRead p x store) n))
 
   -- a sentence, up to `next`
-  module _ (rows old : List (List ℤ)) (g : rows ≡ rowsAfter (x .bytes) (x .start) pattern dcCoded rev old) (next : Cursor) (k : answer ≡ Read next) where
-    read : SixRead (x .bytes) (x .start) (patternBy (x .header)) dcCoded rev rows next
+  module _ (rows old : List (List ℤ)) (g : rows ≡ rowsAfter (x .bytes) (x .start) pattern dcCoded rev old) (next : Cursor) (counts : Spellings) (k : answer ≡ Read next counts) where
+    read : SixRead (x .bytes) (x .start) (patternBy (x .header)) dcCoded rev rows next counts
     read = six-read (x .bytes) (x .start) (patternBy (x .header)) dcCoded rev (fine .inside) answer answered rows old (g ∙ ap (λ (ps : List Bool). rowsAfter (x .bytes) (x .start) ps dcCoded rev old) e) k
 
     -- its end is not before its start, and one more macroblock can be counted
@@ -85,12 +86,12 @@ module _ (p : Picture) (x : Input) (store : List ℤ) (q : stateHere p x store �
       -- with its samples and its record
       pub decoded : {out st : List ℤ}
           → out ≡ samplesAfter (samplesOfSix (due .context) (valuesInTurn (due .context) (x .matrix) (aroundBy (due .place) store) rows)) (x .samples)
-          → st ≡ storedAt store (due .own) (recordOf (due .context) (x .matrix) (aroundBy (due .place) store) rows) → Answered p x store (Decoded (next .«bit_pos» - x .start) next (onward p)) out st
+          → st ≡ storedAt store (due .own) (recordOf (due .context) (x .matrix) (aroundBy (due .place) store) rows) → Answered p x store (Decoded (next .«bit_pos» - x .start) next counts (onward p)) out st
       unfolding aroundDue sentenceOf
       decoded b c =
           let m = read .rows-are in
           whole p x store q _ _ _
-          (ap (λ (y : Cursor). Decoded (y .«bit_pos» - x .start) y (onward p)) (read .place) ∙ sym (ap (answerTold p (x .bytes) (x .start)) (read .read)))
+          (ap₂ (λ (y : Cursor) (n : Spellings). Decoded (y .«bit_pos» - x .start) y n (onward p)) (read .place) (read .counts-are) ∙ sym (ap (answerTold p (x .bytes) (x .start)) (read .read)))
           (b
           ∙ ap₂ (λ (y : Due) (rs : List (List ℤ)). samplesAfter (samplesOfSix (y .context) (valuesInTurn (y .context) (x .matrix) (aroundBy (y .place) store) rs)) (x .samples)) d m
           ∙ sym (ap (samplesRead p x store) (read .read)))

@@ -6,7 +6,8 @@ use lib.IntN.{ℤ}
 use lib.ListN.{length}
 use Rattle.samples.specs.Samples.{samplesAfter}
 use Rattle.fields.specs.Answer.{after}
-use Rattle.sentences.specs.Macroblock.{Parts}
+use Rattle.events.specs.Spellings.{spellingsOf}
+use Rattle.sentences.specs.Macroblock.{Parts, eventsIn}
 use Rattle.fields.specs.Reader.{Res, no, ok}
 use Rattle.block_reader.specs.Rows.{rowsOf}
 use Rattle.assembly.specs.declared.context.MacroblockTextureContext.{MacroblockTextureContext}
@@ -51,7 +52,7 @@ recordHere h dcCoded x w ar s = recordOf x w ar (rowsOf dcCoded (patternBy h) s)
 -- ---- of what was read
 
 abbrev pub answerTold : Picture → List ℕ → ℕ → Res (List Parts) → PictureDecoded
-answerTold p d at (ok s r) = Decoded (after d r .«bit_pos» - at) (after d r) (onward p)
+answerTold p d at (ok s r) = Decoded (after d r .«bit_pos» - at) (after d r) (spellingsOf (eventsIn s)) (onward p)
 answerTold p d at (no e) = Refused (Texture e)
 
 abbrev pub samplesTold : MacroblockHeader → Bool → MacroblockTextureContext → List (List ℕ) → Around → Res (List Parts) → List ℤ → List ℤ

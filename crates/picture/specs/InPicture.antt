@@ -4,7 +4,8 @@ use mathlib.Core.Path.{_≡_}
 use Prim.Native.Nat.{ℕ, _+_, _<_, _≤_}
 use lib.IntN.{ℤ}
 use Rattle.bits.specs.Cursor.{cursorAt}
-use Rattle.sentences.specs.Macroblock.{Parts}
+use Rattle.events.specs.Spellings.{spellingsOf}
+use Rattle.sentences.specs.Macroblock.{Parts, eventsIn}
 use Rattle.block_reader.specs.Rows.{rowsOf}
 use Rattle.assembly.specs.declared.error.Checked.the-variants.{Fine}
 use Rattle.macroblock.specs.Demand.{BeginsAt, Demand3}
@@ -21,12 +22,12 @@ use Rattle.picture_state.specs.declared.picture.Picture.{Picture}
 
 -- answered without a number
 abbrev pub Accepted : PictureDecoded → Type 0
-Accepted (Decoded n c p) = Unit {0}
+Accepted (Decoded n c k p) = Unit {0}
 Accepted (Refused e) = ⊥
 
--- n bits, the position n bits on, and one macroblock more
-abbrev pub Told : Picture → ℕ → PictureDecoded → ℕ → Type 0
-Told p at r n = r ≡ Decoded n (cursorAt (at + n)) (onward p)
+-- n bits, the position n bits on, the sentence's events of each spelling, and one macroblock more
+abbrev pub Told : Picture → ℕ → PictureDecoded → ℕ → List Parts → Type 0
+Told p at r n s = r ≡ Decoded n (cursorAt (at + n)) (spellingsOf (eventsIn s)) (onward p)
 
 module _ (p : Picture) (x : Input) (before : List ℤ) where
   abbrev pub Begun : List Parts → Type 0

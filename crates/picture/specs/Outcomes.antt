@@ -5,7 +5,9 @@ use Prim.Native.Nat.{ℕ, _-_}
 use lib.IntN.{ℤ}
 use lib.ListN.{length}
 use Rattle.numbers.specs.Outcome.{Outcome, accepted, checked, refused}
-use Rattle.sentences.specs.Macroblock.{Parts}
+use Rattle.events.specs.Spellings.{spellingsOf}
+use Rattle.events.specs.declared.spelling.Spellings.{Spellings}
+use Rattle.sentences.specs.Macroblock.{Parts, eventsIn}
 use Rattle.fields.specs.Outcomes.{readAs}
 use Rattle.assembly.specs.Answer.{figureOf, numberOf}
 use Rattle.picture_state.specs.Outcomes.{stateNumbers}
@@ -15,9 +17,9 @@ use Rattle.picture.specs.Call.{Input, sentenceHere}
 use Rattle.picture.specs.declared.call.PictureDecoded.{PictureDecoded}
 use Rattle.picture.specs.declared.call.PictureDecoded.the-variants.{Decoded, Refused}
 
--- bits taken, the position after them, and the picture with one more accepted
-abbrev pub pictureOutcome : PictureDecoded → Outcome (ℕ × (ℕ × Picture))
-pictureOutcome (Decoded n c p) = accepted (n, (c .«bit_pos», p))
+-- bits taken, the position after them, the number of events of each spelling, and the picture with one more accepted
+abbrev pub pictureOutcome : PictureDecoded → Outcome (ℕ × (ℕ × (Spellings × Picture)))
+pictureOutcome (Decoded n c k p) = accepted (n, (c .«bit_pos», (k, p)))
 pictureOutcome (Refused e) = refused (numberOf e) (figureOf e)
 
 module _ (p : Picture) (x : Input) (store : List ℤ) where
@@ -25,8 +27,8 @@ module _ (p : Picture) (x : Input) (store : List ℤ) where
   abbrev pub callNumbers : List (Bool × ℕ)
   callNumbers = stateNumbers p (x .bytes) (x .start) (x .header) (x .context) (x .matrix) (length (x .samples)) store
 
-  abbrev pub callSaid : List Parts → ℕ → ℕ × (ℕ × Picture)
-  callSaid s position = (position - x .start, (position, onward p))
+  abbrev pub callSaid : List Parts → ℕ → ℕ × (ℕ × (Spellings × Picture))
+  callSaid s position = (position - x .start, (position, (spellingsOf (eventsIn s), onward p)))
 
-  abbrev pub callDue : Outcome (ℕ × (ℕ × Picture))
+  abbrev pub callDue : Outcome (ℕ × (ℕ × (Spellings × Picture)))
   callDue = checked callNumbers (readAs callSaid (x .bytes) (sentenceHere p x))

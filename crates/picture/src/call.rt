@@ -13,10 +13,12 @@ use picture_state::MacroblockContext;
 use picture_state::Picture;
 use picture_state::StateChecked;
 use texture::EventsRead;
+use texture::Spellings;
 
-// The number of bits taken, the cursor after them and the picture with one more accepted; or a refusal.
+// The number of bits taken, the cursor after them, the number of events of each spelling and the picture with one more
+// accepted; or a refusal.
 pub enum PictureDecoded {
-    Decoded(usize, Cursor, Picture),
+    Decoded(usize, Cursor, Spellings, Picture),
     Refused(BlockAssemblyError),
 }
 
@@ -49,12 +51,12 @@ fn decode_due(
     );
     match answer {
         EventsRead::Refused(e) => PictureDecoded::Refused(BlockAssemblyError::Texture(e)),
-        EventsRead::Read(next) => {
+        EventsRead::Read(next, spellings) => {
             crate::reconstruct::reconstruct(due, &rows, ends, w, samples, store);
             let mut onward = p;
             onward.accepted = p.accepted + 1;
             let bits = next.bit_pos - c.bit_pos;
-            PictureDecoded::Decoded(bits, next, onward)
+            PictureDecoded::Decoded(bits, next, spellings, onward)
         }
     }
 }

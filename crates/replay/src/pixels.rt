@@ -11,7 +11,7 @@ fn block_said(answer: BlockDecoded, samples: [[i32; 8]; 8], levels: [[i32; 8]; 8
             crate::say::refused(e.number(), e.figure());
             crate::say::blocks_kept(samples, levels);
         }
-        BlockDecoded::Decoded(dc, next) => {
+        BlockDecoded::Decoded(dc, next, _) => {
             crate::say::decoded(dc, next.bit_pos);
             crate::say::block(levels);
             crate::say::block(samples);
@@ -51,7 +51,7 @@ fn macroblock_said(answer: MacroblockDecoded, samples: &[i32]) {
             crate::say::refused(e.number(), e.figure());
             crate::say::all_kept(samples);
         }
-        MacroblockDecoded::Decoded(bits, next) => {
+        MacroblockDecoded::Decoded(bits, next, _) => {
             crate::say::taken(bits, next.bit_pos);
             crate::say::all(samples);
         }
@@ -126,7 +126,7 @@ fn picture_said(p: Picture, answer: PictureDecoded, samples: &[i32]) -> Picture 
             crate::say::all_kept(samples);
             p
         }
-        PictureDecoded::Decoded(bits, next, q) => {
+        PictureDecoded::Decoded(bits, next, _, q) => {
             crate::say::taken(bits, next.bit_pos);
             crate::say::number(q.accepted as u64);
             crate::say::all(samples);

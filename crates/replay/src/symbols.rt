@@ -82,7 +82,7 @@ fn list_said(answer: EventsRead, qfs: [i32; 64]) {
             crate::say::refused(e.number(), e.figure());
             crate::say::places_kept(qfs);
         }
-        EventsRead::Read(next) => {
+        EventsRead::Read(next, _) => {
             crate::say::read(next.bit_pos);
             crate::say::places(qfs);
         }

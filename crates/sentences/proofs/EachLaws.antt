@@ -51,7 +51,7 @@ module _ {S A : Type 0} (p : S → Bits → Res A) (ss : List S) where
       (λ (xs : List A). sym (append-assoc (take i rows) (a ∷ []) xs) ∙ ap (λ (l : List A). l ++ xs) (sym (take-suc-set rows i a k)))
       ∙ ap (λ (j : ℕ). mapped (λ (xs : List A). take j (set rows i a) ++ xs) (readEach p (drop j ss) r)) (sym (add-one i))
 
-  nothing : (n : ℕ) (l : List S) → length l ≤ n → drop n l ≡ []
+  pub nothing : (n : ℕ) (l : List S) → length l ≤ n → drop n l ≡ []
   nothing n l h = none-left (drop n l) (omega (arith, length-drop n l))
     where
       none-left : (l : List S) → length l ≤ 0 → l ≡ []

@@ -1,7 +1,7 @@
 -- The sentence of a macroblock: for blocks 0 to 5 a DC part, where DC codes are in use, and an event list, where the block is coded. 'Sentence' is document 01's word, not the standard's. No reader is named here. Definitions only.
 use mathlib.Core.Bool.{Bool, false}
-use mathlib.Core.List.{List, [], _∷_}
-use mathlib.Core.Option.{Option}
+use mathlib.Core.List.{List, [], _∷_, _++_}
+use mathlib.Core.Option.{Option, none, some}
 use lib.ListN.{getD}
 use Rattle.bits.specs.Bits.{Bits}
 use Rattle.codes.specs.declared.dc_size.DcComponent.{DcComponent}
@@ -9,7 +9,8 @@ use Rattle.codes.specs.declared.dc_size.DcComponent.the-variants.{Luminance, Ch
 use Rattle.codes.specs.declared.tcoef_tables.TcoefTable.the-variants.{Intra}
 use Rattle.dc_parts.specs.Dc.{Dc, GoodDc, dcBits}
 use Rattle.sentences.specs.Compose.{GoodEach, GoodOpt, GoodPair, eachBits, optBits, pairBits}
-use Rattle.texture.specs.Events.{Events, GoodList, eventsBits, firstPlace}
+use Rattle.events.specs.Event.{Event}
+use Rattle.texture.specs.Events.{Events, GoodList, eventsBits, firstPlace, listed}
 
 -- one block, as the context has it: whether DC codes are in use and events are reversible; and as its place has it: its component and whether it is coded
 abbrev pub Parts : Type 0
@@ -36,3 +37,13 @@ macroblockBits p = eachBits blockBits (placesOfPattern p)
 
 abbrev pub GoodMacroblock : Bool → Bool → List Bool → List Parts → Type 0
 GoodMacroblock dcCoded rev p = GoodEach (GoodBlock dcCoded rev) (placesOfPattern p)
+
+-- ---- the events of a sentence: a DC part is none, and a block that is not coded has none
+
+abbrev pub eventsOf : Option Events → List Event
+eventsOf none = []
+eventsOf (some es) = listed es
+
+abbrev pub eventsIn : List Parts → List Event
+eventsIn [] = []
+eventsIn (p ∷ ps) = eventsOf (p .1) ++ eventsIn ps

@@ -93,12 +93,12 @@ abbrev pub rowOf : Picture → ℕ
 rowOf p = cond (eqb (p .width) 0) 0 (p .accepted / p .width)
 
 abbrev pub stillDecoded : Still → PictureDecoded → Still
-stillDecoded s (Decoded n c p) = record { «has_picture» = s .«has_picture»; picture = p }
+stillDecoded s (Decoded n c k p) = record { «has_picture» = s .«has_picture»; picture = p }
 stillDecoded s (Refused e) = s
 
 -- the least and the greatest of luma, Cb and Cr as they are after the call
 abbrev pub textDecoded : Picture → List ℤ → PictureDecoded → List ℕ
-textDecoded p after (Decoded n c q) =
+textDecoded p after (Decoded n c k q) =
     mbText (columnOf p) (rowOf p) n (spanOf (part after 0 256) .least) (spanOf (part after 0 256) .greatest) (spanOf (part after 256 320) .least) (spanOf (part after 256 320) .greatest)
     (spanOf (part after 320 macroblockSamples) .least) (spanOf (part after 320 macroblockSamples) .greatest)
 textDecoded p after (Refused e) = mbRefusedText (columnOf p) (rowOf p) (numberOf e)

@@ -180,7 +180,7 @@ fn decoded(
             let text = crate::say::mb_refused(column, row, e.number());
             Said { still: s, text }
         }
-        PictureDecoded::Decoded(bits, _, next) => {
+        PictureDecoded::Decoded(bits, _, _, next) => {
             let luma = crate::span::span_of(&*samples, 0, 256);
             let cb = crate::span::span_of(&*samples, 256, 320);
             let cr = crate::span::span_of(&*samples, 320, samples::SAMPLES);

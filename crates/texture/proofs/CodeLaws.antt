@@ -15,7 +15,7 @@ use Rattle.events.specs.Event.{Event, valueOf}
 use Rattle.events.specs.EventReader.{escaped, event, plainEvent, rvlcEscaped, rvlcEvent, sign}
 use Rattle.events.specs.declared.event.EventRead.{EventRead}
 use Rattle.events.specs.declared.event.EventRead.the-variants.{Refused as EventRefused}
-use Rattle.events.specs.declared.event.Spelling.the-variants.{Plain, Reversible}
+use Rattle.events.specs.declared.event.RowForm.the-variants.{Plain, Reversible}
 use Rattle.fields.proofs.ChainLaws.{refused-first}
 use Rattle.fields.specs.Answer.{codeAnswer}
 use Rattle.fields.specs.Reader.{Res, code, mapped}

@@ -17,7 +17,7 @@ use Rattle.events.specs.EventReader.{event}
 use Rattle.fields.proofs.ReadLaws.{bind-by, bind-ok, cond-ok, no-ok}
 use Rattle.fields.specs.Reader.{ok, no, bind}
 use Rattle.fields.specs.declared.error.TextureParseError.the-variants.{Overflow}
-use Rattle.texture.specs.Events.{Events, final, more, eventsBits, GoodEvents, Lands, GoodList}
+use Rattle.texture.specs.Events.{Events, final, more, eventsBits, GoodEvents, Lands, GoodList, listed}
 use Rattle.texture.specs.EventsReader.{eventsIn, bad, list}
 
 module _ (rev : Bool) (m : TcoefTable) where
@@ -118,3 +118,9 @@ module _ (rev : Bool) (m : TcoefTable) where
           let e₂ : s ≡ r = cc in
           subst₂ (λ (x : Events) (y : Bits). GoodList rev m place x × (b ≡ eventsBits x ▸ y)) e₁ e₂
           ((h .0, bad-lands place fs (eqb-true (bad m place fs) 0 t)), h .1)
+
+-- a list whose events land below 64 has no more of them than places: each takes one
+pub lands-few : (m : TcoefTable) (place : ℕ) (es : Events) → Lands m place es → place + length (listed es) ≤ 64
+unfolding Lands listed
+lands-few m place (final e) h = omega arith
+lands-few m place (more e es) h = let l = lands-few m (place + runOf m e + 1) es (h .1) in omega arith

@@ -1,7 +1,7 @@
 -- The loop over the events of a list: what is left to answer is the same after each event, and at the start it is the reader's answer. Assumes nothing.
 use mathlib.Core.Bool.{Bool, true, false, cond}
 use mathlib.Core.List.{List}
-use mathlib.Core.Path.{_≡_, refl, sym, ap, _∙_, subst, subst₂}
+use mathlib.Core.Path.{_≡_, refl, sym, ap, ap₂, _∙_, subst, subst₂}
 use Prim.Native.Nat.{ℕ, zero, suc, _+_, _≤_, _<_, _*_, _-_}
 use native.Mathlib.Nat.{le-refl}
 use native.Mathlib.Omega.{arith}
@@ -19,14 +19,17 @@ use Rattle.codes.specs.declared.tcoef_tables.TcoefTable.{TcoefTable}
 use Rattle.events.proofs.ChainLaws.{event-says}
 use Rattle.events.proofs.EitherLaws.{event-long, event-sound}
 use Rattle.events.proofs.RowLaws.{level-at, lmax-at, rmax-at, run-at, rvlc-level-at, rvlc-run-at, rvlc-small, tcoef-small}
+use Rattle.events.proofs.SpellingLaws.{more-across, none-first, none-last, total-more}
 use Rattle.events.specs.Answer.{eventAnswer}
-use Rattle.events.specs.Event.{Event, eventBits, lastOf, runOf, levelOf, valueOf, GoodEvent, plain, rvlc, rvlcEscape, signed12, signedBy, type1, type2, type3, rvlcRowOf, tcoefRow}
+use Rattle.events.specs.Event.{Event, eventBits, lastOf, runOf, levelOf, valueOf, GoodEvent, plain, rvlc, rvlcEscape, signed12, signedBy, type1, type2, type3, rvlcRowOf, spellingOf, tcoefRow}
 use Rattle.events.specs.EventReader.{event, plainEvent, rvlcEvent, escaped, rvlcEscaped, sign}
 use Rattle.events.specs.Inside.{InsideEvent, saidEvent}
+use Rattle.events.specs.Spellings.{noSpellings, oneMore, spellingsOf, together, totalOf}
 use Rattle.events.specs.declared.event.AcEvent.{AcEvent}
 use Rattle.events.specs.declared.event.EventRead.{EventRead}
 use Rattle.events.specs.declared.event.EventRead.the-variants.{Event as EventIs, Refused as EventRefused}
-use Rattle.events.specs.declared.event.Spelling.the-variants.{Plain, Reversible}
+use Rattle.events.specs.declared.event.RowForm.the-variants.{Plain, Reversible}
+use Rattle.events.specs.declared.spelling.Spellings.{Spellings}
 use Rattle.fields.proofs.ChainLaws.{place-is}
 use Rattle.fields.proofs.ReadLaws.{no-ok}
 use Rattle.fields.proofs.StepLaws.{code-empty}
@@ -37,10 +40,10 @@ use Rattle.numbers.proofs.Integers.{diff-is, halves}
 use Rattle.numbers.proofs.Magnitudes.{abs-neg}
 use Rattle.texture.proofs.ListLaws.{bad-lands}
 use Rattle.texture.specs.Answer.{listTold, placesTold, listAnswer, placesAfter}
-use Rattle.texture.specs.Events.{Events, final, more, Lands, firstPlace}
+use Rattle.texture.specs.Events.{Events, final, more, Lands, firstPlace, listed}
 use Rattle.texture.specs.EventsReader.{eventsIn, bad, list}
-use Rattle.texture.specs.Inside.{State, putOf, closed, listedOf, refusedBy, keptOf, listedBy}
-use Rattle.texture.specs.Places.{zeros, placed, placesOf}
+use Rattle.texture.specs.Inside.{State, putOf, closed, gives, listedOf, refusedBy, keptOf, listedBy}
+use Rattle.texture.specs.Places.{zeros, placed}
 use Rattle.texture.specs.declared.list.EventsRead.the-variants.{Refused as EventsRefused, Read as EventsAre}
 use Rattle.texture.specs.declared.list.ListRead.{ListRead}
 use Rattle.codes.specs.Tcoef as R
@@ -48,19 +51,19 @@ use Rattle.codes.specs.Tcoef as R
 -- ---- the loop's state, in the reader's terms
 
 unfoldable pub folded : TcoefTable → State → Events → State
-folded m s (final e) = putOf s (runOf m e) (levelOf m e)
-folded m s (more e es) = folded m (putOf s (runOf m e) (levelOf m e)) es
+folded m s (final e) = putOf s (valueOf m e)
+folded m s (more e es) = folded m (putOf s (valueOf m e)) es
 
 -- the answer once the list is read through
-abbrev pub ended : State → Bits → Res (List ℤ)
-ended s r = cond (eqb (s .bad) 0) (ok (s .qfs) r) (no (Overflow (s .bad)))
+abbrev pub ended : State → Bits → Res (List ℤ × Spellings)
+ended s r = cond (eqb (s .bad) 0) (ok (s .qfs, s .spellings) r) (no (Overflow (s .bad)))
 
 -- what is left to answer from a state and the bits that are left
-unfoldable pub rest : Bool → TcoefTable → State → Bits → Res (List ℤ)
+unfoldable pub rest : Bool → TcoefTable → State → Bits → Res (List ℤ × Spellings)
 rest rev m s b = bind (eventsIn rev m (length b) b) (λ es r. ended (folded m s es) r)
 
 abbrev pub startOf : ℕ → State
-startOf place = record { place = place; bad = 0; qfs = zeros }
+startOf place = record { place = place; bad = 0; spellings = noSpellings; qfs = zeros }
 
 valueIn : AcEvent → Res AcEvent → AcEvent
 valueIn v (ok x r) = x
@@ -130,7 +133,7 @@ module _ (rev : Bool) (m : TcoefTable) where
   rest-no s b q =
       ap (λ (x : Res Events). bind x (λ es r. ended (folded m s es) r)) (opened b ∙ ap (λ (x : Res Event). bind x (after (length b))) q)
 
-  pub rest-last : (s : State) (b : Bits) (e : Event) (r : Bits) → event rev b ≡ ok e r → lastOf m e ≡ true → rest rev m s b ≡ ended (putOf s (runOf m e) (levelOf m e)) r
+  pub rest-last : (s : State) (b : Bits) (e : Event) (r : Bits) → event rev b ≡ ok e r → lastOf m e ≡ true → rest rev m s b ≡ ended (putOf s (valueOf m e)) r
   unfolding rest folded
   rest-last s b e r q l =
       ap (λ (x : Res Events). bind x (λ es r. ended (folded m s es) r))
@@ -138,7 +141,7 @@ module _ (rev : Bool) (m : TcoefTable) where
       ∙ ap (λ (t : Bool). cond t (ok (final e) r) (bind (eventsIn rev m (length b) r) (λ es r. ok (more e es) r))) l)
 
   pub rest-more : (s : State) (b : Bits) (e : Event) (r : Bits) → event rev b ≡ ok e r → lastOf m e ≡ false
-      → rest rev m s b ≡ rest rev m (putOf s (runOf m e) (levelOf m e)) r
+      → rest rev m s b ≡ rest rev m (putOf s (valueOf m e)) r
   unfolding rest folded
   rest-more s b e r q l =
       let less = event-less rev b e r q in
@@ -149,62 +152,77 @@ module _ (rev : Bool) (m : TcoefTable) where
       ∙ through (eventsIn rev m (length r) r)
     where
       through : (x : Res Events) → bind (bind x (λ es r. ok (more e es) r)) (λ es r. ended (folded m s es) r)
-          ≡ bind x (λ es r. ended (folded m (putOf s (runOf m e) (levelOf m e)) es) r)
+          ≡ bind x (λ es r. ended (folded m (putOf s (valueOf m e)) es) r)
       through (ok es u) = refl
       through (no n) = refl
 
   -- ---- at the start: the reader's answer
 
-  abbrev st : ℕ → ℕ → List ℤ → State
-  st place b xs = record { place = place; bad = b; qfs = xs }
+  abbrev st : ℕ → ℕ → Spellings → List ℤ → State
+  st place b n xs = record { place = place; bad = b; spellings = n; qfs = xs }
 
   stuck : (s : State) (es : Events) → (s .bad ≡ 0 → ⊥) → folded m s es ≡ s
   unfolding folded
   stuck s (final e) h = rw (ne-eqb (s .bad) 0 h)
   stuck s (more e es) h = rw (ne-eqb (s .bad) 0 h) (stuck s es h)
 
-  put-good : (place x : ℕ) (c : ℤ) (xs : List ℤ) → place + x < 64 → putOf (st place 0 xs) x c ≡ st (place + x + 1) 0 (set xs (place + x) c)
-  put-good place x c xs h = rw (lt-ltb (place + x) 64 h)
+  -- the state after an event that lands, and after one that does not
+  abbrev landed : ℕ → Spellings → List ℤ → Event → State
+  landed place n xs e = st (place + runOf m e + 1) 0 (oneMore (spellingOf e) n) (set xs (place + runOf m e) (levelOf m e))
 
-  pub folded-bad : (place : ℕ) (xs : List ℤ) (es : Events) → folded m (st place 0 xs) es .bad ≡ bad m place es
+  abbrev missed : ℕ → Spellings → List ℤ → Event → State
+  missed place n xs e = st place (place + runOf m e) n xs
+
+  put-good : (place : ℕ) (n : Spellings) (xs : List ℤ) (e : Event) → place + runOf m e < 64 → putOf (st place 0 n xs) (valueOf m e) ≡ landed place n xs e
+  put-good place n xs e h = rw (lt-ltb (place + runOf m e) 64 h)
+
+  pub folded-bad : (place : ℕ) (n : Spellings) (xs : List ℤ) (es : Events) → folded m (st place 0 n xs) es .bad ≡ bad m place es
   unfolding folded bad
-  folded-bad place xs (final e) = go (ltb (place + runOf m e) 64)
+  folded-bad place n xs (final e) = go (ltb (place + runOf m e) 64)
     where
-      go : (t : Bool) → (cond t (st (place + runOf m e + 1) 0 (set xs (place + runOf m e) (levelOf m e))) (st place (place + runOf m e) xs)) .bad
-          ≡ cond t 0 (place + runOf m e)
+      go : (t : Bool) → (cond t (landed place n xs e) (missed place n xs e)) .bad ≡ cond t 0 (place + runOf m e)
       go true = refl
       go false = refl
-  folded-bad place xs (more e es) =
-      go (ltb (place + runOf m e) 64) refl (folded-bad (place + runOf m e + 1) (set xs (place + runOf m e) (levelOf m e)) es)
+  folded-bad place n xs (more e es) =
+      go (ltb (place + runOf m e) 64) refl (folded-bad (place + runOf m e + 1) (oneMore (spellingOf e) n) (set xs (place + runOf m e) (levelOf m e)) es)
     where
-      go : (t : Bool) → ltb (place + runOf m e) 64 ≡ t
-          → folded m (st (place + runOf m e + 1) 0 (set xs (place + runOf m e) (levelOf m e))) es .bad ≡ bad m (place + runOf m e + 1) es
-          → folded m (cond t (st (place + runOf m e + 1) 0 (set xs (place + runOf m e) (levelOf m e))) (st place (place + runOf m e) xs)) es .bad
-          ≡ cond t (bad m (place + runOf m e + 1) es) (place + runOf m e)
+      go : (t : Bool) → ltb (place + runOf m e) 64 ≡ t → folded m (landed place n xs e) es .bad ≡ bad m (place + runOf m e + 1) es
+          → folded m (cond t (landed place n xs e) (missed place n xs e)) es .bad ≡ cond t (bad m (place + runOf m e + 1) es) (place + runOf m e)
       go true q next = next
-      go false q next = ap (λ (s : State). s .bad) (stuck (st place (place + runOf m e) xs) es (λ z. omega (arith, ltb-false (place + runOf m e) 64 q)))
+      go false q next = ap (λ (s : State). s .bad) (stuck (missed place n xs e) es (λ z. omega (arith, ltb-false (place + runOf m e) 64 q)))
 
-  pub folded-cells : (place : ℕ) (xs : List ℤ) (es : Events) → Lands m place es → folded m (st place 0 xs) es .qfs ≡ placed m place xs es
+  pub folded-cells : (place : ℕ) (n : Spellings) (xs : List ℤ) (es : Events) → Lands m place es → folded m (st place 0 n xs) es .qfs ≡ placed m place xs es
   unfolding folded placed Lands
-  folded-cells place xs (final e) h = ap (λ (s : State). s .qfs) (put-good place (runOf m e) (levelOf m e) xs h)
-  folded-cells place xs (more e es) h =
-      ap (λ (s : State). folded m s es .qfs) (put-good place (runOf m e) (levelOf m e) xs (h .0))
-      ∙ folded-cells (place + runOf m e + 1) (set xs (place + runOf m e) (levelOf m e)) es (h .1)
+  folded-cells place n xs (final e) h = ap (λ (s : State). s .qfs) (put-good place n xs e h)
+  folded-cells place n xs (more e es) h =
+      ap (λ (s : State). folded m s es .qfs) (put-good place n xs e (h .0))
+      ∙ folded-cells (place + runOf m e + 1) (oneMore (spellingOf e) n) (set xs (place + runOf m e) (levelOf m e)) es (h .1)
 
-  pub rest-start : (place : ℕ) (b : Bits) → rest rev m (startOf place) b ≡ mapped (placed m place zeros) (list rev m place b)
+  pub folded-counts : (place : ℕ) (n : Spellings) (xs : List ℤ) (es : Events) → Lands m place es → folded m (st place 0 n xs) es .spellings ≡ together n (spellingsOf (listed es))
+  unfolding folded Lands listed spellingsOf
+  folded-counts place n xs (final e) h =
+      ap (λ (s : State). s .spellings) (put-good place n xs e h) ∙ sym (none-last (oneMore (spellingOf e) n)) ∙ more-across (spellingOf e) n noSpellings
+  folded-counts place n xs (more e es) h =
+      ap (λ (s : State). folded m s es .spellings) (put-good place n xs e (h .0))
+      ∙ folded-counts (place + runOf m e + 1) (oneMore (spellingOf e) n) (set xs (place + runOf m e) (levelOf m e)) es (h .1)
+      ∙ more-across (spellingOf e) n (spellingsOf (listed es))
+
+  pub rest-start : (place : ℕ) (b : Bits) → rest rev m (startOf place) b ≡ mapped (gives m place) (list rev m place b)
   unfolding rest list
   rest-start place b = go (eventsIn rev m (length b) b)
     where
       by : (es : Events) (r : Bits) (t : Bool) → eqb (bad m place es) 0 ≡ t
-          → cond t (ok (folded m (startOf place) es .qfs) r) (no (Overflow (bad m place es)))
-          ≡ mapped (placed m place zeros) (cond t (ok es r) (no (Overflow (bad m place es))))
-      by es r true q = ap (λ (x : List ℤ). ok x r) (folded-cells place zeros es (bad-lands rev m place es (eqb-true (bad m place es) 0 q)))
+          → cond t (ok (folded m (startOf place) es .qfs, folded m (startOf place) es .spellings) r) (no (Overflow (bad m place es)))
+          ≡ mapped (gives m place) (cond t (ok es r) (no (Overflow (bad m place es))))
+      by es r true q =
+          let l = bad-lands rev m place es (eqb-true (bad m place es) 0 q) in
+          ap₂ (λ (x : List ℤ) (n : Spellings). ok (x, n) r) (folded-cells place noSpellings zeros es l) (folded-counts place noSpellings zeros es l ∙ none-first (spellingsOf (listed es)))
       by es r false q = refl
 
       go : (x : Res Events) → bind x (λ es r. ended (folded m (startOf place) es) r)
-          ≡ mapped (placed m place zeros) (bind x (λ es r. cond (eqb (bad m place es) 0) (ok es r) (no (Overflow (bad m place es)))))
+          ≡ mapped (gives m place) (bind x (λ es r. cond (eqb (bad m place es) 0) (ok es r) (no (Overflow (bad m place es)))))
       go (ok es r) =
-          ap (λ (k : ℕ). cond (eqb k 0) (ok (folded m (startOf place) es .qfs) r) (no (Overflow k))) (folded-bad place zeros es)
+          ap (λ (k : ℕ). cond (eqb k 0) (ok (folded m (startOf place) es .qfs, folded m (startOf place) es .spellings) r) (no (Overflow k))) (folded-bad place noSpellings zeros es)
           ∙ by es r (eqb (bad m place es) 0) refl
       go (no n) = refl
 
@@ -257,20 +275,28 @@ small true m (rvlc i s) g =
     record { run-le = omega (arith, rvlc-small m (169 + i)); level-le = signed-small s (R.levelOf (rvlcRowOf m i)) (omega (arith, rvlc-small m (338 + i))) }
 small true m (rvlcEscape l r n s) g = record { run-le = omega arith; level-le = signed-small s n (omega arith) }
 
--- the states of the loop: the next place is at most 64, a bad landing is small, and there are 64 places
+-- the states of the loop: the next place is at most 64, a bad landing is small, each event that is counted took a place, and there are 64 places
 pub record Held (s : State) : Type 0 where
   pub place-le : s .place ≤ 64
   pub bad-le : s .bad ≤ 2000
+  pub few : totalOf (s .spellings) ≤ s .place
   pub long : length (s .qfs) ≡ 64
 
-pub put-held : (s : State) (run : ℕ) (level : ℤ) → run ≤ 1024 → Held s → Held (putOf s run level)
-put-held s run level h k = go (eqb (s .bad) 0) (ltb (s .place + run) 64) refl
+pub put-held : (s : State) (v : AcEvent) → v .run ≤ 1024 → Held s → Held (putOf s v)
+put-held s v h k = go (eqb (s .bad) 0) (ltb (s .place + v .run) 64) refl
   where
-    go : (t u : Bool) → ltb (s .place + run) 64 ≡ u
-        → Held (cond t (cond u (record { place = s .place + run + 1; bad = 0; qfs = set (s .qfs) (s .place + run) level }) (record { place = s .place; bad = s .place + run; qfs = s .qfs })) s)
+    go : (t u : Bool) → ltb (s .place + v .run) 64 ≡ u
+        → Held (cond t (cond u
+        (record { place = s .place + v .run + 1; bad = 0; spellings = oneMore (v .spelling) (s .spellings); qfs = set (s .qfs) (s .place + v .run) (v .level) })
+        (record { place = s .place; bad = s .place + v .run; spellings = s .spellings; qfs = s .qfs })) s)
     go true true q =
-        record { place-le = omega (arith, ltb-true (s .place + run) 64 q); bad-le = omega arith; long = length-set (s .qfs) (s .place + run) level ∙ k .long }
-    go true false q = record { place-le = k .place-le; bad-le = omega arith; long = k .long }
+        record {
+          place-le = omega (arith, ltb-true (s .place + v .run) 64 q);
+          bad-le = omega arith;
+          few = omega (arith, total-more (v .spelling) (s .spellings), k .few);
+          long = length-set (s .qfs) (s .place + v .run) (v .level) ∙ k .long;
+        }
+    go true false q = record { place-le = k .place-le; bad-le = omega arith; few = k .few; long = k .long }
     go false u q = k
 
 -- ---- one turn: what the code's answer tells of the event that was read
@@ -305,18 +331,18 @@ module _ (d : List ℕ) (rev : Bool) (m : TcoefTable) (at : ℕ) (l : at ≤ 8 *
 pub ended-is : (d : List ℕ) (s : State) (next : Cursor) → next .«bit_pos» ≤ 8 * length d → closed s next ≡ listedOf d (ended s (bitsFrom d (next .«bit_pos»)))
 ended-is d s next h = go (eqb (s .bad) 0)
   where
-    go : (t : Bool) → cond t (record { answer = EventsAre next; qfs = s .qfs }) (refusedBy (Overflow (s .bad)))
-        ≡ listedOf d (cond t (ok (s .qfs) (bitsFrom d (next .«bit_pos»))) (no (Overflow (s .bad))))
-    go true = ap {B = ListRead} (λ (c : Cursor). record { answer = EventsAre c; qfs = s .qfs }) (place-is d next h)
+    go : (t : Bool) → cond t (record { answer = EventsAre next (s .spellings); qfs = s .qfs }) (refusedBy (Overflow (s .bad)))
+        ≡ listedOf d (cond t (ok (s .qfs, s .spellings) (bitsFrom d (next .«bit_pos»))) (no (Overflow (s .bad))))
+    go true = ap {B = ListRead} (λ (c : Cursor). record { answer = EventsAre c (s .spellings); qfs = s .qfs }) (place-is d next h)
     go false = refl
 
 -- ---- the list's answer and its places, from what the loop gives
 
-pub listed-answer : (d : List ℕ) (m : TcoefTable) (place : ℕ) (x : Res Events) → listedOf d (mapped (placesOf m place) x) .answer ≡ listTold d x
+pub listed-answer : (d : List ℕ) (m : TcoefTable) (place : ℕ) (x : Res Events) → listedOf d (mapped (gives m place) x) .answer ≡ listTold d x
 listed-answer d m place (ok es r) = refl
 listed-answer d m place (no e) = refl
 
-pub listed-kept : (d : List ℕ) (m : TcoefTable) (place : ℕ) (x : Res Events) (old : List ℤ) → keptOf (listedOf d (mapped (placesOf m place) x)) old ≡ placesTold m place x old
+pub listed-kept : (d : List ℕ) (m : TcoefTable) (place : ℕ) (x : Res Events) (old : List ℤ) → keptOf (listedOf d (mapped (gives m place) x)) old ≡ placesTold m place x old
 listed-kept d m place (ok es r) old = refl
 listed-kept d m place (no e) old = refl
 

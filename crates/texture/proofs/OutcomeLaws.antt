@@ -7,17 +7,18 @@ use lib.ListN.{length}
 use Rattle.bits.specs.Bits.{bitsFrom}
 use Rattle.bits.specs.Cursor.{inData}
 use Rattle.codes.specs.declared.tcoef_tables.TcoefTable.{TcoefTable}
+use Rattle.events.specs.Spellings.{spellingsOf}
 use Rattle.fields.proofs.OutcomeLaws.{after-test}
 use Rattle.fields.specs.Outcomes.{readAs}
 use Rattle.fields.specs.Reader.{Res, no, ok}
 use Rattle.texture.specs.Answer.{listAnswer, listTold}
-use Rattle.texture.specs.Events.{Events, firstPlace}
+use Rattle.texture.specs.Events.{Events, firstPlace, listed}
 use Rattle.texture.specs.EventsReader.{list}
 use Rattle.texture.specs.Outcomes.{listDue, listOutcome}
 use Rattle.texture.specs.declared.list.EventsRead.the-variants.{Refused as EventsRefused}
 
 module _ (d : List ℕ) where
-  list-said : (m : Res Events) → listOutcome (listTold d m) ≡ readAs (λ (es : Events) (position : ℕ). position) d m
+  list-said : (m : Res Events) → listOutcome (listTold d m) ≡ readAs (λ (es : Events) (position : ℕ). (position, spellingsOf (listed es))) d m
   list-said (ok es r) = refl
   list-said (no e) = refl
 

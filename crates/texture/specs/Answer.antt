@@ -7,18 +7,19 @@ use lib.IntN.{ℤ}
 use Rattle.bits.specs.Bits.{bitsFrom}
 use Rattle.bits.specs.Cursor.{inData}
 use Rattle.codes.specs.declared.tcoef_tables.TcoefTable.{TcoefTable}
+use Rattle.events.specs.Spellings.{spellingsOf}
 use Rattle.fields.specs.Answer.{after}
 use Rattle.fields.specs.Reader.{Res, ok, no}
 use Rattle.fields.specs.declared.error.TextureParseError.the-variants.{OutOfRange}
-use Rattle.texture.specs.Events.{Events, firstPlace}
+use Rattle.texture.specs.Events.{Events, firstPlace, listed}
 use Rattle.texture.specs.EventsReader.{list}
 use Rattle.texture.specs.Places.{placesOf}
 use Rattle.texture.specs.declared.list.EventsRead.{EventsRead}
 use Rattle.texture.specs.declared.list.EventsRead.the-variants.{Read as EventsAre, Refused as EventsRefused}
 
--- a list, and its 64 places: a refusal leaves lent places as they were
+-- a list, with the number of its events of each spelling, and its 64 places: a refusal leaves lent places as they were
 abbrev pub listTold : List ℕ → Res Events → EventsRead
-listTold d (ok es r) = EventsAre (after d r)
+listTold d (ok es r) = EventsAre (after d r) (spellingsOf (listed es))
 listTold d (no e) = EventsRefused e
 
 abbrev pub listAnswer : List ℕ → ℕ → Bool → TcoefTable → Bool → EventsRead

@@ -1,6 +1,7 @@
 -- Event lists: events without last, then one with it, each landing below 64. No reader is named here. Definitions only.
 use mathlib.Core.Path.{_≡_}
 use mathlib.Core.Bool.{Bool, true, false, cond}
+use mathlib.Core.List.{List, [], _∷_}
 use Prim.Native.Nat.{ℕ, _+_, _<_}
 use Rattle.bits.specs.Bits.{Bits}
 use Rattle.codes.specs.declared.tcoef_tables.TcoefTable.{TcoefTable}
@@ -9,6 +10,11 @@ use Rattle.events.specs.Event.{Event, _▸_, eventBits, GoodEvent, lastOf, runO
 pub data Events : Type 0 where
   final : Event → Events
   more : Event → Events → Events
+
+-- its events, one after the other
+unfoldable pub listed : Events → List Event
+listed (final e) = e ∷ []
+listed (more e es) = e ∷ listed es
 
 unfoldable pub eventsBits : Events → Bits
 eventsBits (final e) = eventBits e

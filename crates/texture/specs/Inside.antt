@@ -11,10 +11,14 @@ use Rattle.bits.specs.declared.cursor.Cursor.{Cursor}
 use Rattle.codes.specs.Rvlc.{rvlcCodes, rvlcLens, rvlcOf, rvlcColumns}
 use Rattle.codes.specs.Tcoef.{vlcCodes, vlcLens, tcoefOf, eventColumns}
 use Rattle.codes.specs.declared.tcoef_tables.TcoefTable.{TcoefTable}
+use Rattle.events.specs.Spellings.{oneMore, spellingsOf}
+use Rattle.events.specs.declared.event.AcEvent.{AcEvent}
+use Rattle.events.specs.declared.spelling.Spellings.{Spellings}
 use Rattle.fields.specs.Answer.{after}
 use Rattle.fields.specs.Reader.{Res, ok, no, mapped}
 use Rattle.fields.specs.declared.error.TextureParseError.{TextureParseError}
 use Rattle.fields.specs.declared.error.TextureParseError.the-variants.{Overflow}
+use Rattle.texture.specs.Events.{Events, listed}
 use Rattle.texture.specs.EventsReader.{list}
 use Rattle.texture.specs.Places.{zeros, placesOf}
 use Rattle.texture.specs.declared.list.EventsRead.{EventsRead}
@@ -29,39 +33,45 @@ TablesOf true t cs ls es = (cs ≡ rvlcCodes) × (ls ≡ rvlcLens) × (es ≡ rv
 
 -- ---- the loop over a list
 
--- where a list stands, with the places filled so far
+-- where a list stands, with the places filled and the events counted so far
 pub record State : Type 0 where
   pub place : ℕ
   pub bad : ℕ
+  pub spellings : Spellings
   pub qfs : List ℤ
 
 abbrev pub stateOf : Landing → List ℤ → State
-stateOf l xs = record { place = l .place; bad = l .bad; qfs = xs }
+stateOf l xs = record { place = l .place; bad = l .bad; spellings = l .spellings; qfs = xs }
 
--- what an event does to the places
-abbrev pub putOf : State → ℕ → ℤ → State
-putOf s run level =
+-- what an event does to them
+abbrev pub putOf : State → AcEvent → State
+putOf s v =
     cond (eqb (s .bad) 0)
-    (cond (ltb (s .place + run) 64) (record { place = s .place + run + 1; bad = 0; qfs = set (s .qfs) (s .place + run) level })
-    (record { place = s .place; bad = s .place + run; qfs = s .qfs }))
+    (cond (ltb (s .place + v .run) 64)
+    (record { place = s .place + v .run + 1; bad = 0; spellings = oneMore (v .spelling) (s .spellings); qfs = set (s .qfs) (s .place + v .run) (v .level) })
+    (record { place = s .place; bad = s .place + v .run; spellings = s .spellings; qfs = s .qfs }))
     s
 
 abbrev pub refusedBy : TextureParseError → ListRead
 refusedBy e = record { answer = EventsRefused e; qfs = zeros }
 
 abbrev pub closed : State → Cursor → ListRead
-closed s next = cond (eqb (s .bad) 0) (record { answer = EventsAre next; qfs = s .qfs }) (refusedBy (Overflow (s .bad)))
+closed s next = cond (eqb (s .bad) 0) (record { answer = EventsAre next (s .spellings); qfs = s .qfs }) (refusedBy (Overflow (s .bad)))
 
-abbrev pub listedOf : List ℕ → Res (List ℤ) → ListRead
-listedOf d (ok xs r) = record { answer = EventsAre (after d r); qfs = xs }
+-- the places of a list and the number of its events of each spelling
+abbrev pub gives : TcoefTable → ℕ → Events → List ℤ × Spellings
+gives t place es = (placesOf t place es, spellingsOf (listed es))
+
+abbrev pub listedOf : List ℕ → Res (List ℤ × Spellings) → ListRead
+listedOf d (ok x r) = record { answer = EventsAre (after d r) (x .1); qfs = x .0 }
 listedOf d (no e) = refusedBy e
 
 abbrev pub listedBy : List ℕ → Bool → TcoefTable → ℕ → Bits → ListRead
-listedBy d rev t place b = listedOf d (mapped (placesOf t place) (list rev t place b))
+listedBy d rev t place b = listedOf d (mapped (gives t place) (list rev t place b))
 
 -- what is kept of a list
 abbrev pub keptBy : EventsRead → List ℤ → List ℤ → List ℤ
-keptBy (EventsAre c) new old = new
+keptBy (EventsAre c n) new old = new
 keptBy (EventsRefused e) new old = old
 
 abbrev pub keptOf : ListRead → List ℤ → List ℤ

@@ -7,14 +7,14 @@ ghost use Rattle.events.specs.Event.{valueOf};
 ghost use Rattle.events.specs.EventReader.{escaped, longer, signed};
 ghost use Rattle.events.specs.Inside.{SaysEvent};
 ghost use Rattle.events.specs.Outcomes.{eventDue, eventOutcome};
-ghost use Rattle.events.specs.Rows.{RowSpelling};
+ghost use Rattle.events.specs.Rows.{PlainForm};
 ghost use Rattle.fields.specs.Inside.{Readable};
 ghost use Rattle.fields.specs.Reader.{mapped};
 ghost use Rattle.texture.specs.Inside.{TablesOf};
 use bits::Cursor;
 use codes::TcoefTable;
 use events::EventRead;
-use events::Spelling;
+use events::RowForm;
 use fields::CodeKind;
 use fields::Got;
 
@@ -26,15 +26,15 @@ fn read_signed(
     codes: &[u32],
     lens: &[u32],
     events: &[u8],
-    spelling: Spelling,
+    form: RowForm,
 ) -> EventRead
-    requires { ⌜ Readable (now «data») c × TablesOf false table (now codes) (now lens) (now events) × RowSpelling spelling ⌝ }
-    ensures { λ r. ⌜ SaysEvent (now («data» .entry)) r (mapped (valueOf table) (signed spelling (bitsFrom (now («data» .entry)) (c .«bit_pos»)))) ⌝ }
+    requires { ⌜ Readable (now «data») c × TablesOf false table (now codes) (now lens) (now events) × PlainForm form ⌝ }
+    ensures { λ r. ⌜ SaysEvent (now («data» .entry)) r (mapped (valueOf table) (signed form (bitsFrom (now («data» .entry)) (c .«bit_pos»)))) ⌝ }
 {
     let g = fields::read_code(data, c, codes, lens, 13, 102, CodeKind::Tcoef);
     match g {
         Got::Refused(e) => EventRead::Refused(e),
-        Got::Number(row, next) => events::read_sign(data, next, events, row, spelling),
+        Got::Number(row, next) => events::read_sign(data, next, events, row, form),
     }
 }
 
@@ -55,7 +55,7 @@ fn read_longer(
         Got::Refused(e) => EventRead::Refused(e),
         Got::Number(a, next) => {
             if a == 0 {
-                return read_signed(data, next, table, codes, lens, events, Spelling::Type2);
+                return read_signed(data, next, table, codes, lens, events, RowForm::Type2);
             }
             events::read_fixed(data, next, table)
         }
@@ -79,7 +79,7 @@ fn read_escape(
         Got::Refused(e) => EventRead::Refused(e),
         Got::Number(a, next) => {
             if a == 0 {
-                return read_signed(data, next, table, codes, lens, events, Spelling::Type1);
+                return read_signed(data, next, table, codes, lens, events, RowForm::Type1);
             }
             read_longer(data, next, table, codes, lens, events)
         }
@@ -105,7 +105,7 @@ pub(crate) fn read_plain(
             if row == 102 {
                 return read_escape(data, next, table, codes, lens, events);
             }
-            events::read_sign(data, next, events, row, Spelling::Plain)
+            events::read_sign(data, next, events, row, RowForm::Plain)
         }
     }
 }
@@ -129,7 +129,7 @@ pub(crate) fn read_rvlc(
             if row == 169 {
                 return events::read_rvlc_escape(data, next, table);
             }
-            events::read_sign(data, next, events, row, Spelling::Reversible)
+            events::read_sign(data, next, events, row, RowForm::Reversible)
         }
     }
 }

@@ -14,6 +14,8 @@ pub use event::decode_ac_event;
 pub use event::decode_ac_event_rvlc;
 pub use events::AcEvent;
 pub use events::EventRead;
+pub use events::Spelling;
+pub use events::Spellings;
 pub use fields::TextureParseError;
 pub use list::EventsRead;
 pub use list::decode_ac_events;

@@ -2,9 +2,11 @@
 ghost use mathlib.Core.Path.{_≡_};
 ghost use mathlib.Core.Bool.{false, true};
 ghost use Prim.Native.Nat.{_≤_};
+ghost use lib.IntN.{natAbs};
 ghost use lib.ListN.{length};
 ghost use Rattle.bits.specs.Bits.{bitsFrom};
 ghost use Rattle.events.specs.Answer.{eventAnswer};
+ghost use Rattle.events.specs.Spellings.{oneMore, totalOf};
 ghost use Rattle.fields.specs.Inside.{Readable};
 ghost use Rattle.texture.specs.Answer.{listAnswer, placesAfter};
 ghost use Rattle.texture.specs.Events.{firstPlace};
@@ -12,12 +14,15 @@ ghost use Rattle.texture.specs.Inside.{TablesOf, closed, keptOf, listedB
 ghost use Rattle.texture.specs.Outcomes.{listDue, listOutcome};
 use bits::Cursor;
 use codes::TcoefTable;
+use events::AcEvent;
 use events::EventRead;
+use events::Spelling;
+use events::Spellings;
 use fields::TextureParseError;
 
-// The cursor after a list, or a refusal.
+// The cursor after a list and the number of its events of each spelling, or a refusal.
 pub enum EventsRead {
-    Read(Cursor),
+    Read(Cursor, Spellings),
     Refused(TextureParseError),
 }
 
@@ -27,10 +32,11 @@ pub struct ListRead {
     pub qfs: [i32; 64],
 }
 
-// Where a list stands: the next place, and the first bad landing or 0.
+// Where a list stands: the next place, the first bad landing or 0, and how many events of each spelling were put.
 pub struct Landing {
     pub place: usize,
     pub bad: usize,
+    pub spellings: Spellings,
 }
 
 // One event of the coding in use.
@@ -52,25 +58,46 @@ fn read_event(
     crate::event::read_plain(data, c, table, codes, lens, events)
 }
 
-// One event into its place; the first bad landing is remembered.
-fn put(qfs: &mut [i32; 64], l: Landing, run: u32, level: i32) -> Landing
-    requires { ⌜ (l .place ≤ 64) × (run ≤ 1024) × (length (now qfs) ≡ 64) ⌝ }
-    ensures { λ r. ⌜ stateOf r (now (qfs .exit)) ≡ putOf (stateOf l (now (qfs .entry))) run level ⌝ }
+// One event more of a spelling.
+fn counted(n: Spellings, spelling: Spelling) -> Spellings
+    requires { ⌜ totalOf n ≤ 64 ⌝ }
+    ensures { λ r. ⌜ r ≡ oneMore spelling n ⌝ }
+{
+    let mut more = n;
+    match spelling {
+        Spelling::Plain => more.plain += 1,
+        Spelling::Type1 => more.type1 += 1,
+        Spelling::Type2 => more.type2 += 1,
+        Spelling::Type3 => more.type3 += 1,
+        Spelling::RvlcEscape => more.rvlc_escape += 1,
+    }
+    more
+}
+
+// One event into its place; the first bad landing is remembered, and from it on none is counted.
+fn put(qfs: &mut [i32; 64], l: Landing, v: AcEvent) -> Landing
+    requires { ⌜ (l .place ≤ 64) × (totalOf (l .spellings) ≤ l .place) × (v .run ≤ 1024) × (natAbs (v .level) ≤ 2047) × (length (now qfs) ≡ 64) ⌝ }
+    ensures { λ r. ⌜ stateOf r (now (qfs .exit)) ≡ putOf (stateOf l (now (qfs .entry))) v ⌝ }
 {
     if l.bad != 0 {
         return l;
     }
-    let land = l.place + run as usize;
+    let spellings = l.spellings;
+    let land = l.place + v.run as usize;
     if land < 64 {
+        let level = v.level;
+        let spelling = v.spelling;
         qfs[land] = level;
         return Landing {
             place: land + 1,
             bad: 0,
+            spellings: counted(spellings, spelling),
         };
     }
     Landing {
         place: l.place,
         bad: land,
+        spellings,
     }
 }
 
@@ -89,8 +116,9 @@ fn close(l: Landing, qfs: [i32; 64], next: Cursor) -> ListRead
     ensures { λ r. ⌜ r ≡ closed (stateOf l qfs) next ⌝ }
 {
     if l.bad == 0 {
+        let spellings = l.spellings;
         return ListRead {
-            answer: EventsRead::Read(next),
+            answer: EventsRead::Read(next, spellings),
             qfs,
         };
     }
@@ -117,6 +145,7 @@ fn read_list(
     let mut l = Landing {
         place: first,
         bad: 0,
+        spellings: Spellings::none(),
     };
     let mut at = c;
     loop {
@@ -126,7 +155,7 @@ fn read_list(
                 return refusal(why);
             }
             EventRead::Event(v, next) => {
-                l = put(&mut qfs, l, v.run, v.level);
+                l = put(&mut qfs, l, v);
                 at = next;
                 if v.last {
                     return close(l, qfs, at);
@@ -153,10 +182,10 @@ fn keep(one: ListRead, qfs: &mut [i32; 64]) -> EventsRead
     let answer = one.answer;
     match answer {
         EventsRead::Refused(e) => EventsRead::Refused(e),
-        EventsRead::Read(next) => {
+        EventsRead::Read(next, spellings) => {
             let places = one.qfs;
             *qfs = places;
-            EventsRead::Read(next)
+            EventsRead::Read(next, spellings)
         }
     }
 }

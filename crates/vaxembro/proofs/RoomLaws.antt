@@ -5,6 +5,7 @@ use Prim.Native.Nat.{ℕ, _<_, _≤_}
 use borrow.Author.Tests.{le-leb, leb-true, lt-leb}
 use lib.Dec.{leb}
 use Rattle.numbers.proofs.Tests.{both-true}
+use Rattle.vaxembro.specs.Answer.{answerLength}
 use Rattle.vaxembro.specs.Calls.{allLong}
 
 -- what is picked where memory is long enough, and where it is not
@@ -15,7 +16,7 @@ pub short-is : {A : Type 0} {b : Bool} {y : A} (x : A) → b ≡ false → y ≡
 short-is {A} {b} {y} x e = sym (ap (λ (t : Bool). cond t x y) e)
 
 module _ (least n w a : ℕ) where
-  pub all-long : least ≤ n → 64 ≤ w → allLong least n w a ≡ leb 4 a
+  pub all-long : least ≤ n → 64 ≤ w → allLong least n w a ≡ leb answerLength a
   unfolding allLong
   all-long p q = rw (le-leb least n p, le-leb 64 w q)
 
@@ -30,8 +31,8 @@ module _ (least n w a : ℕ) where
 -- what is long enough where all is
 pub first-long : (least n w a : ℕ) → allLong least n w a ≡ true → least ≤ n
 unfolding allLong
-first-long least n w a e = leb-true least n (both-true (leb least n) (leb 64 w && leb 4 a) e .0)
+first-long least n w a e = leb-true least n (both-true (leb least n) (leb 64 w && leb answerLength a) e .0)
 
 pub matrix-long : (least n w a : ℕ) → allLong least n w a ≡ true → 64 ≤ w
 unfolding allLong
-matrix-long least n w a e = leb-true 64 w (both-true (leb 64 w) (leb 4 a) (both-true (leb least n) (leb 64 w && leb 4 a) e .1) .0)
+matrix-long least n w a e = leb-true 64 w (both-true (leb 64 w) (leb answerLength a) (both-true (leb least n) (leb 64 w && leb answerLength a) e .1) .0)

@@ -19,7 +19,7 @@ use Rattle.picture.specs.declared.call.PictureDecoded.{PictureDecoded}
 use Rattle.picture.specs.declared.call.PictureDecoded.the-variants.{Decoded, Refused}
 use Rattle.picture_state.specs.declared.picture.PictureOpened.{PictureOpened}
 use Rattle.picture_state.specs.declared.picture.PictureOpened.the-variants.{Opened, Refused as Unopened}
-use Rattle.vaxembro.specs.Answer.{answerAfter, numberIn, toldAlone, toldOf}
+use Rattle.vaxembro.specs.Answer.{answerAfter, answerLength, numberIn, toldAlone, toldOf}
 use Rattle.vaxembro.specs.Lent.{contextBy, dcCoded, headerBy, matrixOf, neighboursOf, pictureOf, reversible, stateAfter, textureContextBy}
 
 -- ---- memory that is long enough
@@ -28,9 +28,9 @@ use Rattle.vaxembro.specs.Lent.{contextBy, dcCoded, headerBy, matrixOf, 
 unfoldable pub stateLong : List ℕ → Bool
 stateLong s = leb 5 (length s)
 
--- state or neighbours have `least` numbers, the matrix 64 and the answer 4
+-- state or neighbours have `least` numbers, the matrix 64 and the answer its nine
 unfoldable pub allLong : ℕ → ℕ → ℕ → ℕ → Bool
-allLong least n w a = leb least n && (leb 64 w && leb 4 a)
+allLong least n w a = leb least n && (leb 64 w && leb answerLength a)
 
 -- ---- an opening
 
@@ -79,7 +79,7 @@ left n s xs st a = record { number = n; state = s; samples = xs; store = st; ans
 
 -- the picture with one more accepted; a refusal leaves the state
 abbrev pub stateOut : PictureDecoded → List ℕ → List ℕ
-stateOut (Decoded n c p) old = stateAfter p old
+stateOut (Decoded n c k p) old = stateAfter p old
 stateOut (Refused e) old = old
 
 module _ (x : Lent) where

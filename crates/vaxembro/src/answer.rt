@@ -1,14 +1,19 @@
-// An answer as four numbers: the refusal's number or 0, its figure, the bits taken and the position after them.
+// An answer as nine numbers: the refusal's number or 0, its figure, the bits taken, the position after them, and the number
+// of events of each spelling.
 ghost use mathlib.Core.Path.{_≡_};
-ghost use Prim.Native.Nat.{_≤_};
+ghost use Prim.Native.Nat.{_<_};
 ghost use Rattle.assembly.specs.Answer.{figureOf, numberOf};
-ghost use Rattle.vaxembro.specs.Answer.{acceptedAs, answerAfter, low, refusedAs, toldAlone, toldAt, toldOf};
+ghost use Rattle.vaxembro.specs.Answer.{acceptedAs, answerAfter, low, refusedAs, spellingIn, toldAlone, toldAt, toldOf};
 ghost use Rattle.vaxembro.specs.Calls.{allLong};
 use block::BlockAssemblyError;
 use macroblock::MacroblockDecoded;
 use picture::PictureDecoded;
+use texture::Spellings;
 
-// Whether state or neighbours have `least` numbers, the matrix 64 and the answer 4.
+// The numbers of an answer.
+const ANSWER: usize = 9;
+
+// Whether state or neighbours have `least` numbers, the matrix 64 and the answer its nine.
 pub(crate) fn long_enough(least: usize, n: usize, w: usize, a: usize) -> bool
     ensures { λ r. ⌜ r ≡ allLong least n w a ⌝ }
 {
@@ -18,7 +23,7 @@ pub(crate) fn long_enough(least: usize, n: usize, w: usize, a: usize) -> bool
     if w < 64 {
         return false;
     }
-    4 <= a
+    ANSWER <= a
 }
 
 pub struct Told {
@@ -26,6 +31,7 @@ pub struct Told {
     pub figure: u32,
     pub bits: usize,
     pub position: usize,
+    pub spellings: Spellings,
 }
 
 pub(crate) fn refused(e: BlockAssemblyError, at: usize) -> Told
@@ -36,17 +42,19 @@ pub(crate) fn refused(e: BlockAssemblyError, at: usize) -> Told
         figure: e.figure(),
         bits: 0,
         position: at,
+        spellings: Spellings::none(),
     }
 }
 
-fn accepted(bits: usize, position: usize) -> Told
-    ensures { λ r. ⌜ r ≡ acceptedAs bits position ⌝ }
+fn accepted(bits: usize, position: usize, spellings: Spellings) -> Told
+    ensures { λ r. ⌜ r ≡ acceptedAs bits position spellings ⌝ }
 {
     Told {
         number: 0,
         figure: 0,
         bits,
         position,
+        spellings,
     }
 }
 
@@ -56,7 +64,7 @@ pub(crate) fn told_in_picture(d: PictureDecoded, at: usize) -> Told
 {
     match d {
         PictureDecoded::Refused(e) => refused(e, at),
-        PictureDecoded::Decoded(bits, next, _) => accepted(bits, next.bit_pos),
+        PictureDecoded::Decoded(bits, next, k, _) => accepted(bits, next.bit_pos, k),
     }
 }
 
@@ -66,7 +74,7 @@ pub(crate) fn told_alone(d: MacroblockDecoded, at: usize) -> Told
 {
     match d {
         MacroblockDecoded::Refused(e) => refused(e, at),
-        MacroblockDecoded::Decoded(bits, next) => accepted(bits, next.bit_pos),
+        MacroblockDecoded::Decoded(bits, next, k) => accepted(bits, next.bit_pos, k),
     }
 }
 
@@ -74,28 +82,34 @@ pub(crate) fn told_alone(d: MacroblockDecoded, at: usize) -> Told
 pub(crate) fn tell(answer: &mut [usize], t: Told) -> u32
     ensures { λ r. ⌜ (r ≡ t .number) × (now (answer .exit) ≡ answerAfter t (now (answer .entry))) ⌝ }
 {
-    if answer.len() < 4 {
+    if answer.len() < ANSWER {
         return t.number;
     }
+    let n = t.spellings;
     answer[0] = t.number as usize;
     answer[1] = t.figure as usize;
     answer[2] = t.bits;
     answer[3] = t.position;
+    answer[4] = n.plain as usize;
+    answer[5] = n.type1 as usize;
+    answer[6] = n.type2 as usize;
+    answer[7] = n.type3 as usize;
+    answer[8] = n.rvlc_escape as usize;
     t.number
 }
 
 // Number k of an answer; 0 where the answer is too short.
 fn told_at(answer: &[usize], k: usize) -> usize
-    requires { ⌜ k ≤ 3 ⌝ }
+    requires { ⌜ k < 9 ⌝ }
     ensures { λ r. ⌜ r ≡ toldAt (now (answer .entry)) k ⌝ }
 {
-    if answer.len() < 4 {
+    if answer.len() < ANSWER {
         return 0;
     }
     answer[k]
 }
 
-// The low 32 bits: an answer has no more in its number and its figure.
+// The low 32 bits: an answer has no more in its number, its figure and its spellings.
 fn low_bits(n: usize) -> u32
     ensures { λ r. ⌜ r ≡ low n ⌝ }
 {
@@ -128,4 +142,15 @@ pub extern "C" fn vaxembro_position(answer: &[usize]) -> usize
     ensures { λ r. ⌜ r ≡ toldAt (now (answer .entry)) 3 ⌝ }
 {
     told_at(answer, 3)
+}
+
+// The number of events of a spelling: 0 is plain, 1 to 3 an escape of that type, 4 a reversible escape; of any other 0.
+#[no_mangle]
+pub extern "C" fn vaxembro_spelling(answer: &[usize], which: u32) -> u32
+    ensures { λ r. ⌜ r ≡ spellingIn (now (answer .entry)) which ⌝ }
+{
+    if 4 < which {
+        return 0;
+    }
+    low_bits(told_at(answer, 4 + which as usize))
 }

@@ -11,5 +11,6 @@ pub use answer::vaxembro_bits;
 pub use answer::vaxembro_figure;
 pub use answer::vaxembro_number;
 pub use answer::vaxembro_position;
+pub use answer::vaxembro_spelling;
 pub use pictures::vaxembro_decode_macroblock;
 pub use pictures::vaxembro_open;

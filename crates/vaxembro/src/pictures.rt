@@ -50,7 +50,7 @@ fn onward(state: &mut [u32], d: PictureDecoded)
 {
     match d {
         PictureDecoded::Refused(_) => {}
-        PictureDecoded::Decoded(_, _, p) => crate::lent::put_picture(state, p),
+        PictureDecoded::Decoded(_, _, _, p) => crate::lent::put_picture(state, p),
     }
 }
 

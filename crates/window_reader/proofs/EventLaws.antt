@@ -18,23 +18,26 @@ use Rattle.codes.proofs.FirstBitsLaws.{intraRow, lmax-by, rmax-by, row-small}
 use Rattle.codes.specs.FirstBits.{lmaxRows, rmaxRows}
 use Rattle.codes.specs.Tcoef.{tcoefIntra, vlcCodes, vlcLens}
 use Rattle.codes.specs.Tcoef as T
-use Rattle.events.specs.Event.{GoodEvent, _▸_, escape, eventBits, lastNumber, levelOf, plain, runOf, signed12, signedBy, type1, type2, type3, vlcBits}
+use Rattle.events.specs.Event.{GoodEvent, _▸_, escape, eventBits, lastNumber, levelOf, plain, runOf, signed12, signedBy, spellingOf, type1, type2, type3, vlcBits}
 use Rattle.events.specs.declared.event.AcEvent.{AcEvent}
+use Rattle.events.specs.declared.spelling.Spelling.{Spelling}
+use Rattle.events.specs.declared.spelling.Spelling.the-variants.{Plain, Type1, Type2, Type3}
 use Rattle.window_reader.proofs.SymbolLaws.{let-through}
 use Rattle.window_reader.specs.Told.{EventSettled, EventTold, RowTold}
 use Rattle.window_reader.specs.declared.symbol.EventAt.{EventAt}
 use Rattle.window_reader.specs.declared.symbol.RowAt.{RowAt}
 
-event-is : {l l′ : Bool} {r r′ : ℕ} {z z′ : ℤ} → l ≡ l′ → r ≡ r′ → z ≡ z′ → _≡_ {A = AcEvent} (record { last = l; run = r; level = z }) (record { last = l′; run = r′; level = z′ })
-event-is e f g = λ j. record { last = e j; run = f j; level = g j }
+event-is : {l l′ : Bool} {r r′ : ℕ} {z z′ : ℤ} (k : Spelling) → l ≡ l′ → r ≡ r′ → z ≡ z′
+    → _≡_ {A = AcEvent} (record { last = l; run = r; level = z; spelling = k }) (record { last = l′; run = r′; level = z′; spelling = k })
+event-is k e f g = λ j. record { last = e j; run = f j; level = g j; spelling = k }
 
 module _ (d : List ℕ) (at : ℕ) where
   -- ---- a row and its sign
 
   pub plain-told : (skip : ℕ) (r : RowAt) → RowTold d at skip r → (v : EventAt)
-      → v .next ≡ r .next → v .last ≡ eqb (r .last) 1 → v .run ≡ r .run → v .level ≡ signedBy (r .sign) (r .size) → EventTold d (at + skip) v
-  unfolding GoodEvent eventBits lastNumber runOf levelOf
-  plain-told skip r t v e₁ e₂ e₃ e₄ =
+      → v .next ≡ r .next → v .last ≡ eqb (r .last) 1 → v .run ≡ r .run → v .level ≡ signedBy (r .sign) (r .size) → v .spelled ≡ 1 → EventTold d (at + skip) v
+  unfolding GoodEvent eventBits lastNumber runOf levelOf spellingOf
+  plain-told skip r t v e₁ e₂ e₃ e₄ e₅ =
       record {
         event = plain (t .row) (r .sign);
         good = (t .below, t .sign-lt);
@@ -42,7 +45,8 @@ module _ (d : List ℕ) (at : ℕ) where
             t .bits ∙ sym (append-assoc (vlcBits (t .row)) (bin 1 (r .sign)) (bitsFrom d (r .next)))
             ∙ ap (λ (n : ℕ). (vlcBits (t .row) ▸ bin 1 (r .sign)) ▸ bitsFrom d n) (sym e₁);
         inside = subst (λ (n : ℕ). n ≤ 8 * length d) (sym e₁) (t .inside);
-        says = event-is (sym (e₂ ∙ ap (λ (n : ℕ). eqb n 1) (t .last-is))) (sym (e₃ ∙ t .run-is)) (sym (e₄ ∙ ap (signedBy (r .sign)) (t .size-is)));
+        says = event-is Plain (sym (e₂ ∙ ap (λ (n : ℕ). eqb n 1) (t .last-is))) (sym (e₃ ∙ t .run-is)) (sym (e₄ ∙ ap (signedBy (r .sign)) (t .size-is)));
+        weighs = e₅;
       }
 
   -- ---- what stands before it
@@ -69,9 +73,9 @@ module _ (d : List ℕ) (at : ℕ) where
       ∙ sym (append-assoc escape (p ▸ x ▸ y) q)
 
   pub type1-told : (r : RowAt) → RowTold d at 8 r → aheadOf d at / 33554432 ≡ 3 → aheadOf d at / 16777216 % 2 ≡ 0 → (v : EventAt)
-      → v .next ≡ r .next → v .last ≡ eqb (r .last) 1 → v .run ≡ r .run → v .level ≡ signedBy (r .sign) (r .size + getD lmaxRows (64 * r .last + r .run) 0) → EventTold d at v
-  unfolding GoodEvent eventBits lastNumber runOf levelOf
-  type1-told r t w₁ w₂ v e₁ e₂ e₃ e₄ =
+      → v .next ≡ r .next → v .last ≡ eqb (r .last) 1 → v .run ≡ r .run → v .level ≡ signedBy (r .sign) (r .size + getD lmaxRows (64 * r .last + r .run) 0) → v .spelled ≡ 65536 → EventTold d at v
+  unfolding GoodEvent eventBits lastNumber runOf levelOf spellingOf
+  type1-told r t w₁ w₂ v e₁ e₂ e₃ e₄ e₅ =
       let row = intraRow (t .row) in
       let small = row-small (t .row) (t .below) in
       let front : bitsFrom d at ≡ (escape ▸ bin 1 0) ▸ bitsFrom d (at + 8) =
@@ -88,14 +92,15 @@ module _ (d : List ℕ) (at : ℕ) where
             ∙ ap (λ (n : ℕ). (escape ▸ bin 1 0 ▸ vlcBits (t .row) ▸ bin 1 (r .sign)) ▸ bitsFrom d n) (sym e₁);
         inside = subst (λ (n : ℕ). n ≤ 8 * length d) (sym e₁) (t .inside);
         says =
-            event-is (sym (e₂ ∙ ap (λ (n : ℕ). eqb n 1) (t .last-is))) (sym (e₃ ∙ t .run-is))
+            event-is Type1 (sym (e₂ ∙ ap (λ (n : ℕ). eqb n 1) (t .last-is))) (sym (e₃ ∙ t .run-is))
             (sym (e₄ ∙ ap₂ (λ (x y : ℕ). signedBy (r .sign) (x + y)) (t .size-is) more));
+        weighs = e₅;
       }
 
   pub type2-told : (r : RowAt) → RowTold d at 9 r → aheadOf d at / 33554432 ≡ 3 → aheadOf d at / 8388608 % 4 ≡ 2 → (v : EventAt)
-      → v .next ≡ r .next → v .last ≡ eqb (r .last) 1 → v .run ≡ r .run + getD rmaxRows (32 * r .last + r .size) 0 + 1 → v .level ≡ signedBy (r .sign) (r .size) → EventTold d at v
-  unfolding GoodEvent eventBits lastNumber runOf levelOf
-  type2-told r t w₁ w₂ v e₁ e₂ e₃ e₄ =
+      → v .next ≡ r .next → v .last ≡ eqb (r .last) 1 → v .run ≡ r .run + getD rmaxRows (32 * r .last + r .size) 0 + 1 → v .level ≡ signedBy (r .sign) (r .size) → v .spelled ≡ 4294967296 → EventTold d at v
+  unfolding GoodEvent eventBits lastNumber runOf levelOf spellingOf
+  type2-told r t w₁ w₂ v e₁ e₂ e₃ e₄ e₅ =
       let row = intraRow (t .row) in
       let small = row-small (t .row) (t .below) in
       let front : bitsFrom d at ≡ (escape ▸ bin 2 2) ▸ bitsFrom d (at + 9) =
@@ -112,8 +117,9 @@ module _ (d : List ℕ) (at : ℕ) where
             ∙ ap (λ (n : ℕ). (escape ▸ bin 2 2 ▸ vlcBits (t .row) ▸ bin 1 (r .sign)) ▸ bitsFrom d n) (sym e₁);
         inside = subst (λ (n : ℕ). n ≤ 8 * length d) (sym e₁) (t .inside);
         says =
-            event-is (sym (e₂ ∙ ap (λ (n : ℕ). eqb n 1) (t .last-is)))
+            event-is Type2 (sym (e₂ ∙ ap (λ (n : ℕ). eqb n 1) (t .last-is)))
             (sym (e₃ ∙ ap₂ (λ (x y : ℕ). x + y + 1) (t .run-is) more)) (sym (e₄ ∙ ap (signedBy (r .sign)) (t .size-is)));
+        weighs = e₅;
       }
 
   -- ---- type 3
@@ -139,9 +145,9 @@ module _ (d : List ℕ) (at : ℕ) where
   pub type3-told : aheadOf d at / 33554432 ≡ 3 → aheadOf d at / 8388608 % 4 ≡ 3 → aheadOf d at / 32768 % 2 ≡ 1 → aheadOf d at / 4 % 2 ≡ 1
       → (aheadOf d at / 8 % 4096 % 2048 ≡ 0 → ⊥) → (v : EventAt)
       → v .next ≡ cond (leb (at + 30) (8 * length d)) (at + 30) 0
-      → v .last ≡ eqb (aheadOf d at / 4194304 % 2) 1 → v .run ≡ aheadOf d at / 65536 % 64 → v .level ≡ signed12 (aheadOf d at / 8 % 4096) → EventSettled d at v
-  unfolding GoodEvent eventBits lastNumber runOf levelOf
-  type3-told w₁ w₂ w₃ w₄ w₅ v e₁ e₂ e₃ e₄ z =
+      → v .last ≡ eqb (aheadOf d at / 4194304 % 2) 1 → v .run ≡ aheadOf d at / 65536 % 64 → v .level ≡ signed12 (aheadOf d at / 8 % 4096) → v .spelled ≡ 281474976710656 → EventSettled d at v
+  unfolding GoodEvent eventBits lastNumber runOf levelOf spellingOf
+  type3-told w₁ w₂ w₃ w₄ w₅ v e₁ e₂ e₃ e₄ e₅ z =
       let thru = let-through (at + 30) (8 * length d) (λ q. z (e₁ ∙ q)) in
       let next-is : v .next ≡ at + 30 = e₁ ∙ thru .1 in
       let raw : ℕ = aheadOf d at / 8 % 4096 in
@@ -152,5 +158,6 @@ module _ (d : List ℕ) (at : ℕ) where
             window-begins d at 30 (omega arith) (thru .0) ∙ ap (λ (b : Bits). b ++ bitsFrom d (at + 30)) (fields3 w₁ w₂ w₃ w₄)
             ∙ ap (λ (n : ℕ). (escape ▸ bin 2 3 ▸ bin 1 (aheadOf d at / 4194304 % 2) ▸ bin 6 (aheadOf d at / 65536 % 64) ▸ bin 1 1 ▸ bin 12 raw ▸ bin 1 1) ▸ bitsFrom d n) (sym next-is);
         inside = subst (λ (n : ℕ). n ≤ 8 * length d) (sym next-is) (thru .0);
-        says = event-is (sym e₂) (sym e₃) (sym e₄);
+        says = event-is Type3 (sym e₂) (sym e₃) (sym e₄);
+        weighs = e₅;
       }

@@ -1,4 +1,5 @@
 -- The laws of this crate, each file over those above it.
+pub mod PackedLaws
 pub mod SymbolLaws
 pub mod EventLaws
 pub mod DcLaws

@@ -7,19 +7,26 @@ use lib.IntN.{ℤ}
 use lib.ListN.{drop, length, replicate}
 use Rattle.bits.specs.Ahead.{window}
 use Rattle.bits.specs.Bits.{Bits, bin, bitsFrom}
-use Rattle.block_reader.specs.Rows.{readRow, readRows}
+use Rattle.block_reader.specs.Rows.{readRows, readSpellings, rowOf}
 use Rattle.codes.specs.FirstBits.{longRows, shortRows}
 use Rattle.codes.specs.Tcoef as T
 use Rattle.codes.specs.declared.dc_size.DcComponent.{DcComponent}
 use Rattle.codes.specs.declared.tcoef_tables.TcoefTable.the-variants.{Intra}
 use Rattle.dc_parts.specs.Dc.{Dc, GoodDc, dcBits, differenceOf}
-use Rattle.events.specs.Event.{Event, GoodEvent, _▸_, eventBits, tcoefRow, valueOf, vlcBits}
+use Rattle.events.specs.Event.{Event, GoodEvent, _▸_, eventBits, spellingOf, tcoefRow, valueOf, vlcBits}
+use Rattle.events.specs.Spellings.{spellingsOf}
+use Rattle.sentences.specs.Macroblock.{Parts, eventsOf}
+use Rattle.sentences.specs.MacroblockReader.{readBlock}
+use Rattle.texture.specs.Events.{Events, listed}
 use Rattle.texture.specs.EventsReader.{list}
 use Rattle.texture.specs.Places.{placesOf}
-use Rattle.fields.specs.Reader.{mapped, ok}
+use Rattle.fields.specs.Reader.{ok}
 use Rattle.events.specs.declared.event.AcEvent.{AcEvent}
+use Rattle.events.specs.declared.spelling.Spelling.{Spelling}
 use Rattle.window_reader.specs.Ends.{endOf, endsOf}
+use Rattle.window_reader.specs.Packed.{Packs, apart, weightOf}
 use Rattle.window_reader.specs.declared.list.ListAt.{ListAt}
+use Rattle.window_reader.specs.declared.six.SixAt.{SixAt}
 use Rattle.window_reader.specs.declared.symbol.DcAt.{DcAt}
 use Rattle.window_reader.specs.declared.symbol.EventAt.{EventAt}
 use Rattle.window_reader.specs.declared.symbol.RowAt.{RowAt}
@@ -61,22 +68,26 @@ abbrev pub RowSettled : List ℕ → ℕ → ℕ → RowAt → Type 0
 RowSettled d at skip r = (r .next ≡ 0 → ⊥) → RowTold d at skip r
 
 -- an event
-abbrev pub eventOf : EventAt → AcEvent
-eventOf r = record { last = r .last; run = r .run; level = r .level }
+abbrev pub eventOf : Spelling → EventAt → AcEvent
+eventOf k r = record { last = r .last; run = r .run; level = r .level; spelling = k }
 
 pub record EventTold (d : List ℕ) (at : ℕ) (r : EventAt) : Type 0 where
   pub event : Event
   pub good : GoodEvent false event
   pub bits : bitsFrom d at ≡ eventBits event ▸ bitsFrom d (r .next)
   pub inside : r .next ≤ 8 * length d
-  pub says : valueOf Intra event ≡ eventOf r
+  pub says : valueOf Intra event ≡ eventOf (spellingOf event) r
+  pub weighs : r .spelled ≡ weightOf (spellingOf event)
 
 abbrev pub EventSettled : List ℕ → ℕ → EventAt → Type 0
 EventSettled d at r = (r .next ≡ 0 → ⊥) → EventTold d at r
 
 -- a list from place 1 on, into its places
 pub record ListTold (d : List ℕ) (at : ℕ) (r : ListAt) (qfs : List ℤ) : Type 0 where
-  pub read : mapped (placesOf Intra 1) (list false Intra 1 (bitsFrom d at)) ≡ ok qfs (bitsFrom d (r .next))
+  pub events : Events
+  pub read : list false Intra 1 (bitsFrom d at) ≡ ok events (bitsFrom d (r .next))
+  pub places-are : qfs ≡ placesOf Intra 1 events
+  pub packs : Packs (r .spelled) (spellingsOf (listed events)) 64
   pub inside : r .next ≤ 8 * length d
   pub ends : r .end ≡ endOf qfs
 
@@ -85,7 +96,10 @@ ListSettled d at r qfs = (r .next ≡ 0 → ⊥) → ListTold d at r qfs
 
 -- a block
 pub record BlockTold (d : List ℕ) (at : ℕ) (c : DcComponent) (coded : Bool) (r : ListAt) (qfs : List ℤ) : Type 0 where
-  pub read : readRow true false (c, coded) (bitsFrom d at) ≡ ok qfs (bitsFrom d (r .next))
+  pub parts : Parts
+  pub read : readBlock true false (c, coded) (bitsFrom d at) ≡ ok parts (bitsFrom d (r .next))
+  pub row-is : qfs ≡ rowOf true (c, coded) parts
+  pub packs : Packs (r .spelled) (spellingsOf (eventsOf (parts .1))) 64
   pub inside : r .next ≤ 8 * length d
   pub ends : r .end ≡ endOf qfs
 
@@ -93,10 +107,11 @@ abbrev pub BlockSettled : List ℕ → ℕ → DcComponent → Bool → ListAt �
 BlockSettled d at c coded r qfs = (r .next ≡ 0 → ⊥) → BlockTold d at c coded r qfs
 
 -- six blocks
-pub record SixTold (d : List ℕ) (at : ℕ) (pattern : List Bool) (next : ℕ) (rows : List (List ℤ)) (ends : List ℕ) : Type 0 where
-  pub read : readRows true false pattern (bitsFrom d at) ≡ ok rows (bitsFrom d next)
-  pub inside : next ≤ 8 * length d
+pub record SixTold (d : List ℕ) (at : ℕ) (pattern : List Bool) (r : SixAt) (rows : List (List ℤ)) (ends : List ℕ) : Type 0 where
+  pub read : readRows true false pattern (bitsFrom d at) ≡ ok rows (bitsFrom d (r .next))
+  pub counted : readSpellings true false pattern (bitsFrom d at) ≡ ok (apart (r .spelled)) (bitsFrom d (r .next))
+  pub inside : r .next ≤ 8 * length d
   pub are : ends ≡ endsOf rows
 
-abbrev pub SixSettled : List ℕ → ℕ → List Bool → ℕ → List (List ℤ) → List ℕ → Type 0
-SixSettled d at pattern next rows ends = (next ≡ 0 → ⊥) → SixTold d at pattern next rows ends
+abbrev pub SixSettled : List ℕ → ℕ → List Bool → SixAt → List (List ℤ) → List ℕ → Type 0
+SixSettled d at pattern r rows ends = (r .next ≡ 0 → ⊥) → SixTold d at pattern r rows ends

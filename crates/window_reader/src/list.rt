@@ -11,10 +11,21 @@ use crate::symbol::EventAt;
 use crate::symbol::event_at;
 use crate::symbol::second_at;
 
-// The position after a list or a block, and an end of its places.
+// The position after a list or a block, an end of its places, and the sum of what counts its events.
 pub struct ListAt {
     pub next: usize,
     pub end: usize,
+    pub spelled: u64,
+}
+
+pub(crate) fn no_list() -> ListAt
+    ensures { λ r. ⌜ r .next ≡ 0 ⌝ }
+{
+    ListAt {
+        next: 0,
+        end: 0,
+        spelled: 0,
+    }
 }
 
 // An event into its place: the place after it; or 0 where that lies past the end.
@@ -46,20 +57,23 @@ pub(crate) fn list_at(
 {
     let mut at = start;
     let mut place: usize = 1;
+    let mut spelled: u64 = 0;
     loop {
         let w = bits::ahead(data, at);
         let e = event_at(data, short, long, at, w);
         if e.next == 0 {
-            return ListAt { next: 0, end: 0 };
+            return no_list();
         }
         let after = put_at(e, place, places);
         if after == 0 {
-            return ListAt { next: 0, end: 0 };
+            return no_list();
         }
+        spelled += e.spelled;
         if e.last {
             return ListAt {
                 next: e.next,
                 end: 64,
+                spelled,
             };
         }
         let f = second_at(data, short, long, at, w, e.next);
@@ -70,12 +84,14 @@ pub(crate) fn list_at(
         }
         let more = put_at(f, place, places);
         if more == 0 {
-            return ListAt { next: 0, end: 0 };
+            return no_list();
         }
+        spelled += f.spelled;
         if f.last {
             return ListAt {
                 next: f.next,
                 end: 64,
+                spelled,
             };
         }
         at = f.next;

@@ -7,12 +7,14 @@ ghost use Rattle.codes.specs.Component.{componentAt};
 ghost use Rattle.texture.specs.Outcomes.{listOutcome};
 ghost use Rattle.texture.specs.Places.{zeros};
 ghost use Rattle.window_reader.specs.Ends.{endOf, endsOf};
+ghost use Rattle.window_reader.specs.Packed.{apart};
 ghost use Rattle.window_reader.specs.Told.{BlockSettled, Readable, SixSettled, Tables};
 use crate::list::ListAt;
 use bits::BitCount;
 use bits::Cursor;
 use codes::DcComponent;
 use texture::EventsRead;
+use texture::Spellings;
 
 // The component of block i of six.
 fn component(i: usize) -> DcComponent
@@ -39,7 +41,7 @@ fn block_at(
 {
     let dc = crate::symbol::dc_at(data, at, component);
     if dc.next == 0 {
-        return ListAt { next: 0, end: 0 };
+        return crate::list::no_list();
     }
     let difference = dc.difference;
     if !coded {
@@ -47,17 +49,24 @@ fn block_at(
         return ListAt {
             next: dc.next,
             end: 1,
+            spelled: 0,
         };
     }
     let one = crate::list::list_at(data, short, long, dc.next, places);
     if one.next == 0 {
-        return ListAt { next: 0, end: 0 };
+        return one;
     }
     places[0] = difference;
     one
 }
 
-// Six blocks into rows of zeros: the position after them.
+// The position after six blocks, and the sum of what counts their events.
+pub struct SixAt {
+    pub next: usize,
+    pub spelled: u64,
+}
+
+// Six blocks into rows of zeros.
 fn six_at(
     data: &[u8],
     short: &[u16],
@@ -66,11 +75,12 @@ fn six_at(
     pattern: [bool; 6],
     rows: &mut [[i32; 64]; 6],
     ends: &mut [usize; 6],
-) -> usize
+) -> SixAt
     requires { ⌜ Readable (now «data») start × Tables (now short) (now long) × (now rows ≡ replicate 6 zeros) × (length (now ends) ≡ 6) ⌝ }
     ensures { λ r. ⌜ SixSettled (now («data» .entry)) start pattern r (now (rows .exit)) (now (ends .exit)) ⌝ }
 {
     let mut at = start;
+    let mut spelled: u64 = 0;
     for i in 0..6 {
         let one = block_at(
             data,
@@ -82,12 +92,16 @@ fn six_at(
             &mut rows[i],
         );
         if one.next == 0 {
-            return 0;
+            return SixAt {
+                next: 0,
+                spelled: 0,
+            };
         }
         at = one.next;
         ends[i] = one.end;
+        spelled += one.spelled;
     }
-    at
+    SixAt { next: at, spelled }
 }
 
 // The end of a row.
@@ -135,14 +149,14 @@ fn six_plainly(
     answer
 }
 
-// By windows: the position after six blocks, or 0.
+// By windows.
 fn six_by_windows(
     data: &[u8],
     start: usize,
     pattern: [bool; 6],
     rows: &mut [[i32; 64]; 6],
     ends: &mut [usize; 6],
-) -> usize
+) -> SixAt
     requires { ⌜ Readable (now «data») start ⌝ }
     ensures { λ r. ⌜ SixSettled (now («data» .entry)) start pattern r (now (rows .exit)) (now (ends .exit)) ⌝ }
 {
@@ -151,6 +165,19 @@ fn six_by_windows(
     let short = codes::tcoef_short();
     let long = codes::tcoef_long();
     six_at(data, &short, &long, start, pattern, rows, ends)
+}
+
+// The number of events of each spelling, out of their sum. No plain list has a reversible escape.
+fn spellings_of(spelled: u64) -> Spellings
+    ensures { λ r. ⌜ r ≡ apart spelled ⌝ }
+{
+    Spellings {
+        plain: (spelled % 65536) as u32,
+        type1: (spelled / 65536 % 65536) as u32,
+        type2: (spelled / 4294967296 % 65536) as u32,
+        type3: (spelled / 281474976710656) as u32,
+        rvlc_escape: 0,
+    }
 }
 
 // The bits of six blocks into `rows`, and the end of each row into `ends`; where they are refused, rows of zeros.
@@ -173,9 +200,10 @@ pub fn read_six(
         BitCount::Refused(_) => {}
         BitCount::Bits(_) => {
             if dc_coded & !reversible {
-                let next = six_by_windows(data, c.bit_pos, pattern, rows, ends);
-                if next != 0 {
-                    return EventsRead::Read(Cursor { bit_pos: next });
+                let six = six_by_windows(data, c.bit_pos, pattern, rows, ends);
+                if six.next != 0 {
+                    let next = Cursor { bit_pos: six.next };
+                    return EventsRead::Read(next, spellings_of(six.spelled));
                 }
             }
         }

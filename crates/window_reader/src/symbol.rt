@@ -26,12 +26,13 @@ pub struct RowAt {
     pub sign: u32,
 }
 
-// An event and the position after it.
+// An event and the position after it. `spelled` counts it: 1 if it is plain, 2^16, 2^32 or 2^48 if it is of type 1, 2 or 3.
 pub struct EventAt {
     pub next: usize,
     pub last: bool,
     pub run: u32,
     pub level: i32,
+    pub spelled: u64,
 }
 
 // A position in the data; else 0.
@@ -139,6 +140,7 @@ fn unsettled() -> EventAt
         last: true,
         run: 0,
         level: 0,
+        spelled: 0,
     }
 }
 
@@ -157,6 +159,7 @@ fn type1_at(data: &[u8], short: &[u16], long: &[u16], at: usize, w: u32) -> Even
         last: one.last == 1,
         run: one.run,
         level: with_sign(one.sign, one.size + more),
+        spelled: 65536,
     }
 }
 
@@ -175,6 +178,7 @@ fn type2_at(data: &[u8], short: &[u16], long: &[u16], at: usize, w: u32) -> Even
         last: one.last == 1,
         run: one.run + more + 1,
         level: with_sign(one.sign, one.size),
+        spelled: 4294967296,
     }
 }
 
@@ -198,6 +202,7 @@ fn type3_at(data: &[u8], at: usize, w: u32) -> EventAt
         last: w / 4194304 % 2 == 1,
         run: w / 65536 % 64,
         level: two_s_complement(raw),
+        spelled: 281474976710656,
     }
 }
 
@@ -233,6 +238,7 @@ fn plain_at(data: &[u8], short: &[u16], long: &[u16], at: usize, w: u32, skip: u
         last: one.last == 1,
         run: one.run,
         level: with_sign(one.sign, one.size),
+        spelled: 1,
     }
 }
 

@@ -8,7 +8,9 @@ use lib.ListN.{length}
 use Rattle.bits.proofs.CursorLaws.{in-data-by}
 use Rattle.bits.specs.declared.cursor.Cursor.{Cursor}
 use Rattle.sentences.specs.Macroblock.{Parts}
+use Rattle.fields.specs.Answer.{after}
 use Rattle.fields.specs.Reader.{Res}
+use Rattle.numbers.specs.Grid.{cell}
 use Rattle.assembly.proofs.ContextLaws.{quantiser-fine}
 use Rattle.assembly.specs.Values.{samplesOf}
 use Rattle.assembly.specs.declared.error.Checked.the-variants.{Fine}
@@ -18,7 +20,7 @@ use Rattle.block_reader.specs.Reading.{partsAt}
 use Rattle.block.proofs.AnswerLaws.{sentence-fine}
 use Rattle.block.proofs.HandedLaws.{all-places, given-same, numbers-fine}
 use Rattle.block.proofs.RebuildLaws.{Given, handed-over}
-use Rattle.block.specs.Decoded.{decodedBy, levelsTold, samplesTold, told}
+use Rattle.block.specs.Decoded.{decodedBy, levelsTold, samplesTold, told, valuesIn}
 use Rattle.block.specs.Rebuilt.{dcHere, levelsHere, valuesHere}
 use Rattle.block.specs.declared.intra.BlockDecoded.the-variants.{Decoded}
 use Rattle.block.specs.declared.reconstruct.BlockRebuilt.{BlockRebuilt}
@@ -38,7 +40,7 @@ parts k =
 
 -- its sentence
 read : (k : tie.After-places) → let r = k .before .before .before .before in let a = r .before .before .args in
-    Sentence (now (a .«data»)) (a .c .«bit_pos») (a .component) (a .coded) (a .dc-coded) (a .reversible) (r .read-block .result .qfs) (k .before .before .answer2 .given .0 .0)
+    Sentence (now (a .«data»)) (a .c .«bit_pos») (a .component) (a .coded) (a .dc-coded) (a .reversible) (r .read-block .result .qfs) (k .before .before .answer2 .given .0 .0) (k .before .before .answer2 .given .0 .1 .0)
 read k =
     let r = k .before .before .before .before in
     let a = r .before .before .args in
@@ -106,8 +108,9 @@ returns-2 c =
     let p = a .predictors in
     let n = read k in
     let g = whole b in (
-      c .decoded .ensures ∙ ap (λ (y : BlockRebuilt). decodedBy y (k .before .before .answer2 .given .0 .0)) (g .0)
-          ∙ ap₂ (λ (q : List ℤ) (y : Cursor). Decoded (dcHere m x p (a .w) q) y) (n .qfs-is) (n .place) ∙ sym (ap (told d m (a .dc-coded) x p (a .w)) (n .read)),
+      c .decoded .ensures ∙ ap (λ (y : BlockRebuilt). decodedBy y (k .before .before .answer2 .given .0 .0) (k .before .before .answer2 .given .0 .1 .0)) (g .0)
+          ∙ ap₂ (λ (q : List ℤ) (y : Cursor). Decoded (dcHere m x p (a .w) q) y (k .before .before .answer2 .given .0 .1 .0)) (n .qfs-is) (n .place)
+          ∙ ap (Decoded (cell (valuesIn d m (a .dc-coded) x p (a .w) (n .parts)) 0 0) (after d (n .rest))) (n .counts-are) ∙ sym (ap (told d m (a .dc-coded) x p (a .w)) (n .read)),
       (
         g .1 .0 ∙ ap (λ (q : List ℤ). samplesOf x (valuesHere m x p (a .w) q)) (n .qfs-is) ∙ sym (ap (λ (y : Res Parts). samplesTold d m (a .dc-coded) x p (a .w) y (now (a .spatial))) (n .read)),
         g .1 .1 ∙ ap (levelsHere m x p (a .w)) (n .qfs-is) ∙ sym (ap (λ (y : Res Parts). levelsTold d m (a .dc-coded) x p (a .w) y (now (a .qf))) (n .read)),

@@ -16,13 +16,13 @@ enum-known-rebuilt-2 : tie.Need-enum-known-rebuilt-2
 enum-known-rebuilt-2 c = search needs
 
 returns : tie.Need-returns
-returns c = sym (ap (λ (b : BlockRebuilt). decodedBy b (c .before .before .before .args .next)) (c .before .rebuilt .given .1))
+returns c = sym (ap (λ (b : BlockRebuilt). decodedBy b (c .before .before .before .args .next) (c .before .before .before .args .spellings)) (c .before .rebuilt .given .1))
 
 returns-2 : tie.Need-returns-2
 returns-2 c =
-    let next = c .before .before .before .args .next in
+    let a = c .before .before .before .args in
     let r = c .before .rebuilt2 .given in
-    ap (λ (z : ℤ). Decoded z next) (held (r .0 .0) (c .known-told2 .given .0 .1)) ∙ sym (ap (λ (b : BlockRebuilt). decodedBy b next) (r .1))
+    ap (λ (z : ℤ). Decoded z (a .next) (a .spellings)) (held (r .0 .0) (c .known-told2 .given .0 .1)) ∙ sym (ap (λ (b : BlockRebuilt). decodedBy b (a .next) (a .spellings)) (r .1))
 
 pub decoded-spec : {M : Type 1} → statement M
 decoded-spec = tie.close (tie.spec enum-known-rebuilt enum-known-rebuilt-2 returns returns-2)

@@ -30,13 +30,16 @@ returns c =
 enum-told-2 : tie.Need-enum-told-2
 enum-told-2 c = search needs
 
+none-requires : tie.Need-none-requires
+none-requires c κs = search needs
+
 returns-2 : tie.Need-returns-2
 returns-2 c =
-    let r = c .before .before in
+    let r = c .before .before .before in
     let a = r .before .before .before .args in
     let d = now (a .«data») in
     let at = a .c .«bit_pos» in
-    not-coded d (a .c) (a .dc-coded) (a .reversible) (counted d at _ _ (r .remaining-bits .ensures .0) (c .enum-told2 .given .1))
+    not-coded d (a .c) (c .none .result) (a .dc-coded) (a .reversible) (c .none .ensures) (counted d at _ _ (r .remaining-bits .ensures .0) (c .before .enum-told2 .given .1))
     ∙ sym (ap (λ (x : Bool). listAnswer d at x (a .dc-coded) (a .reversible)) (not-true (a .coded) (r .before .if1 .taken)))
 
 decode-ac-events-rvlc-requires : tie.Need-decode-ac-events-rvlc-requires
@@ -72,6 +75,7 @@ read-list-spec =
     refusal-requires
     returns
     enum-told-2
+    none-requires
     returns-2
     decode-ac-events-rvlc-requires
     returns-3

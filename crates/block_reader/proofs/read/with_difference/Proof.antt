@@ -33,7 +33,7 @@ returns-2 c =
     let s = c .before .before .before .before in
     let a = s .args in
     let next = c .before .before .answer2 .given in
-    ap {B = PlacesRead} (λ (z : ℤ). record { answer = EventsAre (next .0 .0); qfs = set (a .one .qfs) 0 z }) (toZ-ofZ (s .fits .difference))
+    ap {B = PlacesRead} (λ (z : ℤ). record { answer = EventsAre (next .0 .0) (next .0 .1 .0); qfs = set (a .one .qfs) 0 z }) (toZ-ofZ (s .fits .difference))
     ∙ sym (ap (λ (x : EventsRead). withDifference x (a .one .qfs) (a .difference)) (next .1))
 
 pub with-difference-spec : {M : Type 1} → statement M

@@ -5,6 +5,7 @@ use lib.IntN.{ℤ}
 use borrow.Author.Tests.{eq-eqb, ne-eqb}
 use Rattle.events.proofs.fixed.settle.Statement.{statement}
 use Rattle.events.specs.declared.event.EventRead.the-variants.{Event as EventIs}
+use Rattle.events.specs.declared.spelling.Spelling.the-variants.{Type3}
 use Rattle.numbers.proofs.Words.{held}
 use Rattle.events.proofs.fixed.settle.Tie as tie
 
@@ -21,7 +22,7 @@ returns-3 : tie.Need-returns-3
 returns-3 c =
     let start = c .before .before .before in
     let v = held (c .sign-extend12 .result) (c .sign-extend12 .ok) ∙ c .sign-extend12 .ensures in
-    ap (λ (z : ℤ). EventIs (record { last = eqb (start .args .last) 1; run = start .args .run; level = z }) (start .args .next)) v
+    ap (λ (z : ℤ). EventIs (record { last = eqb (start .args .last) 1; run = start .args .run; level = z; spelling = Type3 }) (start .args .next)) v
     ∙ simp (ne-eqb _ _ (c .before .before .if1 .left), ne-eqb _ _ (c .before .if2 .left))
 
 pub settle-spec : {M : Type 1} → statement M

@@ -27,8 +27,8 @@ returns : tie.Need-returns
 returns c =
     let f = c .before .before .before in
     let a = f .before .before .before .args in
-    both eventOutcome (sign-refused (now (a .«data»)) (a .c .«bit_pos») _ (f .read-field .ensures .0) (now (a .events)) (a .spelling) (a .row) (c .before .g .given .1))
-    (sign-due (now (a .«data»)) (a .c .«bit_pos») (now (a .events)) (a .spelling) (a .row))
+    both eventOutcome (sign-refused (now (a .«data»)) (a .c .«bit_pos») _ (f .read-field .ensures .0) (now (a .events)) (a .form) (a .row) (c .before .g .given .1))
+    (sign-due (now (a .«data»)) (a .c .«bit_pos») (now (a .events)) (a .form) (a .row))
 
 returns-2 : tie.Need-returns-2
 returns-2 c =
@@ -37,8 +37,8 @@ returns-2 c =
     let a = f .before .before .before .args in
     both eventOutcome
     (ap (λ (v : AcEvent). EventIs v (g .g2 .given .0 .1 .0)) (c .event-of .ensures)
-    ∙ sign-given (now (a .«data»)) (a .c .«bit_pos») _ (f .read-field .ensures .0) (now (a .events)) (a .spelling) (a .row) (g .g2 .given .1))
-    (sign-due (now (a .«data»)) (a .c .«bit_pos») (now (a .events)) (a .spelling) (a .row))
+    ∙ sign-given (now (a .«data»)) (a .c .«bit_pos») _ (f .read-field .ensures .0) (now (a .events)) (a .form) (a .row) (g .g2 .given .1))
+    (sign-due (now (a .«data»)) (a .c .«bit_pos») (now (a .events)) (a .form) (a .row))
 
 pub read-sign-spec : {M : Type 1} → statement M
 read-sign-spec = tie.close (tie.spec read-field-requires enum-known-g enum-known-g-2 event-of-requires returns returns-2)

@@ -40,9 +40,9 @@ signed-level-requires c κs = search needs
 returns : tie.Need-returns
 returns c =
     let a = c .before .before .before .before .before .args in
-    ap {B = AcEvent} (λ (z : ℤ). record { last = eqb (c .before .before .before .number .result) 1; run = c .before .before .number2 .result + a .more-run; level = z })
+    ap {B = AcEvent} (λ (z : ℤ). record { last = eqb (c .before .before .before .number .result) 1; run = c .before .before .number2 .result + a .more-run; level = z; spelling = a .spelling })
     (held (c .signed-level .result) (c .signed-level .ok) ∙ c .signed-level .ensures)
-    ∙ same-event (a .sign) (c .before .before .before .number .ensures .0) (ap (λ (n : ℕ). n + a .more-run) (c .before .before .number2 .ensures .0)) (ap (λ (n : ℕ). n + a .more-level) (c .before .number3 .ensures .0))
+    ∙ same-event (a .spelling) (a .sign) (c .before .before .before .number .ensures .0) (ap (λ (n : ℕ). n + a .more-run) (c .before .before .number2 .ensures .0)) (ap (λ (n : ℕ). n + a .more-level) (c .before .number3 .ensures .0))
 
 pub row-event-spec : {M : Type 1} → statement M
 row-event-spec = tie.close (tie.spec number-requires add-number number-requires-2 add-run mul-number add-number-2 number-requires-3 add-signed-level signed-level-requires returns)

@@ -6,6 +6,7 @@ use lib.IntN.{ℤ}
 use borrow.Author.Tests.{eq-eqb, ne-eqb}
 use Rattle.events.proofs.rvlc.settle.Statement.{statement}
 use Rattle.events.specs.declared.event.EventRead.the-variants.{Event as EventIs}
+use Rattle.events.specs.declared.spelling.Spelling.the-variants.{RvlcEscape}
 use Rattle.numbers.proofs.Words.{held}
 use Rattle.events.proofs.rvlc.settle.Tie as tie
 
@@ -19,7 +20,7 @@ returns-2 : tie.Need-returns-2
 returns-2 c =
     let start = c .before .before in
     let v = held (c .signed-level .result) (c .signed-level .ok) ∙ c .signed-level .ensures in
-    ap (λ (z : ℤ). EventIs (record { last = eqb (start .args .last) 1; run = start .args .run; level = z }) (start .args .next)) v
+    ap (λ (z : ℤ). EventIs (record { last = eqb (start .args .last) 1; run = start .args .run; level = z; spelling = RvlcEscape }) (start .args .next)) v
     ∙ simp (ne-eqb _ _ (c .before .if1 .left))
 
 pub settle-spec : {M : Type 1} → statement M

@@ -1,7 +1,7 @@
 -- `macroblock::decode::decode_checked` meets its contract: the sentence that was read and its samples. Assumes nothing.
 use mathlib.Core.Bool.{Bool}
 use mathlib.Core.List.{List}
-use mathlib.Core.Path.{_≡_, ap, sym, _∙_}
+use mathlib.Core.Path.{_≡_, ap, ap₂, sym, _∙_}
 use Prim.Native.Nat.{ℕ, _-_}
 use native.Mathlib.Omega.{arith}
 use borrow.Author.Needs.{needs}
@@ -9,6 +9,7 @@ use denote.Ref.{now}
 use lib.IntN.{ℤ}
 use lib.ListN.{length}
 use Rattle.bits.specs.declared.cursor.Cursor.{Cursor}
+use Rattle.events.specs.declared.spelling.Spellings.{Spellings}
 use Rattle.samples.specs.Samples.{samplesAfter}
 use Rattle.sentences.specs.Macroblock.{Parts}
 use Rattle.fields.specs.Reader.{Res}
@@ -29,7 +30,7 @@ fine s = let a = s .args in state-fine (now (a .«data»)) (a .c .«bit_pos») (
 -- the sentence that was read
 read : (k : tie.After-known-told2) (rows old : List (List ℤ)) → let b = k .before .before .before in let a = b .before .before .before .before .before .args in
     rows ≡ rowsAfter (now (a .«data»)) (a .c .«bit_pos») (b .before .before .before .pattern-code .result) (a .use-intra-dc-vlc) (a .reversible-vlc) old
-    → SixRead (now (a .«data»)) (a .c .«bit_pos») (patternBy (a .header)) (a .use-intra-dc-vlc) (a .reversible-vlc) rows (k .before .answer2 .given .0 .0)
+    → SixRead (now (a .«data»)) (a .c .«bit_pos») (patternBy (a .header)) (a .use-intra-dc-vlc) (a .reversible-vlc) rows (k .before .answer2 .given .0 .0) (k .before .answer2 .given .0 .1 .0)
 read k rows old q =
     let b = k .before .before .before in
     let s = b .before .before .before .before .before in
@@ -109,7 +110,7 @@ returns-3 c =
     let at = a .c .«bit_pos» in
     let x = a .ctx in
     let n = read k _ _ (b .read-six .ensures .1 .0) in (
-      ap (λ (y : Cursor). Decoded (y .«bit_pos» - at) y) (n .place) ∙ sym (ap (told d at) (n .read)),
+      ap₂ (λ (y : Cursor) (k : Spellings). Decoded (y .«bit_pos» - at) y k) (n .place) (n .counts-are) ∙ sym (ap (told d at) (n .read)),
       g .samples-of-six .ensures .1 ∙ ap (λ (rows : List (List ℤ)). samplesAfter (samplesOfSix x (valuesOfSix x (a .predictors) (a .w) rows)) (now (a .samples))) (n .rows-are)
           ∙ sym (ap (λ (y : Res (List Parts)). samplesTold (a .header) (a .use-intra-dc-vlc) x (a .predictors) (a .w) y (now (a .samples))) (n .read)),
     )

@@ -28,7 +28,7 @@ reconstruct-requires c κs =
     let b = k .before .before .before in
     let s = b .before .before .before .before .before in
     let a = s .args in
-    six-ready (a .p) (brought s) (now (a .store)) (s .pre .0) _ (b .before .before .before .pattern-code .ensures) _ (b .read-six .ensures .0) _ _ (b .read-six .ensures .1 .0) _ (k .before .answer2 .given .1) (a .due) (s .pre .1) _ (b .read-six .ensures .1 .1 .0)
+    six-ready (a .p) (brought s) (now (a .store)) (s .pre .0) _ (b .before .before .before .pattern-code .ensures) _ (b .read-six .ensures .0) _ _ (b .read-six .ensures .1 .0) _ _ (k .before .answer2 .given .1) (a .due) (s .pre .1) _ (b .read-six .ensures .1 .1 .0)
 
 add-onward : tie.Need-add-onward
 add-onward c =
@@ -36,7 +36,7 @@ add-onward c =
     let b = k .before .before .before in
     let s = b .before .before .before .before .before in
     let a = s .args in
-    counted (a .p) (brought s) (now (a .store)) (s .pre .0) _ (b .before .before .before .pattern-code .ensures) _ (b .read-six .ensures .0) _ _ (b .read-six .ensures .1 .0) _ (k .before .answer2 .given .1)
+    counted (a .p) (brought s) (now (a .store)) (s .pre .0) _ (b .before .before .before .pattern-code .ensures) _ (b .read-six .ensures .0) _ _ (b .read-six .ensures .1 .0) _ _ (k .before .answer2 .given .1)
 
 sub-bits : tie.Need-sub-bits
 sub-bits c =
@@ -44,7 +44,7 @@ sub-bits c =
     let b = k .before .before .before in
     let s = b .before .before .before .before .before in
     let a = s .args in
-    forward (a .p) (brought s) (now (a .store)) (s .pre .0) _ (b .before .before .before .pattern-code .ensures) _ (b .read-six .ensures .0) _ _ (b .read-six .ensures .1 .0) _ (k .before .answer2 .given .1)
+    forward (a .p) (brought s) (now (a .store)) (s .pre .0) _ (b .before .before .before .pattern-code .ensures) _ (b .read-six .ensures .0) _ _ (b .read-six .ensures .1 .0) _ _ (k .before .answer2 .given .1)
 
 returns : tie.Need-returns
 returns c =
@@ -66,7 +66,7 @@ returns-2 c =
     let b = k .before .before .before in
     let s = b .before .before .before .before .before in
     let a = s .args in
-    decoded (a .p) (brought s) (now (a .store)) (s .pre .0) _ (b .before .before .before .pattern-code .ensures) _ (b .read-six .ensures .0) _ _ (b .read-six .ensures .1 .0) _ (k .before .answer2 .given .1) (a .due) (s .pre .1) (r .reconstruct .ensures .0) (r .reconstruct .ensures .1)
+    decoded (a .p) (brought s) (now (a .store)) (s .pre .0) _ (b .before .before .before .pattern-code .ensures) _ (b .read-six .ensures .0) _ _ (b .read-six .ensures .1 .0) _ _ (k .before .answer2 .given .1) (a .due) (s .pre .1) (r .reconstruct .ensures .0) (r .reconstruct .ensures .1)
 
 pub decode-due-spec : {M : Type 1} → statement M
 decode-due-spec =

@@ -9,7 +9,7 @@ use Rattle.bits.specs.Bits.{bitsFrom}
 use Rattle.codes.specs.Tcoef.{vlcCodes, vlcLens}
 use Rattle.events.proofs.ChainLaws.{answered, if-not, if-so, passed, sign-says}
 use Rattle.events.specs.EventReader.{event, plainEvent}
-use Rattle.events.specs.declared.event.Spelling.the-variants.{Plain}
+use Rattle.events.specs.declared.event.RowForm.the-variants.{Plain}
 use Rattle.fields.proofs.ChainLaws.{First, code-first}
 use Rattle.fields.proofs.ReadLaws.{code-sound}
 use Rattle.fields.proofs.TableLaws.{vlc-code}

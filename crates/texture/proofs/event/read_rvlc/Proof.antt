@@ -9,7 +9,7 @@ use Rattle.bits.specs.Bits.{bitsFrom}
 use Rattle.codes.specs.Rvlc.{rvlcCodes, rvlcLens}
 use Rattle.events.proofs.ChainLaws.{answered, if-not, if-so, passed, rvlc-escape-says, sign-says}
 use Rattle.events.specs.EventReader.{event, rvlcEvent}
-use Rattle.events.specs.declared.event.Spelling.the-variants.{Reversible}
+use Rattle.events.specs.declared.event.RowForm.the-variants.{Reversible}
 use Rattle.fields.proofs.ChainLaws.{First, code-first}
 use Rattle.fields.proofs.ReadLaws.{code-sound}
 use Rattle.fields.proofs.TableLaws.{rvlc-code}

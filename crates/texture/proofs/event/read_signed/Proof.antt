@@ -55,7 +55,7 @@ returns-2 c =
     let q = g .g2 .given .1 in
     let i = code-sound vlcCodes vlcLens 13 102 InvalidTcoef _ (number-is d _ _ (said f) q) .0 in
     passed d (a .table) _ _ _ (said f) q
-    (sign-says d _ (number-in d _ _ (said f) q, s .pre .0 .1) _ (a .table) (a .spelling) _ (plain-row (a .spelling) _ (s .pre .2) i) (now (a .events)) (s .pre .1 .2 ∙ sym (plain-columns (a .spelling) (a .table) (s .pre .2))) (c .read-sign .ensures .0))
+    (sign-says d _ (number-in d _ _ (said f) q, s .pre .0 .1) _ (a .table) (a .form) _ (plain-row (a .form) _ (s .pre .2) i) (now (a .events)) (s .pre .1 .2 ∙ sym (plain-columns (a .form) (a .table) (s .pre .2))) (c .read-sign .ensures .0))
 
 pub read-signed-spec : {M : Type 1} → statement M
 read-signed-spec = tie.close (tie.spec read-code-requires enum-known-g enum-known-g-2 read-sign-requires returns returns-2)

@@ -1,5 +1,4 @@
--- `vaxembro::answer::tell` meets its contract: four stores, or none. Assumes nothing.
-use mathlib.Core.List.{[], _∷_}
+-- `vaxembro::answer::tell` meets its contract: nine stores, or none. Assumes nothing.
 use mathlib.Core.Path.{refl}
 use native.Mathlib.Omega.{arith}
 use borrow.Author.Needs.{needs}
@@ -7,14 +6,14 @@ use borrow.Author.Tests.{le-leb, lt-leb}
 use denote.Ref.{now}
 use lib.ListN.{length-set}
 use lib.Seq.{sets-eq}
-use Rattle.vaxembro.specs.Answer.{answerAfter}
+use Rattle.vaxembro.specs.Answer.{answerAfter, answerLength, answerOf}
 use Rattle.vaxembro.proofs.RoomLaws.{long-is, short-is}
 use Rattle.vaxembro.proofs.answer.tell.Statement.{statement}
 use Rattle.vaxembro.proofs.answer.tell.Tie as tie
 
 returns : tie.Need-returns
 unfolding answerAfter
-returns c = (refl, short-is _ (lt-leb 4 _ (c .if1 .taken)))
+returns c = (refl, short-is _ (lt-leb answerLength _ (c .if1 .taken)))
 
 cast-answer : tie.Need-cast-answer
 cast-answer c = search needs
@@ -32,7 +31,37 @@ slice-write-answer-3 : tie.Need-slice-write-answer-3
 slice-write-answer-3 c = simp length-set (omega arith)
 
 slice-write-answer-4 : tie.Need-slice-write-answer-4
-slice-write-answer-4 c = search needs
+slice-write-answer-4 c = simp length-set (omega arith)
+
+cast-answer-3 : tie.Need-cast-answer-3
+cast-answer-3 c = search needs
+
+slice-write-answer-5 : tie.Need-slice-write-answer-5
+slice-write-answer-5 c = simp length-set (omega arith)
+
+cast-answer-4 : tie.Need-cast-answer-4
+cast-answer-4 c = search needs
+
+slice-write-answer-6 : tie.Need-slice-write-answer-6
+slice-write-answer-6 c = simp length-set (omega arith)
+
+cast-answer-5 : tie.Need-cast-answer-5
+cast-answer-5 c = search needs
+
+slice-write-answer-7 : tie.Need-slice-write-answer-7
+slice-write-answer-7 c = simp length-set (omega arith)
+
+cast-answer-6 : tie.Need-cast-answer-6
+cast-answer-6 c = search needs
+
+slice-write-answer-8 : tie.Need-slice-write-answer-8
+slice-write-answer-8 c = simp length-set (omega arith)
+
+cast-answer-7 : tie.Need-cast-answer-7
+cast-answer-7 c = search needs
+
+slice-write-answer-9 : tie.Need-slice-write-answer-9
+slice-write-answer-9 c = simp length-set (omega arith)
 
 same-length : tie.Need-same-length
 same-length c = search needs
@@ -40,10 +69,9 @@ same-length c = search needs
 returns-2 : tie.Need-returns-2
 unfolding answerAfter
 returns-2 c =
-    let e = c .before .before in
+    let e = c .before .before .before .before .before .before .before .before in
     let a = e .before .args in
-    let t = a .t in
-    (refl, long-is _ (le-leb 4 _ (e .if1 .left)) (sets-eq (t .number ∷ t .figure ∷ t .bits ∷ t .position ∷ []) (now (a .answer)) 0 (omega arith)))
+    (refl, long-is _ (le-leb answerLength _ (e .if1 .left)) (sets-eq (answerOf (a .t)) (now (a .answer)) 0 (omega arith)))
 
 pub tell-spec : {M : Type 1} → statement M
 tell-spec =
@@ -56,5 +84,15 @@ tell-spec =
     slice-write-answer-2
     slice-write-answer-3
     slice-write-answer-4
+    cast-answer-3
+    slice-write-answer-5
+    cast-answer-4
+    slice-write-answer-6
+    cast-answer-5
+    slice-write-answer-7
+    cast-answer-6
+    slice-write-answer-8
+    cast-answer-7
+    slice-write-answer-9
     same-length
     returns-2)

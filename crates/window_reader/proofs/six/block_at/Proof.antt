@@ -1,7 +1,7 @@
 -- `window_reader::six::block_at` meets its contract: a DC part, and the list if the block is coded. Assumes nothing.
 use mathlib.Core.Bool.{Bool}
 use mathlib.Core.List.{List}
-use mathlib.Core.Path.{ap₂, refl, subst₂, sym}
+use mathlib.Core.Path.{ap₂, subst₂, sym}
 use borrow.Author.Needs.{needs}
 use borrow.Author.Tests.{not-false, not-true}
 use denote.Ref.{now}
@@ -19,8 +19,11 @@ part k = k .before .before .dc-at .ensures (k .if1 .left)
 dc-at-requires : tie.Need-dc-at-requires
 dc-at-requires c κs = search needs
 
+no-list-requires : tie.Need-no-list-requires
+no-list-requires c κs = search needs
+
 returns : tie.Need-returns
-returns c = λ z. absurd (z refl)
+returns c = λ z. absurd (z (c .no-list .ensures))
 
 element-set-from-difference : tie.Need-element-set-from-difference
 element-set-from-difference c = search needs
@@ -33,7 +36,7 @@ returns-2 c = λ z.
     let d = now (a .«data») in
     let r = k .before .before .dc-at .result in
     let t = part k in
-    subst₂ (λ (b : Bool) (qfs : List ℤ). BlockTold d (a .at) (a .component) b (record { next = r .next; end = 1 }) qfs)
+    subst₂ (λ (b : Bool) (qfs : List ℤ). BlockTold d (a .at) (a .component) b (record { next = r .next; end = 1; spelled = 0 }) qfs)
     (sym (not-true (a .coded) (c .if2 .taken))) (sym (ap₂ (λ (xs : List ℤ) (x : ℤ). set xs 0 x) (s .pre .2) (difference-back d (a .at) (a .component) r t)))
     (block-alone d (a .at) (a .component) r t)
 
@@ -44,7 +47,7 @@ list-at-requires c κs =
     ((part k .inside, s .pre .0 .1), s .pre .1, s .pre .2)
 
 returns-3 : tie.Need-returns-3
-returns-3 c = λ z. absurd (z refl)
+returns-3 c = λ z. absurd (z (c .if3 .taken))
 
 element-set-from-difference-2 : tie.Need-element-set-from-difference-2
 element-set-from-difference-2 c = search needs
@@ -64,4 +67,4 @@ returns-4 c = λ z.
 
 pub block-at-spec : {M : Type 1} → statement M
 block-at-spec =
-    tie.close (tie.spec dc-at-requires returns element-set-from-difference returns-2 list-at-requires returns-3 element-set-from-difference-2 returns-4)
+    tie.close (tie.spec dc-at-requires no-list-requires returns element-set-from-difference returns-2 list-at-requires returns-3 element-set-from-difference-2 returns-4)

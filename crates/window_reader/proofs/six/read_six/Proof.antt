@@ -36,15 +36,18 @@ six-by-windows-requires c κs =
     let p = in-data-yes (length (now (a .«data»))) (a .c .«bit_pos») (inside k) in
     (p .1, p .0)
 
+spellings-of-requires : tie.Need-spellings-of-requires
+spellings-of-requires c κs = search needs
+
 returns : tie.Need-returns
 returns c =
-    let one = c .before .six-by-windows in
-    let k = c .before .before .before .before .before in
+    let one = c .before .before .before .six-by-windows in
+    let k = c .before .before .before .before .before .before .before in
     let a = k .before .before .before .before .args in
     let d = now (a .«data») in
     let at = a .c .«bit_pos» in
     then-2 listOutcome
-    (six-answer d at (a .pattern) (a .dc-coded) (a .reversible) (one .result) (one .last .1 .1 .1 .0) (one .last .1 .1 .1 .1 .0) (inside k) (c .before .before .before .before .if1 .taken) (one .ensures (c .if2 .taken)))
+    (six-answer d at (a .pattern) (a .dc-coded) (a .reversible) (one .result) (c .spellings-of .result) (one .last .1 .1 .1 .0) (one .last .1 .1 .1 .1 .0) (inside k) (c .before .before .before .before .before .before .if1 .taken) (one .ensures (c .before .if2 .taken)) (c .spellings-of .ensures))
     (blocks-due d at (a .pattern) (a .dc-coded) (a .reversible))
 
 six-plainly-requires : tie.Need-six-plainly-requires
@@ -64,6 +67,7 @@ read-six-spec =
     enum-told
     enum-told-2
     six-by-windows-requires
+    spellings-of-requires
     returns
     six-plainly-requires
     returns-2)

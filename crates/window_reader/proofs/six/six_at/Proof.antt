@@ -8,16 +8,17 @@ use borrow.Author.Needs.{needs}
 use denote.Ref.{now}
 use lib.ListN.{getD}
 use Rattle.codes.specs.declared.dc_size.DcComponent.{DcComponent}
+use Rattle.window_reader.proofs.PackedLaws.{packs-le}
 use Rattle.window_reader.proofs.SixLaws.{Rows, rows-first, rows-last, rows-on}
 use Rattle.window_reader.specs.Told.{BlockTold}
 use Rattle.window_reader.proofs.six.six_at.Statement.{statement}
 use Rattle.window_reader.proofs.six.six_at.Tie as tie
 
 abbrev Inv-loop : tie.InvT-loop
-Inv-loop «data» short long start rows₀ ends₀ pattern at₀ i₀ rows ends at i = Rows «data» start pattern i at rows ends
+Inv-loop «data» short long start rows₀ ends₀ pattern at₀ spelled₀ i₀ rows ends at spelled i = Rows «data» start pattern i at spelled rows ends
 
 abbrev μ-loop : tie.MeasureT-loop
-μ-loop «data» short long start rows₀ ends₀ pattern at₀ i₀ rows ends at i = 6 - i
+μ-loop «data» short long start rows₀ ends₀ pattern at₀ spelled₀ i₀ rows ends at spelled i = 6 - i
 
 loop-holds : tie.Need-loop-holds Inv-loop μ-loop
 loop-holds c = let s = c .before .before .before in let a = s .args in rows-first (now (a .«data»)) (a .start) (a .t5) (now (a .rows)) (now (a .ends)) (s .pre .0 .0) (s .pre .2) (s .pre .3)
@@ -49,28 +50,37 @@ mul-ends c = let t = c .before .before .before .before .before .loop-test .taken
 element-write-ends : tie.Need-element-write-ends Inv-loop μ-loop
 element-write-ends c = let t = c .before .before .before .before .before .loop-test .taken in omega arith
 
+add-spelled : tie.Need-add-spelled Inv-loop μ-loop
+add-spelled c =
+    let k = c .before .before .before in
+    let l = k .before .before .before .before .loop in
+    let top = l .inv .turn-le in
+    let few = packs-le (omega (arith, top)) (l .inv .packs) in
+    let more = packs-le (omega arith) (k .block-at .ensures (c .before .if1 .left) .packs) in
+    omega (arith, few, more)
+
 add-i : tie.Need-add-i Inv-loop μ-loop
-add-i c = let t = c .before .before .before .before .before .loop-test .taken in omega arith
+add-i c = let t = c .before .before .before .before .before .before .loop-test .taken in omega arith
 
 loop-less : tie.Need-loop-less Inv-loop μ-loop
-loop-less c = let t = c .before .before .before .before .before .loop-test .taken in omega arith
+loop-less c = let t = c .before .before .before .before .before .before .loop-test .taken in omega arith
 
 loop-again : tie.Need-loop-again Inv-loop μ-loop
 loop-again c =
-    let k = c .before .before in
+    let k = c .before .before .before in
     let l = k .before .before .before .before .loop in
     let a = k .before .before .before .before .before .before .before .before .args in
     let d = now (a .«data») in
     let one = k .block-at in
     let qfs = one .last .1 .1 .1 .1 .1 .1 .0 in
-    rows-on d (a .start) (a .t5) (l .i) (l .at) (l .rows) (l .ends) (l .inv) (k .before .before .before .loop-test .taken) (one .result) qfs
-    (subst (λ (m : DcComponent). BlockTold d (l .at) m (getD (a .t5) (l .i) false) (one .result) qfs) (k .before .before .component .ensures) (one .ensures (c .if1 .left)))
+    rows-on d (a .start) (a .t5) (l .i) (l .at) (l .spelled) (l .rows) (l .ends) (l .inv) (k .before .before .before .loop-test .taken) (one .result) qfs
+    (subst (λ (m : DcComponent). BlockTold d (l .at) m (getD (a .t5) (l .i) false) (one .result) qfs) (k .before .before .component .ensures) (one .ensures (c .before .if1 .left)))
 
 returns-2 : tie.Need-returns-2 Inv-loop μ-loop
 returns-2 c = λ z.
     let l = c .before .loop in
     let a = c .before .before .before .before .before .args in
-    rows-last (now (a .«data»)) (a .start) (a .t5) (l .i) (l .at) (l .rows) (l .ends) (l .inv) (c .loop-test .left)
+    rows-last (now (a .«data»)) (a .start) (a .t5) (l .i) (l .at) (l .spelled) (l .rows) (l .ends) (l .inv) (c .loop-test .left)
 
 pub six-at-spec : {M : Type 1} → statement M
 six-at-spec =
@@ -87,6 +97,7 @@ six-at-spec =
     returns
     mul-ends
     element-write-ends
+    add-spelled
     add-i
     loop-less
     loop-again

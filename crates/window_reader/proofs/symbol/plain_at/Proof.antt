@@ -32,7 +32,7 @@ returns-2 c = λ z.
     let r = e .before .before .row-at .result in
     let b = row-bounds (told e) in
     plain-told (now (s .args .«data»)) (s .args .at) (s .args .skip) r (told e) _ refl refl refl
-    (signed-back (r .sign) (r .size) (omega (arith, b .size-lt)) (c .with-sign .ensures))
+    (signed-back (r .sign) (r .size) (omega (arith, b .size-lt)) (c .with-sign .ensures)) refl
 
 pub plain-at-spec : {M : Type 1} → statement M
 plain-at-spec =

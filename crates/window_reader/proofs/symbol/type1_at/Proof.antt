@@ -67,7 +67,7 @@ returns-2 c = λ z.
     let r = e .before .before .row-at .result in
     let m = c .before .before .before .lmax-intra in
     type1-told (now (s .args .«data»)) (s .args .at) r (told e) (ap (λ (x : ℕ). x / 33554432) (sym (p .2)) ∙ p .3) (ap (λ (x : ℕ). x / 16777216 % 2) (sym (p .2)) ∙ p .4) _ refl refl refl
-    (signed-back (r .sign) (r .size + m .result) (omega (arith, small (c .before))) (c .with-sign .ensures) ∙ ap (λ (x : ℕ). signedBy (r .sign) (r .size + x)) (m .ensures))
+    (signed-back (r .sign) (r .size + m .result) (omega (arith, small (c .before))) (c .with-sign .ensures) ∙ ap (λ (x : ℕ). signedBy (r .sign) (r .size + x)) (m .ensures)) refl
 
 pub type1-at-spec : {M : Type 1} → statement M
 type1-at-spec =

@@ -70,7 +70,7 @@ returns-2 c = λ z.
     let b = row-bounds (told e) in
     let m = c .before .before .before .rmax-intra in
     type2-told (now (s .args .«data»)) (s .args .at) r (told e) (ap (λ (x : ℕ). x / 33554432) (sym (p .2)) ∙ p .3) (ap (λ (x : ℕ). x / 8388608 % 4) (sym (p .2)) ∙ p .4) _ refl refl
-    (ap (λ (x : ℕ). r .run + x + 1) (m .ensures)) (signed-back (r .sign) (r .size) (omega (arith, b .size-lt)) (c .with-sign .ensures))
+    (ap (λ (x : ℕ). r .run + x + 1) (m .ensures)) (signed-back (r .sign) (r .size) (omega (arith, b .size-lt)) (c .with-sign .ensures)) refl
 
 pub type2-at-spec : {M : Type 1} → statement M
 type2-at-spec =

@@ -1,5 +1,5 @@
 -- `window_reader::symbol::type3_at` meets its contract: the fields of the window are those of the escape. Assumes nothing.
-use mathlib.Core.Path.{_≡_, sym, ap, _∙_}
+use mathlib.Core.Path.{_≡_, refl, sym, ap, _∙_}
 use Prim.Native.Nat.{ℕ, _/_, _%_}
 use native.Mathlib.Nat.{mod-lt}
 use native.Mathlib.Omega.{arith}
@@ -53,7 +53,7 @@ returns-4 c =
     (one (a / 32768) (λ q. k .before .before .if1 .left (ap (λ (x : ℕ). x / 32768 % 2) is ∙ q)))
     (one (a / 4) (λ q. k .before .if2 .left (ap (λ (x : ℕ). x / 4 % 2) is ∙ q)))
     (λ q. k .if3 .left (ap (λ (x : ℕ). x / 8 % 4096 % 2048) is ∙ q)) _ (c .before .within .ensures) (ap (λ (x : ℕ). eqb (x / 4194304 % 2) 1) is) (ap (λ (x : ℕ). x / 65536 % 64) is)
-    (twelve-back (w / 8 % 4096) (mod-lt _ (pow-pos 12)) (c .two-s-complement .ensures) ∙ ap (λ (x : ℕ). signed12 (x / 8 % 4096)) is)
+    (twelve-back (w / 8 % 4096) (mod-lt _ (pow-pos 12)) (c .two-s-complement .ensures) ∙ ap (λ (x : ℕ). signed12 (x / 8 % 4096)) is) refl
   where
     one : (n : ℕ) → (n % 2 ≡ 0 → ⊥) → n % 2 ≡ 1
     one n z = omega (arith, z)
