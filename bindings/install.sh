@@ -22,7 +22,7 @@ archive=${VAXEMBRO_LIB_DIR:-$top/target/staticlib}/libvaxembro.a
 [ -f "$archive" ] || fail "there is no $archive: make it by 'rt staticlib vaxembro'"
 version=$(sed -n 's/^version = "\(.*\)"$/\1/p' "$here/rust/Cargo.toml")
 [ -n "$version" ] || fail "no version in $here/rust/Cargo.toml"
-shared=libvaxembro.so.${version%%.*}
+shared=libvaxembro.so.${version%.*}
 files="lib/libvaxembro.a lib/$shared lib/libvaxembro.so lib/pkgconfig/vaxembro.pc include/vaxembro.h"
 
 # Until all files are in place, an end takes away what was put and the folders that were made.
