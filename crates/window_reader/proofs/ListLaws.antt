@@ -33,7 +33,7 @@ use Rattle.events.specs.declared.spelling.Spellings.{Spellings}
 use Rattle.window_reader.proofs.EndLaws.{end-last}
 use Rattle.window_reader.proofs.PackedLaws.{packs-more, packs-none}
 use Rattle.window_reader.specs.Packed.{Packs, weightOf}
-use Rattle.window_reader.specs.Told.{EventTold, ListTold}
+use Rattle.window_reader.specs.Told.{EventTold, ListTold, upTo}
 use Rattle.window_reader.specs.declared.symbol.EventAt.{EventAt}
 
 -- ---- the level of a good plain event is not 0
@@ -180,7 +180,7 @@ module _ (d : List ℕ) (start at place spelled : ℕ) (qfs : List ℤ) (s : Sta
             ∙ ap (λ (x : State). rest false Intra x (bitsFrom d (r .next))) put-is;
       }
 
-  pub stands-last : r .last ≡ true → ListTold d start (record { next = r .next; end = 64; spelled = spelled + r .spelled }) (set qfs (place + r .run) (r .level))
+  pub stands-last : r .last ≡ true → ListTold d start (upTo (r .next) (spelled + r .spelled)) (set qfs (place + r .run) (r .level))
   stands-last l =
       let x =
       listed-by (list false Intra 1 (bitsFrom d start))
@@ -219,5 +219,5 @@ module _ (d : List ℕ) (start at place spelled : ℕ) (qfs : List ℤ) (s : Sta
   pub put-on : r .last ≡ false → Stands d start (r .next) after (spelled + r .spelled) qfs′
   put-on l = subst₂ (λ (n : ℕ) (xs : List ℤ). Stands d start (r .next) n (spelled + r .spelled) xs) (sym after-is) (sym places-are) (stands-on d start at place spelled qfs s r t low l)
 
-  pub put-last : r .last ≡ true → ListTold d start (record { next = r .next; end = 64; spelled = spelled + r .spelled }) qfs′
-  put-last l = subst (ListTold d start (record { next = r .next; end = 64; spelled = spelled + r .spelled })) (sym places-are) (stands-last d start at place spelled qfs s r t low l)
+  pub put-last : r .last ≡ true → ListTold d start (upTo (r .next) (spelled + r .spelled)) qfs′
+  put-last l = subst (ListTold d start (upTo (r .next) (spelled + r .spelled))) (sym places-are) (stands-last d start at place spelled qfs s r t low l)

@@ -1,14 +1,14 @@
 -- Spellings in one number: an event adds its weight, and up to 384 come out as they went in. Assumes nothing.
-use mathlib.Core.Path.{_≡_, refl, ap, sym, _∙_}
+use mathlib.Core.Bool.{false}
+use mathlib.Core.Path.{_≡_, refl, sym, _∙_}
 use Prim.Native.Nat.{ℕ, _+_, _*_, _/_, _%_, _≤_}
 use native.Mathlib.Omega.{arith}
 use Rattle.events.proofs.SpellingLaws.{same-counts, total-more, total-together}
 use Rattle.events.specs.Event.{Event, GoodEvent, plain, rvlc, rvlcEscape, spellingOf, type1, type2, type3}
-use Rattle.events.specs.Spellings.{noSpellings, oneMore, together, totalOf}
+use Rattle.events.specs.Spellings.{noSpellings, oneMore, together}
 use Rattle.events.specs.declared.spelling.Spelling.{Spelling}
 use Rattle.events.specs.declared.spelling.Spelling.the-variants.{Plain, RvlcEscape, Type1, Type2, Type3}
 use Rattle.events.specs.declared.spelling.Spellings.{Spellings}
-use mathlib.Core.Bool.{false}
 use Rattle.window_reader.specs.Packed.{Packs, apart, packed, weightOf}
 
 packed-more : (k : Spelling) (n : Spellings) → packed (oneMore k n) ≡ packed n + weightOf k

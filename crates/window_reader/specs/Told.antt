@@ -82,6 +82,10 @@ pub record EventTold (d : List ℕ) (at : ℕ) (r : EventAt) : Type 0 where
 abbrev pub EventSettled : List ℕ → ℕ → EventAt → Type 0
 EventSettled d at r = (r .next ≡ 0 → ⊥) → EventTold d at r
 
+-- a list with an event at least, up to a position
+abbrev pub upTo : ℕ → ℕ → ListAt
+upTo next spelled = record { next = next; end = 64; spelled = spelled }
+
 -- a list from place 1 on, into its places
 pub record ListTold (d : List ℕ) (at : ℕ) (r : ListAt) (qfs : List ℤ) : Type 0 where
   pub events : Events

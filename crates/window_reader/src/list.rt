@@ -6,7 +6,7 @@ ghost use lib.Dec.{ltb};
 ghost use lib.IntN.{natAbs};
 ghost use lib.ListN.{length, set};
 ghost use Rattle.texture.specs.Places.{zeros};
-ghost use Rattle.window_reader.specs.Told.{ListSettled, Readable, Tables};
+ghost use Rattle.window_reader.specs.Told.{ListSettled, Readable, Tables, upTo};
 use crate::symbol::EventAt;
 use crate::symbol::event_at;
 use crate::symbol::second_at;
@@ -18,6 +18,7 @@ pub struct ListAt {
     pub spelled: u64,
 }
 
+// Says nothing.
 pub(crate) fn no_list() -> ListAt
     ensures { λ r. ⌜ r .next ≡ 0 ⌝ }
 {
@@ -25,6 +26,17 @@ pub(crate) fn no_list() -> ListAt
         next: 0,
         end: 0,
         spelled: 0,
+    }
+}
+
+// A list with an event at least: its level is not 0.
+fn list_to(next: usize, spelled: u64) -> ListAt
+    ensures { λ r. ⌜ r ≡ upTo next spelled ⌝ }
+{
+    ListAt {
+        next,
+        end: 64,
+        spelled,
     }
 }
 
@@ -70,11 +82,7 @@ pub(crate) fn list_at(
         }
         spelled += e.spelled;
         if e.last {
-            return ListAt {
-                next: e.next,
-                end: 64,
-                spelled,
-            };
+            return list_to(e.next, spelled);
         }
         let f = second_at(data, short, long, at, w, e.next);
         at = e.next;
@@ -88,11 +96,7 @@ pub(crate) fn list_at(
         }
         spelled += f.spelled;
         if f.last {
-            return ListAt {
-                next: f.next,
-                end: 64,
-                spelled,
-            };
+            return list_to(f.next, spelled);
         }
         at = f.next;
         place = more;

@@ -1,6 +1,5 @@
 -- `vaxembro::answer::vaxembro_spelling` meets its contract: one of five numbers, or 0. Assumes nothing.
 use mathlib.Core.Path.{ap, _∙_}
-use Prim.Native.Nat.{_+_, _<_, ℕ}
 use native.Mathlib.Omega.{arith}
 use borrow.Author.Needs.{needs}
 use borrow.Author.Tests.{le-ltb, lt-ltb}

@@ -1,4 +1,5 @@
 -- `window_reader::list::list_at` meets its contract: what is left to answer stays the same after each event, and each takes bits. Assumes nothing.
+use mathlib.Core.Path.{subst⁻¹}
 use Prim.Native.Nat.{_*_, _+_, _-_}
 use native.Mathlib.Omega.{arith}
 use borrow.Author.Needs.{needs}
@@ -6,6 +7,8 @@ use denote.Ref.{now}
 use lib.ListN.{length}
 use Rattle.window_reader.proofs.ListLaws.{Stands, Turn, put-last, put-on, stands-first, turn}
 use Rattle.window_reader.proofs.PackedLaws.{event-le, packs-le}
+use Rattle.window_reader.specs.Told.{ListTold}
+use Rattle.window_reader.specs.declared.list.ListAt.{ListAt}
 use Rattle.window_reader.proofs.list.list_at.Statement.{statement}
 use Rattle.window_reader.proofs.list.list_at.Tie as tie
 
@@ -82,14 +85,19 @@ add-spelled c =
     let t = here k in
     omega (arith, packs-le (let h = s .place-le in omega arith) (s .packs), event-le (t .e) (t .weighs))
 
+list-to-requires : tie.Need-list-to-requires Inv-loop μ-loop
+list-to-requires c κs = search needs
+
 returns-3 : tie.Need-returns-3 Inv-loop μ-loop
 returns-3 c = λ z.
-    let p = c .before .before .before in
+    let t = c .before in
+    let p = t .before .before .before in
     let k = p .before .before in
     let l = k .before .before .before .before in
     let a = l .before .before .before .before .args in
-    put-last (now (a .«data»)) (a .start) (l .loop .at) (l .loop .place) (l .loop .spelled) (l .loop .places) (l .loop .inv) (k .before .before .event-at .result) (here k) _ _
-    (p .put-at .ensures .0) (p .put-at .ensures .1) (c .before .before .if2 .left) (c .if3 .taken)
+    subst⁻¹ (λ (r : ListAt). ListTold (now (a .«data»)) (a .start) r (p .put-at .last .1 .1 .0)) (c .list-to .ensures)
+    (put-last (now (a .«data»)) (a .start) (l .loop .at) (l .loop .place) (l .loop .spelled) (l .loop .places) (l .loop .inv) (k .before .before .event-at .result) (here k) _ _
+    (p .put-at .ensures .0) (p .put-at .ensures .1) (t .before .before .if2 .left) (t .if3 .taken))
 
 second-at-requires : tie.Need-second-at-requires Inv-loop μ-loop
 second-at-requires c κs =
@@ -125,17 +133,22 @@ add-spelled-2 c =
     let t = there k in
     omega (arith, packs-le (let h = s .place-le in omega arith) (s .packs), event-le (t .e) (t .weighs))
 
+list-to-requires-2 : tie.Need-list-to-requires-2 Inv-loop μ-loop
+list-to-requires-2 c κs = search needs
+
 returns-5 : tie.Need-returns-5 Inv-loop μ-loop
 returns-5 c = λ z.
-    let p = c .before .before .before in
+    let t = c .before in
+    let p = t .before .before .before in
     let k = p .before .before in
     let f = k .before .before .before in
     let m = f .before .before .before in
     let e = m .before .before .before .before .event-at .result in
     let l = m .before .before .before .before .before .before in
     let a = l .before .before .before .before .args in
-    put-last (now (a .«data»)) (a .start) (e .next) (m .put-at .result) (l .loop .spelled + e .spelled) _ (on f) (k .before .before .second-at .result) (there k) _ _
-    (p .put-at2 .ensures .0) (p .put-at2 .ensures .1) (c .before .before .if5 .left) (c .if6 .taken)
+    subst⁻¹ (λ (r : ListAt). ListTold (now (a .«data»)) (a .start) r (p .put-at2 .last .1 .1 .0)) (c .list-to2 .ensures)
+    (put-last (now (a .«data»)) (a .start) (e .next) (m .put-at .result) (l .loop .spelled + e .spelled) _ (on f) (k .before .before .second-at .result) (there k) _ _
+    (p .put-at2 .ensures .0) (p .put-at2 .ensures .1) (t .before .before .if5 .left) (t .if6 .taken))
 
 loop-less-2 : tie.Need-loop-less-2 Inv-loop μ-loop
 loop-less-2 c =
@@ -171,6 +184,7 @@ list-at-spec =
     no-list-requires-2
     returns-2
     add-spelled
+    list-to-requires
     returns-3
     second-at-requires
     loop-less
@@ -179,6 +193,7 @@ list-at-spec =
     no-list-requires-3
     returns-4
     add-spelled-2
+    list-to-requires-2
     returns-5
     loop-less-2
     loop-again-2)
