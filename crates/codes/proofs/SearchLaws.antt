@@ -49,6 +49,16 @@ seek-none f (suc n) i u =
     ap (λ (x : Bool). cond x i (seek f n (suc i))) (F-false (f i) (u i (le-refl i) (omega arith)))
     ∙ seek-none f n (suc i) (λ j a b. u j (omega arith) (omega arith)) ∙ omega arith
 
+-- one passes: short of the end
+pub seek-some : (f : ℕ → Bool) (n i k : ℕ) → i ≤ k → k < i + n → T (f k) → seek f n i < i + n
+unfolding seek
+seek-some f zero i k a b t = absurd (omega arith)
+seek-some f (suc n) i k a b t = go (f i) refl (λ l. seek-some f n (suc i) k l (omega arith) t)
+  where
+    go : (u : Bool) → f i ≡ u → (i < k → seek f n (suc i) < suc i + n) → cond u i (seek f n (suc i)) < i + suc n
+    go true e more = omega arith
+    go false e more = ⊎-elim (λ (q : i ≡ k). absurd (subst T (sym (ap f q) ∙ e) t)) (λ (l : i < k). let m = more l in omega arith) (eq-or-lt-of-le a)
+
 -- ---- as a loop goes through it
 
 pub seek-yes : (f : ℕ → Bool) (rows i : ℕ) → i < rows → f i ≡ true → seek f (rows - i) i ≡ i

@@ -3,11 +3,11 @@ use mathlib.Core.Bool.{Bool, _&&_, false, not, true}
 use mathlib.Core.List.{List, [], _++_, _∷_, append-assoc}
 use mathlib.Core.Path.{_≡_, _∙_, ap, ap₂, refl, subst, sym}
 use Prim.Native.Nat.{_+_, _-_, _/_, _<_, _^_, _≤_, suc, zero, zero-le, ℕ}
-use native.Mathlib.Nat.{le-of-suc-le-suc, not-suc-le-zero}
+use native.Mathlib.Nat.{div-eq-of-lt, le-of-suc-le-suc, lt-of-lt-of-le, not-suc-le-zero}
 use native.Mathlib.Omega.{arith}
 use lib.Dec.{T, T-not, eqb, eqb-refl, eqb→eq, leb, leb→le, le→leb, ltb, ltb→lt}
 use lib.ListN.{drop, getD, length, length-append, length-drop, take, take-append-drop}
-use lib.Pow.{high, shr-shr}
+use lib.Pow.{high, pow-mono, shr-shr}
 use lib.Seq.{length-take-le, take-append-add}
 use mir.Facts.{yes-and}
 use borrow.Author.Tests.{ltb-false, ltb-true}
@@ -53,6 +53,10 @@ hit-short w n d m l = F-false (hit w n d m) (λ t. let h = leb→le m n (and-lef
 
 pub hit-other : (w n d m : ℕ) → (w / 2 ^ (n - m) ≡ d → ⊥) → hit w n d m ≡ false
 hit-other w n d m u = F-false (hit w n d m) (λ t. u (eqb→eq (w / 2 ^ (n - m)) d (and-right (leb m n) (eqb (w / 2 ^ (n - m)) d) t)))
+
+-- a shift past the width of a word leaves nothing
+pub shifted-out : (w k : ℕ) → w < 2 ^ 32 → 32 ≤ k → w / 2 ^ k ≡ 0
+shifted-out w k h l = div-eq-of-lt (lt-of-lt-of-le h (pow-mono l))
 
 -- ---- a prefix-free table
 

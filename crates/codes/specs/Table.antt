@@ -1,4 +1,4 @@
--- A table is a list of codes as numbers and a list of their lengths: its codes as bits, how one is sought in a window, and the test of a whole table. Definitions only.
+-- A table is a list of codes as numbers and a list of their lengths: its codes as bits, how one is sought in a window, when bits end inside one, and the test of a whole table. Definitions only.
 use Prim.Native.Nat.{ℕ, zero, suc, _-_, _/_, _^_, _<_, _≤_}
 use mathlib.Core.Bool.{Bool, true, false, not, cond, _&&_}
 use mathlib.Core.List.{List, [], _∷_}
@@ -35,6 +35,20 @@ Found cs ls rows w n r = (r < rows → T (hitAt cs ls w n r)) × (rows ≤ r →
 -- the row whose code begins the bits, sought in the next `width` of them, or in fewer if fewer remain
 abbrev pub rowAt : List ℕ → List ℕ → ℕ → ℕ → Bits → ℕ
 rowAt cs ls width rows b = rowIn cs ls rows (val (take width b)) (length (take width b))
+
+-- ---- bits that end inside a code
+
+-- the n bits w begin a code d of m bits, and it has more
+abbrev pub cut : ℕ → ℕ → ℕ → ℕ → Bool
+cut w n d m = ltb n m && eqb w (d / 2 ^ (m - n))
+
+-- the code of some row, of the first `rows`, is cut so
+abbrev pub cutIn : List ℕ → List ℕ → ℕ → ℕ → ℕ → Bool
+cutIn cs ls rows w n = ltb (seek (λ i. cut w n (getD cs i 0) (getD ls i 0)) rows 0) rows
+
+-- all the bits that remain are such a beginning
+abbrev pub cutAt : List ℕ → List ℕ → ℕ → Bits → Bool
+cutAt cs ls rows b = cutIn cs ls rows (val b) (length b)
 
 -- ---- the test of a whole table, computed once: each code has its length, lengths are 1 to `width`, and no code begins another
 

@@ -22,6 +22,7 @@ pub use first_bits::tcoef_short;
 pub use rvlc_tables::rvlc_codes;
 pub use rvlc_tables::rvlc_events;
 pub use rvlc_tables::rvlc_lens;
+pub use search::ends_inside;
 pub use search::find_row;
 pub use tcoef_tables::TcoefTable;
 pub use tcoef_tables::tcoef_codes;

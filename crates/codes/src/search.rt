@@ -1,8 +1,8 @@
-// The search for a code in a window of bits, one for every table.
+// The search for a code in a window of bits, one for every table, and for one that the window ends in.
 ghost use mathlib.Core.Path.{_≡_};
 ghost use Prim.Native.Nat.{_-_, _≤_, min};
 ghost use lib.ListN.{length};
-ghost use Rattle.codes.specs.Table.{Found, hit, hitAt, seek};
+ghost use Rattle.codes.specs.Table.{Found, cut, cutIn, hit, hitAt, seek};
 
 // Whether a code of `len` bits stands at the front of a window of n bits.
 fn hits(window: u32, n: u32, code: u32, len: u32) -> bool
@@ -334,4 +334,33 @@ pub fn find_row(codes: &[u32], lens: &[u32], rows: usize, window: u32, n: u32) -
         return row;
     }
     search(codes, lens, 0, most, window, n)
+}
+
+// Whether a window of n bits begins a code of `len` bits that has more.
+fn ends_in(window: u32, n: u32, code: u32, len: u32) -> bool
+    ensures { λ r. ⌜ r ≡ cut window n code len ⌝ }
+{
+    if n < len {
+        let k = len - n;
+        if k < 32 {
+            return window == code >> k;
+        }
+        return window == 0;
+    }
+    false
+}
+
+// Whether a window of n bits, in which no code is found, ends inside one of the first `rows` of a table.
+pub fn ends_inside(codes: &[u32], lens: &[u32], rows: usize, window: u32, n: u32) -> bool
+    ensures { λ r. ⌜ r ≡ cutIn (now (codes .entry)) (now (lens .entry)) (min rows (min (length (now (codes .entry))) (length (now (lens .entry))))) window n ⌝ }
+{
+    let most = numbers::least(rows, numbers::least(codes.len(), lens.len()));
+    let mut i = 0;
+    while i < most {
+        if ends_in(window, n, codes[i], lens[i]) {
+            return true;
+        }
+        i += 1;
+    }
+    false
 }

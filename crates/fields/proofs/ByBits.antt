@@ -1,14 +1,14 @@
--- The steps of reading refuse by 1 to 8 alone: 11 is told before any bit. Assumes nothing.
+-- The steps of reading refuse by 1 to 8 and 17 alone: 11 is told before any bit. Assumes nothing.
 use mathlib.Core.Bool.{Bool, cond, false, true}
 use mathlib.Core.List.{List}
 use Prim.Native.Nat.{ℕ}
 use lib.Dec.{eqb, leb, ltb}
 use lib.ListN.{length}
 use Rattle.bits.specs.Bits.{Bits}
-use Rattle.codes.specs.Table.{rowAt}
+use Rattle.codes.specs.Table.{cutAt, rowAt}
 use Rattle.fields.specs.Reader.{Res, bind, code, field, marker, no, ok}
 use Rattle.fields.specs.declared.error.TextureParseError.{TextureParseError}
-use Rattle.fields.specs.declared.error.TextureParseError.the-variants.{EscapeMarkerBitMissing, InvalidDcSize, InvalidTcoef, MarkerBitMissing, OutOfRange, Overflow, ReservedEscapeLevel, RvlcEscapeDelimiterMissing, Truncated}
+use Rattle.fields.specs.declared.error.TextureParseError.the-variants.{EndedInsideCode, EscapeMarkerBitMissing, InvalidDcSize, InvalidTcoef, MarkerBitMissing, OutOfRange, Overflow, ReservedEscapeLevel, RvlcEscapeDelimiterMissing, Truncated}
 
 -- a refusal of bits: any but 11
 abbrev pub OfBits : TextureParseError → Type 0
@@ -21,6 +21,7 @@ OfBits ReservedEscapeLevel = Unit {0}
 OfBits (RvlcEscapeDelimiterMissing w) = Unit {0}
 OfBits (Overflow p) = Unit {0}
 OfBits OutOfRange = ⊥
+OfBits EndedInsideCode = Unit {0}
 
 abbrev pub ByBits : {A : Type 0} → Res A → Type 0
 ByBits (ok a r) = Unit {0}
@@ -42,9 +43,13 @@ pub field-by-bits : (n : ℕ) (b : Bits) → ByBits (field n b)
 unfolding field
 field-by-bits n b = either (leb n (length b)) _ _ tt tt
 
+no-code-by-bits : (t : Bool) (e : TextureParseError) → OfBits e → OfBits (cond t EndedInsideCode e)
+no-code-by-bits true e h = tt
+no-code-by-bits false e h = h
+
 pub code-by-bits : (cs ls : List ℕ) (width rows : ℕ) (err : ℕ → TextureParseError) (b : Bits) → ((w : ℕ) → OfBits (err w)) → ByBits (code cs ls width rows err b)
 unfolding code
-code-by-bits cs ls width rows err b h = either (eqb (length b) 0) _ _ tt (either (ltb (rowAt cs ls width rows b) rows) _ _ tt (h _))
+code-by-bits cs ls width rows err b h = either (eqb (length b) 0) _ _ tt (either (ltb (rowAt cs ls width rows b) rows) _ _ tt (no-code-by-bits (cutAt cs ls rows b) _ (h _)))
 
 pub marker-by-bits : (err : TextureParseError) (b : Bits) → OfBits err → ByBits (marker err b)
 unfolding marker

@@ -5,11 +5,11 @@ use mathlib.Core.Path.{_≡_, ap, refl, _∙_}
 use Prim.Native.Nat.{ℕ, _+_}
 use lib.Dec.{eqb, leb, ltb}
 use lib.ListN.{getD, length, take}
-use Rattle.bits.specs.Bits.{bitsFrom, val}
+use Rattle.bits.specs.Bits.{bitsFrom}
 use Rattle.bits.specs.Cursor.{cursorAt, inData}
 use Rattle.fields.specs.Answer.{CodeRead, fieldAnswer, gotTold, markerAnswer, rowAnswer, rowsOf}
 use Rattle.fields.specs.Outcomes.{CodeDue, fieldDue, gotOutcome, markerDue, numberSaid, readAs, rowDue}
-use Rattle.fields.specs.Reader.{Res, field, marker, no, ok}
+use Rattle.fields.specs.Reader.{Res, field, marker, no, noCode, ok}
 use Rattle.fields.specs.Refusal.{figureOf, numberOf}
 use Rattle.fields.specs.declared.error.TextureParseError.{TextureParseError}
 use Rattle.fields.specs.declared.error.TextureParseError.the-variants.{OutOfRange, Truncated}
@@ -41,11 +41,14 @@ module _ (d : List ℕ) (at : ℕ) where
   pub marker-due : (missing : TextureParseError) → gotOutcome (markerAnswer d at missing) ≡ markerDue d at missing
   marker-due missing = after-test gotOutcome NumberRefused (λ e. refl) (inData (length d) at) _ (number-said d (marker missing (bitsFrom d at)))
 
-  pub row-due : (ls : List ℕ) (width n : ℕ) (err : ℕ → TextureParseError) (i : ℕ) → gotOutcome (rowAnswer d at ls width n err i) ≡ rowDue d at ls width n err i
-  row-due ls width n err i = go (inData (length d) at) (leb width 32) (eqb (length (bitsFrom d at)) 0) (ltb i n)
+  pub row-due : (cs ls : List ℕ) (width n : ℕ) (err : ℕ → TextureParseError) (i : ℕ) → gotOutcome (rowAnswer d at cs ls width n err i) ≡ rowDue d at cs ls width n err i
+  row-due cs ls width n err i = go (inData (length d) at) (leb width 32) (eqb (length (bitsFrom d at)) 0) (ltb i n)
     where
-      go : (s t u v : Bool) → gotOutcome (cond (s && t) (cond u (NumberRefused Truncated) (cond v (Number i (cursorAt (at + getD ls i 0))) (NumberRefused (err (val (take width (bitsFrom d at))))))) (NumberRefused OutOfRange))
-          ≡ checked ((s, 11) ∷ (t, 11) ∷ (not u, 1) ∷ []) (cond v (accepted (i, at + getD ls i 0)) (refused (numberOf (err (val (take width (bitsFrom d at))))) (figureOf (err (val (take width (bitsFrom d at)))))))
+      lost : TextureParseError
+      lost = noCode cs ls width n err (take width (bitsFrom d at))
+
+      go : (s t u v : Bool) → gotOutcome (cond (s && t) (cond u (NumberRefused Truncated) (cond v (Number i (cursorAt (at + getD ls i 0))) (NumberRefused lost))) (NumberRefused OutOfRange))
+          ≡ checked ((s, 11) ∷ (t, 11) ∷ (not u, 1) ∷ []) (cond v (accepted (i, at + getD ls i 0)) (refused (numberOf lost) (figureOf lost)))
       go true true true v = refl
       go true true false true = refl
       go true true false false = refl
@@ -55,4 +58,4 @@ module _ (d : List ℕ) (at : ℕ) where
   -- the two clauses of a code, of the row that was found
   pub code-both : (cs ls : List ℕ) (width rows : ℕ) (err : ℕ → TextureParseError) (r : Got) → CodeRead d at cs ls width rows err r
       → CodeRead d at cs ls width rows err r × CodeDue d at cs ls width rows err (gotOutcome r)
-  code-both cs ls width rows err r x = (x, (x .0, (x .1 .0, ap gotOutcome (x .1 .1) ∙ row-due ls width (rowsOf cs ls rows) err (x .0))))
+  code-both cs ls width rows err r x = (x, (x .0, (x .1 .0, ap gotOutcome (x .1 .1) ∙ row-due cs ls width (rowsOf cs ls rows) err (x .0))))

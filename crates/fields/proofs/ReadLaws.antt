@@ -13,7 +13,7 @@ use Rattle.bits.proofs.BitLaws.{val-lt, val-bin, bin-val, length-bin}
 use Rattle.bits.specs.Bits.{Bits, val, bin}
 use Rattle.codes.proofs.TableLaws.{row-sound, row-complete, sound-row}
 use Rattle.codes.specs.Table.{rowAt, codeBits, prefixFree}
-use Rattle.fields.specs.Reader.{Res, ok, no, bind, field, code, marker}
+use Rattle.fields.specs.Reader.{Res, ok, no, bind, field, code, marker, noCode}
 use Rattle.fields.specs.declared.error.TextureParseError.{TextureParseError}
 use Rattle.fields.specs.declared.error.TextureParseError.the-variants.{Truncated}
 
@@ -97,8 +97,8 @@ module _ (cs ls : List ℕ) (width rows : ℕ) (err : ℕ → TextureParseError)
   code-sound b {i} {r} e =
       let k : ℕ = rowAt cs ls width rows b in
       ⊎-elim (λ w. absurd (no-ok (w .1)))
-      (λ w. ⊎-elim good (λ u. absurd (no-ok (u .1))) (cond-ok (ltb k rows) (ok k (drop (getD ls k 0) b)) (no (err (val (take width b)))) (w .1)))
-      (cond-ok (eqb (length b) 0) (no Truncated) (cond (ltb k rows) (ok k (drop (getD ls k 0) b)) (no (err (val (take width b))))) e)
+      (λ w. ⊎-elim good (λ u. absurd (no-ok (u .1))) (cond-ok (ltb k rows) (ok k (drop (getD ls k 0) b)) (no (noCode cs ls width rows err b)) (w .1)))
+      (cond-ok (eqb (length b) 0) (no Truncated) (cond (ltb k rows) (ok k (drop (getD ls k 0) b)) (no (noCode cs ls width rows err b))) e)
     where
       good : (ltb (rowAt cs ls width rows b) rows ≡ true) × (ok (rowAt cs ls width rows b) (drop (getD ls (rowAt cs ls width rows b) 0) b) ≡ ok i r)
           → (i < rows) × (b ≡ codeBits cs ls i ++ r)
@@ -121,7 +121,7 @@ module _ (cs ls : List ℕ) (width rows : ℕ) (err : ℕ → TextureParseError)
       let len : length b ≡ getD ls i 0 + length r =
       length-append (codeBits cs ls i) r ∙ ap (λ (x : ℕ). x + length r) (length-bin (getD ls i 0) (getD cs i 0)) in
       let some : eqb (length b) 0 ≡ false = ne-eqb (length b) 0 (λ z. omega (arith, row .pos)) in
-      ap (λ (x : Bool). cond x (no Truncated) (cond (ltb (rowAt cs ls width rows b) rows) (ok (rowAt cs ls width rows b) (drop (getD ls (rowAt cs ls width rows b) 0) b)) (no (err (val (take width b)))))) some
-      ∙ ap (λ (x : ℕ). cond (ltb x rows) (ok x (drop (getD ls x 0) b)) (no (err (val (take width b))))) k
-      ∙ ap (λ (x : Bool). cond x (ok i (drop (getD ls i 0) b)) (no (err (val (take width b))))) (lt-ltb i rows h)
+      ap (λ (x : Bool). cond x (no Truncated) (cond (ltb (rowAt cs ls width rows b) rows) (ok (rowAt cs ls width rows b) (drop (getD ls (rowAt cs ls width rows b) 0) b)) (no (noCode cs ls width rows err b)))) some
+      ∙ ap (λ (x : ℕ). cond (ltb x rows) (ok x (drop (getD ls x 0) b)) (no (noCode cs ls width rows err b))) k
+      ∙ ap (λ (x : Bool). cond x (ok i (drop (getD ls i 0) b)) (no (noCode cs ls width rows err b))) (lt-ltb i rows h)
       ∙ ap (λ (x : Bits). ok i x) (past cs ls i r)

@@ -5,14 +5,14 @@ use mathlib.Core.Path.{_≡_, sym, ap, subst, _∙_}
 use Prim.Native.Nat.{ℕ, _+_, _≤_, _<_}
 use native.Mathlib.Omega.{arith}
 use lib.Dec.{ltb}
-use lib.ListN.{length, length-append, getD, take, drop}
+use lib.ListN.{length, length-append, getD, drop}
 use lib.Seq.{drop-drop}
 use borrow.Author.Tests.{eq-eqb, ne-eqb, lt-ltb, le-ltb}
 use Rattle.bits.proofs.BitLaws.{length-bin}
-use Rattle.bits.specs.Bits.{Bits, val, bitsOf, bitsFrom}
+use Rattle.bits.specs.Bits.{Bits, bitsOf, bitsFrom}
 use Rattle.codes.proofs.TableLaws.{row-sound}
 use Rattle.codes.specs.Table.{rowAt, codeBits}
-use Rattle.fields.specs.Reader.{ok, no, code}
+use Rattle.fields.specs.Reader.{ok, no, code, noCode}
 use Rattle.fields.specs.declared.error.TextureParseError.{TextureParseError}
 use Rattle.fields.specs.declared.error.TextureParseError.the-variants.{Truncated}
 
@@ -24,21 +24,21 @@ module _ (cs ls : List ℕ) (width rows : ℕ) (err : ℕ → TextureParseError)
   unfolding code
   code-empty h =
       let k : ℕ = rowAt cs ls width rows b in
-      ap (λ (t : Bool). cond t (no Truncated) (cond (ltb k rows) (ok k (drop (getD ls k 0) b)) (no (err (val (take width b)))))) (eq-eqb (length b) 0 h)
+      ap (λ (t : Bool). cond t (no Truncated) (cond (ltb k rows) (ok k (drop (getD ls k 0) b)) (no (noCode cs ls width rows err b)))) (eq-eqb (length b) 0 h)
 
   pub code-found : 0 < length b → (k : ℕ) → k ≡ rowAt cs ls width rows b → k < rows → code cs ls width rows err b ≡ ok k (drop (getD ls k 0) b)
   unfolding code
   code-found h k e l =
-      ap (λ (t : Bool). cond t (no Truncated) (cond (ltb (rowAt cs ls width rows b) rows) (ok (rowAt cs ls width rows b) (drop (getD ls (rowAt cs ls width rows b) 0) b)) (no (err (val (take width b)))))) (ne-eqb (length b) 0 (λ z. omega arith))
-      ∙ ap (λ (x : ℕ). cond (ltb x rows) (ok x (drop (getD ls x 0) b)) (no (err (val (take width b))))) (sym e)
-      ∙ ap (λ (t : Bool). cond t (ok k (drop (getD ls k 0) b)) (no (err (val (take width b))))) (lt-ltb k rows l)
+      ap (λ (t : Bool). cond t (no Truncated) (cond (ltb (rowAt cs ls width rows b) rows) (ok (rowAt cs ls width rows b) (drop (getD ls (rowAt cs ls width rows b) 0) b)) (no (noCode cs ls width rows err b)))) (ne-eqb (length b) 0 (λ z. omega arith))
+      ∙ ap (λ (x : ℕ). cond (ltb x rows) (ok x (drop (getD ls x 0) b)) (no (noCode cs ls width rows err b))) (sym e)
+      ∙ ap (λ (t : Bool). cond t (ok k (drop (getD ls k 0) b)) (no (noCode cs ls width rows err b))) (lt-ltb k rows l)
 
-  pub code-lost : 0 < length b → (k : ℕ) → k ≡ rowAt cs ls width rows b → rows ≤ k → code cs ls width rows err b ≡ no (err (val (take width b)))
+  pub code-lost : 0 < length b → (k : ℕ) → k ≡ rowAt cs ls width rows b → rows ≤ k → code cs ls width rows err b ≡ no (noCode cs ls width rows err b)
   unfolding code
   code-lost h k e l =
-      ap (λ (t : Bool). cond t (no Truncated) (cond (ltb (rowAt cs ls width rows b) rows) (ok (rowAt cs ls width rows b) (drop (getD ls (rowAt cs ls width rows b) 0) b)) (no (err (val (take width b)))))) (ne-eqb (length b) 0 (λ z. omega arith))
-      ∙ ap (λ (x : ℕ). cond (ltb x rows) (ok x (drop (getD ls x 0) b)) (no (err (val (take width b))))) (sym e)
-      ∙ ap (λ (t : Bool). cond t (ok k (drop (getD ls k 0) b)) (no (err (val (take width b))))) (le-ltb k rows l)
+      ap (λ (t : Bool). cond t (no Truncated) (cond (ltb (rowAt cs ls width rows b) rows) (ok (rowAt cs ls width rows b) (drop (getD ls (rowAt cs ls width rows b) 0) b)) (no (noCode cs ls width rows err b)))) (ne-eqb (length b) 0 (λ z. omega arith))
+      ∙ ap (λ (x : ℕ). cond (ltb x rows) (ok x (drop (getD ls x 0) b)) (no (noCode cs ls width rows err b))) (sym e)
+      ∙ ap (λ (t : Bool). cond t (ok k (drop (getD ls k 0) b)) (no (noCode cs ls width rows err b))) (le-ltb k rows l)
 
   -- the code that is found lies in the bits
   pub row-fits : (k : ℕ) → k ≡ rowAt cs ls width rows b → k < rows → getD ls k 0 ≤ length b

@@ -9,7 +9,7 @@ use Rattle.bits.specs.Bits.{Bits, bitsFrom, val}
 use Rattle.bits.specs.Cursor.{cursorAt, inData}
 use Rattle.bits.specs.declared.cursor.Cursor.{Cursor}
 use Rattle.codes.specs.Table.{Found}
-use Rattle.fields.specs.Reader.{Res, ok, no, field, code, marker}
+use Rattle.fields.specs.Reader.{Res, ok, no, field, code, marker, noCode}
 use Rattle.fields.specs.declared.error.TextureParseError.{TextureParseError}
 use Rattle.fields.specs.declared.error.TextureParseError.the-variants.{OutOfRange, Truncated}
 use Rattle.fields.specs.declared.field.Got.{Got}
@@ -40,11 +40,11 @@ abbrev pub rowsOf : List ℕ → List ℕ → ℕ → ℕ
 rowsOf cs ls rows = min (min rows 256) (min (length cs) (length ls))
 
 -- the answer where row i was found among n, in a window of at most 32 bits
-abbrev pub rowAnswer : List ℕ → ℕ → List ℕ → ℕ → ℕ → (ℕ → TextureParseError) → ℕ → Got
-rowAnswer d at ls width n err i =
+abbrev pub rowAnswer : List ℕ → ℕ → List ℕ → List ℕ → ℕ → ℕ → (ℕ → TextureParseError) → ℕ → Got
+rowAnswer d at cs ls width n err i =
     cond (inData (length d) at && leb width 32)
     (cond (eqb (length (bitsFrom d at)) 0) (NumberRefused Truncated)
-    (cond (ltb i n) (Number i (cursorAt (at + getD ls i 0))) (NumberRefused (err (val (take width (bitsFrom d at)))))))
+    (cond (ltb i n) (Number i (cursorAt (at + getD ls i 0))) (NumberRefused (noCode cs ls width n err (take width (bitsFrom d at))))))
     (NumberRefused OutOfRange)
 
 -- row i is one of those whose codes begin the bits from a position on, or as many as are asked where there is none
@@ -53,7 +53,7 @@ FoundAt d at cs ls width rows i = Found cs ls (rowsOf cs ls rows) (val (take wid
 
 -- so it is in a prefix-free table the one row, and the answer then is `codeAnswer`
 abbrev pub CodeRead : List ℕ → ℕ → List ℕ → List ℕ → ℕ → ℕ → (ℕ → TextureParseError) → Got → Type 0
-CodeRead d at cs ls width rows err r = (i : ℕ) × (FoundAt d at cs ls width rows i × (r ≡ rowAnswer d at ls width (rowsOf cs ls rows) err i))
+CodeRead d at cs ls width rows err r = (i : ℕ) × (FoundAt d at cs ls width rows i × (r ≡ rowAnswer d at cs ls width (rowsOf cs ls rows) err i))
 
 abbrev pub codeAnswer : List ℕ → ℕ → List ℕ → List ℕ → ℕ → ℕ → (ℕ → TextureParseError) → Got
 codeAnswer d at cs ls width rows err = cond (inData (length d) at) (gotTold d (code cs ls width rows err (bitsFrom d at))) (NumberRefused OutOfRange)

@@ -5,10 +5,10 @@ use mathlib.Core.Path.{_≡_}
 use Prim.Native.Nat.{ℕ, _+_}
 use lib.Dec.{eqb, leb, ltb}
 use lib.ListN.{getD, length, take}
-use Rattle.bits.specs.Bits.{bitsFrom, val}
+use Rattle.bits.specs.Bits.{bitsFrom}
 use Rattle.bits.specs.Cursor.{inData}
 use Rattle.fields.specs.Answer.{FoundAt, after, rowsOf}
-use Rattle.fields.specs.Reader.{Res, field, marker, no, ok}
+use Rattle.fields.specs.Reader.{Res, field, marker, no, noCode, ok}
 use Rattle.fields.specs.Refusal.{figureOf, numberOf}
 use Rattle.fields.specs.declared.error.TextureParseError.{TextureParseError}
 use Rattle.fields.specs.declared.field.Got.{Got}
@@ -37,10 +37,10 @@ module _ (d : List ℕ) (at : ℕ) where
   markerDue missing = checked ((inData (length d) at, 11) ∷ []) (readAs numberSaid d (marker missing (bitsFrom d at)))
 
   -- of a code: a window of at most 32 bits, of which there is one at least, and the row that was found among n
-  abbrev pub rowDue : List ℕ → ℕ → ℕ → (ℕ → TextureParseError) → ℕ → Outcome (ℕ × ℕ)
-  rowDue ls width n err i =
+  abbrev pub rowDue : List ℕ → List ℕ → ℕ → ℕ → (ℕ → TextureParseError) → ℕ → Outcome (ℕ × ℕ)
+  rowDue cs ls width n err i =
       checked ((inData (length d) at, 11) ∷ (leb width 32, 11) ∷ (not (eqb (length (bitsFrom d at)) 0), 1) ∷ [])
-      (cond (ltb i n) (accepted (i, at + getD ls i 0)) (refused (numberOf (err (val (take width (bitsFrom d at))))) (figureOf (err (val (take width (bitsFrom d at)))))))
+      (cond (ltb i n) (accepted (i, at + getD ls i 0)) (refused (numberOf (noCode cs ls width n err (take width (bitsFrom d at)))) (figureOf (noCode cs ls width n err (take width (bitsFrom d at))))))
 
   abbrev pub CodeDue : List ℕ → List ℕ → ℕ → ℕ → (ℕ → TextureParseError) → Outcome (ℕ × ℕ) → Type 0
-  CodeDue cs ls width rows err o = (i : ℕ) × (FoundAt d at cs ls width rows i × (o ≡ rowDue ls width (rowsOf cs ls rows) err i))
+  CodeDue cs ls width rows err o = (i : ℕ) × (FoundAt d at cs ls width rows i × (o ≡ rowDue cs ls width (rowsOf cs ls rows) err i))

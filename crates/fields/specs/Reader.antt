@@ -5,9 +5,9 @@ use Prim.Native.Nat.{ℕ}
 use lib.Dec.{ltb, leb, eqb}
 use lib.ListN.{length, getD, take, drop}
 use Rattle.bits.specs.Bits.{Bits, val}
-use Rattle.codes.specs.Table.{rowAt}
+use Rattle.codes.specs.Table.{cutAt, rowAt}
 use Rattle.fields.specs.declared.error.TextureParseError.{TextureParseError}
-use Rattle.fields.specs.declared.error.TextureParseError.the-variants.{Truncated}
+use Rattle.fields.specs.declared.error.TextureParseError.the-variants.{EndedInsideCode, Truncated}
 
 pub data Res (A : Type 0) : Type 0 where
   ok : A → Bits → Res A
@@ -25,12 +25,16 @@ mapped f (no e) = no e
 unfoldable pub field : ℕ → Bits → Res ℕ
 field n b = cond (leb n (length b)) (ok (val (take n b)) (drop n b)) (no Truncated)
 
--- a code among the first `rows` of a table, sought in `width` bits or in fewer if fewer remain: 1 if none remain, `err` with the window if no code begins them
+-- the refusal where no code begins the bits: 17 where they end inside one, else `err` with the window
+abbrev pub noCode : List ℕ → List ℕ → ℕ → ℕ → (ℕ → TextureParseError) → Bits → TextureParseError
+noCode cs ls width rows err b = cond (cutAt cs ls rows b) EndedInsideCode (err (val (take width b)))
+
+-- a code among the first `rows` of a table, sought in `width` bits or in fewer if fewer remain: 1 if none remain
 unfoldable pub code : List ℕ → List ℕ → ℕ → ℕ → (ℕ → TextureParseError) → Bits → Res ℕ
 code cs ls width rows err b =
     cond (eqb (length b) 0) (no Truncated)
     (cond (ltb (rowAt cs ls width rows b) rows) (ok (rowAt cs ls width rows b) (drop (getD ls (rowAt cs ls width rows b) 0) b))
-    (no (err (val (take width b)))))
+    (no (noCode cs ls width rows err b)))
 
 -- a bit that must be 1
 unfoldable pub marker : TextureParseError → Bits → Res ℕ

@@ -1,8 +1,10 @@
 // Codes of lent tables: a row whose code begins the bits.
+ghost use mathlib.Core.Bool.{cond};
 ghost use mathlib.Core.Path.{_≡_};
 ghost use Rattle.fields.specs.Answer.{CodeRead};
 ghost use Rattle.fields.specs.Inside.{invalid};
 ghost use Rattle.fields.specs.Outcomes.{CodeDue, gotOutcome};
+ghost use Rattle.fields.specs.declared.error.TextureParseError.the-variants.{EndedInsideCode};
 use crate::error::TextureParseError;
 use crate::field::Got;
 use bits::Cursor;
@@ -14,10 +16,13 @@ pub enum CodeKind {
     Tcoef,
 }
 
-// The refusal of a window in which no code stands.
-fn no_code(kind: CodeKind, window: u32) -> TextureParseError
-    ensures { λ r. ⌜ r ≡ invalid kind window ⌝ }
+// The refusal of a window in which no code stands, but one may end.
+fn no_code(kind: CodeKind, window: u32, ends_inside: bool) -> TextureParseError
+    ensures { λ r. ⌜ r ≡ cond «ends_inside» EndedInsideCode (invalid kind window) ⌝ }
 {
+    if ends_inside {
+        return TextureParseError::EndedInsideCode;
+    }
     match kind {
         CodeKind::DcSize => TextureParseError::InvalidDcSize { window },
         CodeKind::Tcoef => TextureParseError::InvalidTcoef { window },
@@ -53,7 +58,8 @@ pub fn read_code(
                     },
                 );
             }
-            Got::Refused(no_code(kind, window))
+            let ends_inside = codes::ends_inside(codes, lens, most, window, n);
+            Got::Refused(no_code(kind, window, ends_inside))
         }
     }
 }

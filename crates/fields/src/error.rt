@@ -3,7 +3,7 @@ ghost use mathlib.Core.Path.{_≡_};
 ghost use Rattle.fields.specs.Refusal.{figureOf, numberOf};
 
 pub enum TextureParseError {
-    // 1: the bits ended inside a field
+    // 1: no bits are left, or they ended inside a field
     Truncated,
     // 2: no code of a DC size begins the window
     InvalidDcSize { window: u32 },
@@ -21,6 +21,8 @@ pub enum TextureParseError {
     Overflow { position: u32 },
     // 11: data too long, or a start past its end
     OutOfRange,
+    // 17: the bits ended inside a code
+    EndedInsideCode,
 }
 
 impl TextureParseError {
@@ -38,6 +40,7 @@ impl TextureParseError {
             TextureParseError::RvlcEscapeDelimiterMissing { window: _ } => 7,
             TextureParseError::Overflow { position: _ } => 8,
             TextureParseError::OutOfRange => 11,
+            TextureParseError::EndedInsideCode => 17,
         }
     }
 
@@ -55,6 +58,7 @@ impl TextureParseError {
             TextureParseError::RvlcEscapeDelimiterMissing { window } => window,
             TextureParseError::Overflow { position } => position,
             TextureParseError::OutOfRange => 0,
+            TextureParseError::EndedInsideCode => 0,
         }
     }
 }

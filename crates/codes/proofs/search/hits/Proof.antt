@@ -1,17 +1,11 @@
 -- `codes::hits` meets its contract: a shift past the width leaves nothing of the window. Assumes nothing.
 use mathlib.Core.Path.{_∙_, _≡_, ap, sym}
-use Prim.Native.Nat.{_-_, _/_, _<_, _^_, _≤_, ℕ}
-use native.Mathlib.Nat.{div-eq-of-lt, lt-of-lt-of-le}
+use Prim.Native.Nat.{_-_, _/_, _^_, ℕ}
 use lib.Dec.{eqb}
-use lib.Pow.{pow-mono}
 use borrow.Author.Needs.{needs}
-use Rattle.codes.proofs.TableLaws.{hit-is, hit-short}
+use Rattle.codes.proofs.TableLaws.{hit-is, hit-short, shifted-out}
 use Rattle.codes.proofs.search.hits.Statement.{statement}
 use Rattle.codes.proofs.search.hits.Tie as tie
-
--- a shift past the width leaves nothing
-shifted-out : (w k : ℕ) → w < 2 ^ 32 → 32 ≤ k → w / 2 ^ k ≡ 0
-shifted-out w k h l = div-eq-of-lt (lt-of-lt-of-le h (pow-mono l))
 
 returns : tie.Need-returns
 returns c = let a = c .before .args in sym (hit-short (a .window) (a .n) (a .code) (a .len) (c .if1 .taken))

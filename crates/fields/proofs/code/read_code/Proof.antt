@@ -7,7 +7,7 @@ use denote.Ref.{now}
 use borrow.Author.Needs.{needs}
 use Rattle.bits.specs.Bits.{bitsFrom, val}
 use Rattle.codes.specs.Table.{rowIn}
-use Rattle.fields.proofs.CodeLaws.{Shown, found-at, found-small, row-is-found, row-missing, row-no-window, row-there, window-is}
+use Rattle.fields.proofs.CodeLaws.{Shown, ends-at, found-at, found-small, row-is-found, row-missing, row-no-window, row-there, window-is}
 use Rattle.fields.proofs.OutcomeLaws.{code-both}
 use Rattle.fields.proofs.code.read_code.Statement.{statement}
 use Rattle.fields.specs.Answer.{CodeRead, FoundAt, rowAnswer, rowsOf}
@@ -61,14 +61,14 @@ enum-known-window c = search needs
 find-row-requires : tie.Need-find-row-requires
 find-row-requires c κs = search needs
 
-cast-t21 : tie.Need-cast-t21
-cast-t21 c = search needs
+cast-t22 : tie.Need-cast-t22
+cast-t22 c = search needs
 
-mul-t22 : tie.Need-mul-t22
-mul-t22 c = search needs
+mul-t23 : tie.Need-mul-t23
+mul-t23 c = search needs
 
-shared-slice-read-t24 : tie.Need-shared-slice-read-t24
-shared-slice-read-t24 c = search needs
+shared-slice-read-t25 : tie.Need-shared-slice-read-t25
+shared-slice-read-t25 c = search needs
 
 -- the code ends not far behind the data
 small : (c : tie.After-shared-slice-known4) → let f = c .before .before in
@@ -82,16 +82,16 @@ small c =
     let k = c .before .if1 .taken in
     found-small (now (a .«data»)) (a .c .«bit_pos») (now (a .codes)) (now (a .lens)) (a .width) (a .rows) (shown f) _ (found f) (omega arith)
 
-cast-t25 : tie.Need-cast-t25
-cast-t25 c = omega (arith, small c)
+cast-t26 : tie.Need-cast-t26
+cast-t26 c = omega (arith, small c)
 
-add-t26 : tie.Need-add-t26
-add-t26 c = omega (arith, small c)
+add-t27 : tie.Need-add-t27
+add-t27 c = omega (arith, small c)
 
 -- the answer of a row
 by-row : (s : tie.Start) (r : Got) (i : ℕ) → let a = s .args in
     FoundAt (now (a .«data»)) (a .c .«bit_pos») (now (a .codes)) (now (a .lens)) (a .width) (a .rows) i
-    → r ≡ rowAnswer (now (a .«data»)) (a .c .«bit_pos») (now (a .lens)) (a .width) (rowsOf (now (a .codes)) (now (a .lens)) (a .rows)) (invalid (a .kind)) i
+    → r ≡ rowAnswer (now (a .«data»)) (a .c .«bit_pos») (now (a .codes)) (now (a .lens)) (a .width) (rowsOf (now (a .codes)) (now (a .lens)) (a .rows)) (invalid (a .kind)) i
     → CodeRead (now (a .«data»)) (a .c .«bit_pos») (now (a .codes)) (now (a .lens)) (a .width) (a .rows) (invalid (a .kind)) r
 by-row s r i f e = (i, (f, e))
 
@@ -105,7 +105,10 @@ returns c =
     let k = c .before .if1 .taken in
     code-both (now (a .«data»)) (a .c .«bit_pos») (now (a .codes)) (now (a .lens)) (a .width) (a .rows) (invalid (a .kind)) _
     (by-row s _ (f .find-row .result) (found f)
-    (row-there (now (a .«data»)) (a .c .«bit_pos») (a .width) (now (a .lens)) (rowsOf (now (a .codes)) (now (a .lens)) (a .rows)) (invalid (a .kind)) (shown f) (f .find-row .result) (omega arith)))
+    (row-there (now (a .«data»)) (a .c .«bit_pos») (a .width) (now (a .codes)) (now (a .lens)) (rowsOf (now (a .codes)) (now (a .lens)) (a .rows)) (invalid (a .kind)) (shown f) (f .find-row .result) (omega arith)))
+
+ends-inside-requires : tie.Need-ends-inside-requires
+ends-inside-requires c κs = search needs
 
 no-code-requires : tie.Need-no-code-requires
 no-code-requires c κs = search needs
@@ -119,19 +122,21 @@ returns-2 c =
     let i = rowIn (now (a .codes)) (now (a .lens)) (rowsOf (now (a .codes)) (now (a .lens)) (a .rows)) (val (take (a .width) b)) (length (take (a .width) b)) in
     code-both (now (a .«data»)) (a .c .«bit_pos») (now (a .codes)) (now (a .lens)) (a .width) (a .rows) (invalid (a .kind)) _
     (by-row s _ i (row-is-found (now (a .codes)) (now (a .lens)) (rowsOf (now (a .codes)) (now (a .lens)) (a .rows)) (val (take (a .width) b)) (length (take (a .width) b)))
-    (ap Refused (c .refusal .ensures) ∙ row-no-window (now (a .«data»)) (a .c .«bit_pos») (a .width) (now (a .lens)) (rowsOf (now (a .codes)) (now (a .lens)) (a .rows)) (invalid (a .kind)) _ (sym (e .e .given .1) ∙ e .before .before .next-window .ensures .0) i))
+    (ap Refused (c .refusal .ensures) ∙ row-no-window (now (a .«data»)) (a .c .«bit_pos») (a .width) (now (a .codes)) (now (a .lens)) (rowsOf (now (a .codes)) (now (a .lens)) (a .rows)) (invalid (a .kind)) _ (sym (e .e .given .1) ∙ e .before .before .next-window .ensures .0) i))
 
 returns-3 : tie.Need-returns-3
 returns-3 c =
-    let f = c .before .before in
+    let n = c .before in
+    let f = n .before .before in
     let l = f .before .before .before .before .before in
     let s = l .before .before .before .before .before .before in
     let a = s .args in
     let h = most l in
-    let k = c .before .if1 .left in
+    let k = n .before .if1 .left in
     code-both (now (a .«data»)) (a .c .«bit_pos») (now (a .codes)) (now (a .lens)) (a .width) (a .rows) (invalid (a .kind)) _
     (by-row s _ (f .find-row .result) (found f)
-    (ap Refused (c .no-code .ensures) ∙ row-missing (now (a .«data»)) (a .c .«bit_pos») (a .width) (now (a .lens)) (rowsOf (now (a .codes)) (now (a .lens)) (a .rows)) (invalid (a .kind)) (shown f) (f .find-row .result) (omega arith)))
+    (ap Refused (c .no-code .ensures) ∙ row-missing (now (a .«data»)) (a .c .«bit_pos») (a .width) (now (a .codes)) (now (a .lens)) (rowsOf (now (a .codes)) (now (a .lens)) (a .rows)) (invalid (a .kind)) (shown f) (f .find-row .result) (omega arith)
+    (n .ends-inside .result) (n .ends-inside .ensures ∙ ends-at (now (a .codes)) (now (a .lens)) (a .rows) _ _ (l .least3 .result) h)))
 
 pub read-code-spec : {M : Type 1} → statement M
-read-code-spec = tie.close (tie.spec least-requires least-requires-2 least-requires-3 next-window-requires enum-known-e refusal-requires enum-known-window find-row-requires cast-t21 mul-t22 shared-slice-read-t24 cast-t25 add-t26 returns no-code-requires returns-2 returns-3)
+read-code-spec = tie.close (tie.spec least-requires least-requires-2 least-requires-3 next-window-requires enum-known-e refusal-requires enum-known-window find-row-requires cast-t22 mul-t23 shared-slice-read-t25 cast-t26 add-t27 returns ends-inside-requires no-code-requires returns-2 returns-3)
