@@ -1,4 +1,4 @@
--- Reading a DC part refuses by 1 to 3 alone: 11 is told before any bit. Assumes nothing.
+-- Reading a DC part refuses by 1 to 3 and 17 alone: 11 is told before any bit. Assumes nothing.
 use Prim.Native.Nat.{ℕ}
 use lib.Dec.{leb}
 use Rattle.bits.specs.Bits.{Bits}

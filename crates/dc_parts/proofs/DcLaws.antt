@@ -1,4 +1,4 @@
--- The reader of a DC part reads its grammar, and the answer to one, case by case. Assumes nothing.
+-- The reader of a DC part reads its grammar and is stopped where a part breaks off, and the answer to one, case by case. Assumes nothing.
 use mathlib.Core.Bool.{Bool, cond, false, true}
 use mathlib.Core.List.{List, [], _++_, _∷_, append-assoc}
 use mathlib.Core.Path.{_≡_, _∙_, ap, ap₂, refl, subst₂, sym}
@@ -20,7 +20,8 @@ use Rattle.dc_parts.specs.DcReader.{dcTail, readDc}
 use Rattle.dc_parts.specs.declared.dc.DcRead.the-variants.{Dc as DcIs, Refused as DcRefused}
 use Rattle.dc_parts.specs.declared.dc.IntraDcDifferential.{IntraDcDifferential}
 use Rattle.fields.proofs.ChainLaws.{First, place-is, refused-first}
-use Rattle.fields.proofs.ReadLaws.{bind-by, bind-ok, code-complete, code-sound, field-complete, field-sound, marker-complete, marker-sound}
+use Rattle.fields.proofs.ReadLaws.{bind-ok, code-sound, field-sound, marker-sound}
+use Rattle.fields.proofs.TakeLaws.{Takes, code-takes, field-takes, last-takes, marker-takes, nothing-takes, then-takes}
 use Rattle.fields.specs.Answer.{codeAnswer}
 use Rattle.fields.specs.Reader.{no, ok, bind, field, code, marker, Res, mapped}
 use Rattle.fields.specs.declared.error.TextureParseError.{TextureParseError}
@@ -63,13 +64,13 @@ tail-sound n b {a} {r} q =
         let e₂ : y .rest ≡ r = cc in
         (rw (← e₁) h, e ∙ ap₂ (λ (i : ℕ) (k : Bits). bin n i ++ k) e₁ (m ∙ ap (λ (k : Bits). bin 1 1 ++ k) e₂))
 
-tail-complete : (n a : ℕ) (r : Bits) → a < 2 ^ n → dcTail n (bin n a ++ (markerOf n ++ r)) ≡ ok a r
+tail-takes : (n a : ℕ) → a < 2 ^ n → Takes (dcTail n) (bin n a ++ markerOf n) a
 unfolding dcTail
-tail-complete n a r h = bind-by _ (field-complete n a (markerOf n ++ r) h) ∙ go (leb n 8)
+tail-takes n a h = then-takes (field n) _ (field-takes n a h) (go (leb n 8))
   where
-    go : (t : Bool) → cond t (ok a (cond t [] (bin 1 1) ++ r)) (bind (marker MarkerBitMissing (cond t [] (bin 1 1) ++ r)) (λ _ r. ok a r)) ≡ ok a r
-    go true = refl
-    go false = bind-by _ (marker-complete MarkerBitMissing r)
+    go : (t : Bool) → Takes (λ r. cond t (ok a r) (bind (marker MarkerBitMissing r) (λ _ r. ok a r))) (cond t [] (bin 1 1)) a
+    go true = nothing-takes a
+    go false = last-takes (marker MarkerBitMissing) _ (marker-takes MarkerBitMissing) (λ s. refl)
 
 module _ (c : DcComponent) where
   enough : 13 ≤ length (dcCodes c)
@@ -88,14 +89,12 @@ module _ (c : DcComponent) where
       subst₂ (λ (y : Dc) (z : Bits). GoodDc c y × (b ≡ dcBits c y ++ z)) e₁ e₂
       ((f .0, g .0), f .1 ∙ ap (λ (k : Bits). codeBits (dcCodes c) (dcLens c) (u .got) ++ k) (g .1) ∙ simp append-assoc)
 
-  pub dc-complete : (x : Dc) (r : Bits) → GoodDc c x → readDc c (dcBits c x ++ r) ≡ ok x r
+  -- and where a DC part breaks off it is stopped
+  pub dc-takes : (x : Dc) → GoodDc c x → Takes (readDc c) (dcBits c x) x
   unfolding readDc GoodDc dcBits
-  dc-complete (dc i a) r h =
-      let t : Bits = bin (sizeAt c i) a ++ markerOf (sizeAt c i) in
-      let e : (codeBits (dcCodes c) (dcLens c) i ++ t) ++ r ≡ codeBits (dcCodes c) (dcLens c) i ++ (bin (sizeAt c i) a ++ (markerOf (sizeAt c i) ++ r)) = simp append-assoc in
-      ap (readDc c) e
-      ∙ bind-by _ (code-complete (dcCodes c) (dcLens c) 13 13 InvalidDcSize (dc-prefix-free c) enough i (bin (sizeAt c i) a ++ (markerOf (sizeAt c i) ++ r)) (h .0))
-      ∙ bind-by _ (tail-complete (sizeAt c i) a r (h .1))
+  dc-takes (dc i a) h =
+      then-takes (code (dcCodes c) (dcLens c) 13 13 InvalidDcSize) _ (code-takes (dcCodes c) (dcLens c) 13 13 InvalidDcSize (dc-prefix-free c) enough i (h .0))
+      (last-takes (dcTail (sizeAt c i)) _ (tail-takes (sizeAt c i) a (h .1)) (λ s. refl))
 
 -- ---- the answer, case by case
 

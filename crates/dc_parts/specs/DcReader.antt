@@ -1,4 +1,4 @@
--- The reader of a DC part, in reading order: 1, 2 with the window, 3. Definitions only.
+-- The reader of a DC part, in reading order: 1, 17 or 2 with the window, 3. Definitions only.
 use mathlib.Core.Bool.{cond}
 use Prim.Native.Nat.{ℕ}
 use lib.Dec.{leb}

@@ -1,4 +1,4 @@
--- Reading an event refuses by 1 and 4 to 7 alone: 11 is told before any bit. Assumes nothing.
+-- Reading an event refuses by 1, 4 to 7 and 17 alone: 11 is told before any bit. Assumes nothing.
 use mathlib.Core.Bool.{Bool, false, true}
 use Prim.Native.Nat.{ℕ}
 use lib.Dec.{eqb}

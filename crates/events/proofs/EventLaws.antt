@@ -1,4 +1,4 @@
--- The reader of one plain event reads its grammar. Assumes nothing.
+-- The reader of one plain event reads its grammar, and is stopped where an event breaks off. Assumes nothing.
 use mathlib.Core.Bool.{Bool, false, cond}
 use mathlib.Core.List.{append-assoc}
 use mathlib.Core.Logic.{⊎-elim}
@@ -11,11 +11,12 @@ use borrow.Author.Tests.{ne-eqb, eqb-true, eqb-false}
 use Rattle.bits.specs.Bits.{Bits, bin}
 use Rattle.codes.proofs.PrefixFree.{vlc-prefix-free, vlc-rows}
 use Rattle.codes.specs.Tcoef.{vlcCodes, vlcLens}
-use Rattle.events.specs.Event.{Event, plain, type1, type2, type3, vlcBits, escape, eventBits, GoodEvent, _▸_}
+use Rattle.events.specs.Event.{Event, plain, type1, type2, type3, rvlc, rvlcEscape, vlcBits, escape, eventBits, GoodEvent, _▸_}
 use Rattle.events.specs.EventReader.{spelled, sign, signed, level, runAndLevel, longer, fixed, escaped, plainEvent}
 use Rattle.events.specs.declared.event.RowForm.{RowForm}
 use Rattle.events.specs.declared.event.RowForm.the-variants.{Plain, Type1, Type2}
-use Rattle.fields.proofs.ReadLaws.{bind-ok, bind-by, cond-ok, no-ok, field-sound, field-complete, marker-sound, marker-complete, code-sound, code-complete}
+use Rattle.fields.proofs.ReadLaws.{bind-ok, cond-ok, no-ok, field-sound, marker-sound, code-sound}
+use Rattle.fields.proofs.TakeLaws.{Takes, code-takes, else-takes, field-takes, last-takes, marker-takes, then-takes}
 use Rattle.fields.specs.Reader.{ok, no, bind, field, code, marker}
 use Rattle.fields.specs.declared.error.TextureParseError.the-variants.{InvalidTcoef, EscapeMarkerBitMissing, ReservedEscapeLevel}
 
@@ -52,11 +53,13 @@ enough = let n = vlc-rows .0 in omega arith
 every : 103 ≤ length vlcCodes
 every = let n = vlc-rows .0 in omega arith
 
-pub signed-complete : (k : RowForm) (i s : ℕ) (r : Bits) → i < 102 → s < 2 → signed k (vlcBits i ▸ bin 1 s ▸ r) ≡ ok (spelled k i s) r
-unfolding signed sign
-signed-complete k i s r h h′ =
-    bind-by _ (code-complete vlcCodes vlcLens 13 102 InvalidTcoef vlc-prefix-free enough i (bin 1 s ▸ r) h)
-    ∙ bind-by _ (field-complete 1 s r h′)
+pub sign-takes : (k : RowForm) (i s : ℕ) → s < 2 → Takes (sign k i) (bin 1 s) (spelled k i s)
+unfolding sign
+sign-takes k i s h = last-takes (field 1) _ (field-takes 1 s h) (λ r. refl)
+
+signed-takes : (k : RowForm) (i s : ℕ) → i < 102 → s < 2 → Takes (signed k) (vlcBits i ▸ bin 1 s) (spelled k i s)
+unfolding signed
+signed-takes k i s h l = then-takes (code vlcCodes vlcLens 13 102 InvalidTcoef) _ (code-takes vlcCodes vlcLens 13 102 InvalidTcoef vlc-prefix-free enough i h) (sign-takes k i s l)
 
 -- ---- type 3
 
@@ -113,17 +116,20 @@ fixed-sound b {e} {r} q =
         (cond-ok (eqb v 2048) (no ReservedEscapeLevel) (ok (type3 l n v) s) (w .1)))
         (cond-ok (eqb v 0) (no ReservedEscapeLevel) (cond (eqb v 2048) (no ReservedEscapeLevel) (ok (type3 l n v) s)) q)
 
-pub fixed-complete : (l n v : ℕ) (r : Bits) → l < 2 → n < 64 → v < 4096 → (v ≡ 0 → ⊥) → (v ≡ 2048 → ⊥)
-    → fixed (bin 1 l ▸ bin 6 n ▸ bin 1 1 ▸ bin 12 v ▸ bin 1 1 ▸ r) ≡ ok (type3 l n v) r
+fixed-takes : (l n v : ℕ) → l < 2 → n < 64 → v < 4096 → (v ≡ 0 → ⊥) → (v ≡ 2048 → ⊥)
+    → Takes fixed (bin 1 l ▸ bin 6 n ▸ bin 1 1 ▸ bin 12 v ▸ bin 1 1) (type3 l n v)
 unfolding fixed runAndLevel level
-fixed-complete l n v r h₁ h₂ h₃ h₄ h₅ =
-    bind-by _ (field-complete 1 l (bin 6 n ▸ bin 1 1 ▸ bin 12 v ▸ bin 1 1 ▸ r) h₁)
-    ∙ bind-by _ (field-complete 6 n (bin 1 1 ▸ bin 12 v ▸ bin 1 1 ▸ r) h₂)
-    ∙ bind-by _ (marker-complete EscapeMarkerBitMissing (bin 12 v ▸ bin 1 1 ▸ r))
-    ∙ bind-by _ (field-complete 12 v (bin 1 1 ▸ r) h₃)
-    ∙ bind-by _ (marker-complete EscapeMarkerBitMissing r)
-    ∙ ap (λ (x : Bool). cond x (no ReservedEscapeLevel) (cond (eqb v 2048) (no ReservedEscapeLevel) (ok (type3 l n v) r))) (ne-eqb v 0 h₄)
-    ∙ ap (λ (x : Bool). cond x (no ReservedEscapeLevel) (ok (type3 l n v) r)) (ne-eqb v 2048 h₅)
+fixed-takes l n v h₁ h₂ h₃ h₄ h₅ =
+    then-takes (field 1) _ (field-takes 1 l h₁)
+    (then-takes (field 6) _ (field-takes 6 n h₂)
+    (then-takes (marker EscapeMarkerBitMissing) _ (marker-takes EscapeMarkerBitMissing)
+    (then-takes (field 12) _ (field-takes 12 v h₃)
+    (last-takes (marker EscapeMarkerBitMissing) _ (marker-takes EscapeMarkerBitMissing) fine))))
+  where
+    fine : (r : Bits) → cond (eqb v 0) (no ReservedEscapeLevel) (cond (eqb v 2048) (no ReservedEscapeLevel) (ok (type3 l n v) r)) ≡ ok (type3 l n v) r
+    fine r =
+        ap (λ (x : Bool). cond x (no ReservedEscapeLevel) (cond (eqb v 2048) (no ReservedEscapeLevel) (ok (type3 l n v) r))) (ne-eqb v 0 h₄)
+        ∙ ap (λ (x : Bool). cond x (no ReservedEscapeLevel) (ok (type3 l n v) r)) (ne-eqb v 2048 h₅)
 
 -- ---- an escape, after its code
 
@@ -133,25 +139,16 @@ two zero x h = refl
 two (suc zero) x h = refl
 two (suc (suc c)) x h = absurd (omega arith)
 
-esc-1 : (i s : ℕ) (r : Bits) → i < 102 → s < 2 → escaped (bin 1 0 ▸ vlcBits i ▸ bin 1 s ▸ r) ≡ ok (type1 i s) r
-unfolding escaped longer
-esc-1 i s r h h′ = bind-by _ (field-complete 1 0 (vlcBits i ▸ bin 1 s ▸ r) (lit< tt)) ∙ signed-complete Type1 i s r h h′
+-- 0, or 1 and a bit more
+type-1-takes : (i s : ℕ) → i < 102 → s < 2 → Takes escaped (bin 1 0 ▸ vlcBits i ▸ bin 1 s) (type1 i s)
+unfolding escaped
+type-1-takes i s h l = then-takes (field 1) _ (field-takes 1 0 (lit< tt)) (signed-takes Type1 i s h l)
 
-esc-2 : (i s : ℕ) (r : Bits) → i < 102 → s < 2 → escaped (bin 2 2 ▸ vlcBits i ▸ bin 1 s ▸ r) ≡ ok (type2 i s) r
+longer-takes : (c : ℕ) (x : Bits) (e : Event) → c < 2 → Takes (λ b. cond (eqb c 0) (signed Type2 b) (fixed b)) x e → Takes escaped (bin 2 (2 + c) ▸ x) e
 unfolding escaped longer
-esc-2 i s r h h′ =
-    ap escaped (two 0 (vlcBits i ▸ bin 1 s ▸ r) (lit< tt))
-    ∙ bind-by _ (field-complete 1 1 (bin 1 0 ▸ vlcBits i ▸ bin 1 s ▸ r) (lit< tt))
-    ∙ bind-by _ (field-complete 1 0 (vlcBits i ▸ bin 1 s ▸ r) (lit< tt)) ∙ signed-complete Type2 i s r h h′
-
-esc-3 : (l n v : ℕ) (r : Bits) → l < 2 → n < 64 → v < 4096 → (v ≡ 0 → ⊥) → (v ≡ 2048 → ⊥)
-    → escaped (bin 2 3 ▸ bin 1 l ▸ bin 6 n ▸ bin 1 1 ▸ bin 12 v ▸ bin 1 1 ▸ r) ≡ ok (type3 l n v) r
-unfolding escaped longer
-esc-3 l n v r h₁ h₂ h₃ h₄ h₅ =
-    let x : Bits = bin 1 l ▸ bin 6 n ▸ bin 1 1 ▸ bin 12 v ▸ bin 1 1 ▸ r in
-    ap escaped (two 1 x (lit< tt))
-    ∙ bind-by _ (field-complete 1 1 (bin 1 1 ▸ x) (lit< tt))
-    ∙ bind-by _ (field-complete 1 1 x (lit< tt)) ∙ fixed-complete l n v r h₁ h₂ h₃ h₄ h₅
+longer-takes c x e h t =
+    subst (λ (b : Bits). Takes escaped b e) (sym (two c x h))
+    (then-takes (field 1) _ (field-takes 1 1 (lit< tt)) (then-takes (field 1) _ (field-takes 1 c h) t))
 
 -- what follows the escape code of an event
 abbrev Escaped : Bits → Event → Bits → Type 0
@@ -203,26 +200,18 @@ escaped-sound b {e} {r} q =
 -- ---- an event
 
 -- the code of any row but the escape's, or the escape's, and what comes after it
-row-then : (i : ℕ) (x : Bits) → i < 103 → plainEvent (vlcBits i ▸ x) ≡ cond (eqb i 102) (escaped x) (sign Plain i x)
-unfolding plainEvent sign
-row-then i x h = bind-by _ (code-complete vlcCodes vlcLens 13 103 InvalidTcoef vlc-prefix-free every i x h)
+row-takes : (i : ℕ) (x : Bits) (e : Event) → i < 103 → Takes (λ b. cond (eqb i 102) (escaped b) (sign Plain i b)) x e → Takes plainEvent (vlcBits i ▸ x) e
+unfolding plainEvent
+row-takes i x e h t = then-takes (code vlcCodes vlcLens 13 103 InvalidTcoef) _ (code-takes vlcCodes vlcLens 13 103 InvalidTcoef vlc-prefix-free every i h) t
 
-pub plain-complete : (e : Event) (r : Bits) → GoodEvent false e → plainEvent (eventBits e ▸ r) ≡ ok e r
-unfolding sign eventBits GoodEvent
-plain-complete (plain i s) r g =
-    ap plainEvent (append-assoc (vlcBits i) (bin 1 s) r) ∙ row-then i (bin 1 s ▸ r) (omega arith)
-    ∙ ap (λ (t : Bool). cond t (escaped (bin 1 s ▸ r)) (bind (field 1 (bin 1 s ▸ r)) (λ s r. ok (plain i s) r))) (ne-eqb i 102 (λ z. omega arith))
-    ∙ bind-by _ (field-complete 1 s r (g .1))
-plain-complete (type1 i s) r g =
-    let x : (escape ▸ bin 1 0 ▸ vlcBits i ▸ bin 1 s) ▸ r ≡ escape ▸ bin 1 0 ▸ vlcBits i ▸ bin 1 s ▸ r = simp append-assoc in
-    ap plainEvent x ∙ row-then 102 (bin 1 0 ▸ vlcBits i ▸ bin 1 s ▸ r) (lit< tt) ∙ esc-1 i s r (g .0) (g .1)
-plain-complete (type2 i s) r g =
-    let x : (escape ▸ bin 2 2 ▸ vlcBits i ▸ bin 1 s) ▸ r ≡ escape ▸ bin 2 2 ▸ vlcBits i ▸ bin 1 s ▸ r = simp append-assoc in
-    ap plainEvent x ∙ row-then 102 (bin 2 2 ▸ vlcBits i ▸ bin 1 s ▸ r) (lit< tt) ∙ esc-2 i s r (g .0) (g .1)
-plain-complete (type3 l n v) r g =
-    let y : Bits = bin 1 l ▸ bin 6 n ▸ bin 1 1 ▸ bin 12 v ▸ bin 1 1 ▸ r in
-    let x : (escape ▸ bin 2 3 ▸ bin 1 l ▸ bin 6 n ▸ bin 1 1 ▸ bin 12 v ▸ bin 1 1) ▸ r ≡ escape ▸ bin 2 3 ▸ bin 1 l ▸ bin 6 n ▸ bin 1 1 ▸ bin 12 v ▸ bin 1 1 ▸ r = simp append-assoc in
-    ap plainEvent x ∙ row-then 102 (bin 2 3 ▸ y) (lit< tt) ∙ esc-3 l n v r (g .0) (g .1) (g .2) (g .3) (g .4)
+pub plain-takes : (e : Event) → GoodEvent false e → Takes plainEvent (eventBits e) e
+unfolding eventBits GoodEvent
+plain-takes (plain i s) g = row-takes i (bin 1 s) (plain i s) (omega arith) (else-takes escaped (sign Plain i) (eqb i 102) (ne-eqb i 102 (λ z. omega arith)) (sign-takes Plain i s (g .1)))
+plain-takes (type1 i s) g = row-takes 102 _ (type1 i s) (lit< tt) (type-1-takes i s (g .0) (g .1))
+plain-takes (type2 i s) g = row-takes 102 _ (type2 i s) (lit< tt) (longer-takes 0 _ (type2 i s) (lit< tt) (signed-takes Type2 i s (g .0) (g .1)))
+plain-takes (type3 l n v) g = row-takes 102 _ (type3 l n v) (lit< tt) (longer-takes 1 _ (type3 l n v) (lit< tt) (fixed-takes l n v (g .0) (g .1) (g .2) (g .3) (g .4)))
+plain-takes (rvlc i s) g = absurd g
+plain-takes (rvlcEscape l n m s) g = absurd g
 
 pub plain-sound : (b : Bits) {e : Event} {r : Bits} → plainEvent b ≡ ok e r → GoodEvent false e × (b ≡ eventBits e ▸ r)
 unfolding plainEvent sign GoodEvent eventBits

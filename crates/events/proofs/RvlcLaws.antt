@@ -1,4 +1,4 @@
--- The reader of one reversible event reads its grammar. Assumes nothing.
+-- The reader of one reversible event reads its grammar, and is stopped where an event breaks off. Assumes nothing.
 use mathlib.Core.Bool.{Bool, cond, false, true}
 use mathlib.Core.List.{append-assoc}
 use mathlib.Core.Logic.{⊎-elim}
@@ -14,7 +14,9 @@ use Rattle.codes.specs.Rvlc.{rvlcCodes, rvlcLens}
 use Rattle.events.specs.Event.{Event, GoodEvent, _▸_, eventBits, plain, rvlc, rvlcBits, rvlcEscape, rvlcOpening, type1, type2, type3}
 use Rattle.events.specs.EventReader.{sign, rvlcSign, rvlcDelimiter, rvlcMagnitude, rvlcRun, rvlcEscaped, rvlcEvent}
 use Rattle.events.specs.declared.event.RowForm.the-variants.{Reversible}
-use Rattle.fields.proofs.ReadLaws.{bind-by, bind-ok, code-complete, code-sound, cond-ok, field-complete, field-sound, marker-complete, marker-sound, no-ok}
+use Rattle.events.proofs.EventLaws.{sign-takes}
+use Rattle.fields.proofs.ReadLaws.{bind-ok, code-sound, cond-ok, field-sound, marker-sound, no-ok}
+use Rattle.fields.proofs.TakeLaws.{Takes, code-takes, else-takes, field-takes, last-takes, marker-takes, then-takes}
 use Rattle.fields.specs.Reader.{ok, no, bind, field, code, marker}
 use Rattle.fields.specs.declared.error.TextureParseError.the-variants.{InvalidTcoef, EscapeMarkerBitMissing, ReservedEscapeLevel, RvlcEscapeDelimiterMissing}
 
@@ -91,39 +93,33 @@ rvlc-escaped-sound b {e} {r} q =
         ends l n m (x .got) (x .rest) h₁ h₂ h₃ (f .0) (x .then)
         (subst (λ (k : Bits). b ≡ bin 1 l ▸ bin 6 n ▸ bin 1 1 ▸ bin 11 m ▸ bin 1 1 ▸ bin 4 0 ▸ k) (f .1) eq)
 
-escaped-complete : (l n m s : ℕ) (r : Bits) → l < 2 → n < 64 → m < 2048 → s < 2 → (m ≡ 0 → ⊥)
-    → rvlcEscaped (bin 1 l ▸ bin 6 n ▸ bin 1 1 ▸ bin 11 m ▸ bin 1 1 ▸ bin 4 0 ▸ bin 1 s ▸ r) ≡ ok (rvlcEscape l n m s) r
+escaped-takes : (l n m s : ℕ) → l < 2 → n < 64 → m < 2048 → s < 2 → (m ≡ 0 → ⊥)
+    → Takes rvlcEscaped (bin 1 l ▸ bin 6 n ▸ bin 1 1 ▸ bin 11 m ▸ bin 1 1 ▸ bin 4 0 ▸ bin 1 s) (rvlcEscape l n m s)
 unfolding rvlcEscaped rvlcRun rvlcMagnitude rvlcDelimiter rvlcSign
-escaped-complete l n m s r h₁ h₂ h₃ h₄ h₅ =
-    bind-by _ (field-complete 1 l (bin 6 n ▸ bin 1 1 ▸ bin 11 m ▸ bin 1 1 ▸ bin 4 0 ▸ bin 1 s ▸ r) h₁)
-    ∙ bind-by _ (field-complete 6 n (bin 1 1 ▸ bin 11 m ▸ bin 1 1 ▸ bin 4 0 ▸ bin 1 s ▸ r) h₂)
-    ∙ bind-by _ (marker-complete EscapeMarkerBitMissing (bin 11 m ▸ bin 1 1 ▸ bin 4 0 ▸ bin 1 s ▸ r))
-    ∙ bind-by _ (field-complete 11 m (bin 1 1 ▸ bin 4 0 ▸ bin 1 s ▸ r) h₃)
-    ∙ bind-by _ (marker-complete EscapeMarkerBitMissing (bin 4 0 ▸ bin 1 s ▸ r))
-    ∙ bind-by _ (field-complete 4 0 (bin 1 s ▸ r) (lit< tt))
-    ∙ bind-by _ (field-complete 1 s r h₄)
-    ∙ ap (λ (x : Bool). cond x (no ReservedEscapeLevel) (ok (rvlcEscape l n m s) r)) (ne-eqb m 0 h₅)
+escaped-takes l n m s h₁ h₂ h₃ h₄ h₅ =
+    then-takes (field 1) _ (field-takes 1 l h₁)
+    (then-takes (field 6) _ (field-takes 6 n h₂)
+    (then-takes (marker EscapeMarkerBitMissing) _ (marker-takes EscapeMarkerBitMissing)
+    (then-takes (field 11) _ (field-takes 11 m h₃)
+    (then-takes (marker EscapeMarkerBitMissing) _ (marker-takes EscapeMarkerBitMissing)
+    (then-takes (field 4) _ (field-takes 4 0 (lit< tt))
+    (last-takes (field 1) _ (field-takes 1 s h₄)
+    (λ r. ap (λ (x : Bool). cond x (no ReservedEscapeLevel) (ok (rvlcEscape l n m s) r)) (ne-eqb m 0 h₅))))))))
 
 -- ---- an event
 
-row-then : (i : ℕ) (x : Bits) → i < 170 → rvlcEvent (rvlcBits i ▸ x) ≡ cond (eqb i 169) (rvlcEscaped x) (sign Reversible i x)
-unfolding rvlcEvent sign
-row-then i x h = bind-by _ (code-complete rvlcCodes rvlcLens 16 170 InvalidTcoef rvlc-prefix-free all i x h)
+row-takes : (i : ℕ) (x : Bits) (e : Event) → i < 170 → Takes (λ b. cond (eqb i 169) (rvlcEscaped b) (sign Reversible i b)) x e → Takes rvlcEvent (rvlcBits i ▸ x) e
+unfolding rvlcEvent
+row-takes i x e h t = then-takes (code rvlcCodes rvlcLens 16 170 InvalidTcoef) _ (code-takes rvlcCodes rvlcLens 16 170 InvalidTcoef rvlc-prefix-free all i h) t
 
-pub rvlc-complete : (e : Event) (r : Bits) → GoodEvent true e → rvlcEvent (eventBits e ▸ r) ≡ ok e r
-unfolding sign eventBits GoodEvent
-rvlc-complete (plain i s) r g = absurd g
-rvlc-complete (type1 i s) r g = absurd g
-rvlc-complete (type2 i s) r g = absurd g
-rvlc-complete (type3 l n v) r g = absurd g
-rvlc-complete (rvlc i s) r g =
-    ap rvlcEvent (append-assoc (rvlcBits i) (bin 1 s) r) ∙ row-then i (bin 1 s ▸ r) (omega arith)
-    ∙ ap (λ (t : Bool). cond t (rvlcEscaped (bin 1 s ▸ r)) (bind (field 1 (bin 1 s ▸ r)) (λ s r. ok (rvlc i s) r))) (ne-eqb i 169 (λ z. omega arith))
-    ∙ bind-by _ (field-complete 1 s r (g .1))
-rvlc-complete (rvlcEscape l n m s) r g =
-    let y : Bits = bin 1 l ▸ bin 6 n ▸ bin 1 1 ▸ bin 11 m ▸ bin 1 1 ▸ bin 4 0 ▸ bin 1 s ▸ r in
-    let x : (rvlcOpening ▸ bin 1 l ▸ bin 6 n ▸ bin 1 1 ▸ bin 11 m ▸ bin 1 1 ▸ bin 4 0 ▸ bin 1 s) ▸ r ≡ rvlcOpening ▸ y = simp append-assoc in
-    ap rvlcEvent x ∙ row-then 169 y (lit< tt) ∙ escaped-complete l n m s r (g .0) (g .1) (g .2) (g .3) (g .4)
+pub rvlc-takes : (e : Event) → GoodEvent true e → Takes rvlcEvent (eventBits e) e
+unfolding eventBits GoodEvent
+rvlc-takes (plain i s) g = absurd g
+rvlc-takes (type1 i s) g = absurd g
+rvlc-takes (type2 i s) g = absurd g
+rvlc-takes (type3 l n v) g = absurd g
+rvlc-takes (rvlc i s) g = row-takes i (bin 1 s) (rvlc i s) (omega arith) (else-takes rvlcEscaped (sign Reversible i) (eqb i 169) (ne-eqb i 169 (λ z. omega arith)) (sign-takes Reversible i s (g .1)))
+rvlc-takes (rvlcEscape l n m s) g = row-takes 169 _ (rvlcEscape l n m s) (lit< tt) (escaped-takes l n m s (g .0) (g .1) (g .2) (g .3) (g .4))
 
 pub rvlc-sound : (b : Bits) {e : Event} {r : Bits} → rvlcEvent b ≡ ok e r → GoodEvent true e × (b ≡ eventBits e ▸ r)
 unfolding rvlcEvent sign GoodEvent eventBits

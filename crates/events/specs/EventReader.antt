@@ -1,4 +1,4 @@
--- The reader of one event, plain or reversible, in reading order: 1, 4 with the window, 5, 6 after both markers (and in RVLC after delimiter and sign), 7 with the window. Definitions only.
+-- The reader of one event, plain or reversible, in reading order: 1, 17 or 4 with the window, 5, 6 after both markers (and in RVLC after delimiter and sign), 7 with the window. Definitions only.
 use mathlib.Core.Bool.{Bool, true, false, cond}
 use Prim.Native.Nat.{ℕ}
 use lib.Dec.{eqb}

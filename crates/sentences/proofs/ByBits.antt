@@ -1,4 +1,4 @@
--- Reading a block or a macroblock refuses by 1 to 8 alone: 11 is told before any bit. Assumes nothing.
+-- Reading a block or a macroblock refuses by 1 to 8 and 17 alone: 11 is told before any bit. Assumes nothing.
 use mathlib.Core.Bool.{Bool, false, true}
 use mathlib.Core.List.{List, [], _∷_}
 use Rattle.bits.specs.Bits.{Bits}

@@ -52,7 +52,7 @@ list-sentences rev t place = sentences (list-reads rev t place)
 -- ---- a block, and a macroblock for its pattern
 
 module _ (dcCoded rev : Bool) where
-  block-reads : (s : Place) → Reads (readBlock dcCoded rev s) (blockBits s) (GoodBlock dcCoded rev s)
+  pub block-reads : (s : Place) → Reads (readBlock dcCoded rev s) (blockBits s) (GoodBlock dcCoded rev s)
   block-reads s =
       pair-reads _ _ _ _ _ _
       (opt-reads (readDc (s .0)) (dcBits (s .0)) (GoodDc (s .0)) (dc-reads (s .0)) dcCoded)

@@ -3,12 +3,18 @@ use mathlib.Core.Path.{_≡_}
 use mathlib.Core.Bool.{Bool, true, false}
 use mathlib.Core.List.{List, [], _∷_}
 use mathlib.Core.Option.{Option, none, some}
+use Prim.Native.Nat.{_<_}
+use lib.ListN.{length}
 use Rattle.bits.specs.Bits.{Bits}
 use Rattle.events.specs.Event.{_▸_}
 
 -- the bits begin with a good sentence
 abbrev pub Begins : {A : Type 0} → (A → Bits) → (A → Type 0) → Bits → A → Type 0
 Begins bits Good b a = Good a × ((r : Bits) × (b ≡ bits a ▸ r))
+
+-- the bits break off inside a good sentence: they begin it, and it has more
+abbrev pub BreaksOff : {A : Type 0} → (A → Bits) → (A → Type 0) → Bits → A → Type 0
+BreaksOff bits Good b a = Good a × ((r : Bits) × ((0 < length r) × (bits a ≡ b ▸ r)))
 
 -- one after the other
 abbrev pub pairBits : {A B : Type 0} → (A → Bits) → (B → Bits) → A × B → Bits

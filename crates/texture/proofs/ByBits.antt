@@ -1,4 +1,4 @@
--- Reading a list refuses by 1 and 4 to 8 alone: 11 is told before any bit. Assumes nothing.
+-- Reading a list refuses by 1, 4 to 8 and 17 alone: 11 is told before any bit. Assumes nothing.
 use mathlib.Core.Bool.{Bool}
 use Prim.Native.Nat.{ℕ, suc, zero}
 use lib.Dec.{eqb}

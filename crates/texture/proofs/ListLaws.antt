@@ -1,8 +1,8 @@
--- The reader of an event list reads the lists whose events land below 64. Assumes nothing.
+-- The reader of an event list reads the lists whose events land below 64, and is stopped where a list breaks off. Assumes nothing.
 use mathlib.Core.Bool.{Bool, true, false, cond}
 use mathlib.Core.List.{append-assoc}
 use mathlib.Core.Logic.{⊎-elim}
-use mathlib.Core.Path.{_≡_, refl, sym, ap, subst, subst₂, _∙_}
+use mathlib.Core.Path.{_≡_, refl, sym, ap, subst, subst⁻¹, subst₂, _∙_}
 use Prim.Native.Nat.{ℕ, zero, suc, _+_, _≤_, _<_}
 use native.Mathlib.Nat.{le-refl}
 use native.Mathlib.Omega.{arith}
@@ -11,11 +11,13 @@ use lib.ListN.{length, length-append}
 use borrow.Author.Tests.{eq-eqb, eqb-true, lt-ltb, ltb-false, ltb-true}
 use Rattle.bits.specs.Bits.{Bits}
 use Rattle.codes.specs.declared.tcoef_tables.TcoefTable.{TcoefTable}
-use Rattle.events.proofs.EitherLaws.{event-complete, event-long, event-sound}
+use Rattle.events.proofs.EitherLaws.{event-long, event-sound, event-takes}
 use Rattle.events.specs.Event.{Event, _▸_, eventBits, GoodEvent, lastOf, runOf}
 use Rattle.events.specs.EventReader.{event}
 use Rattle.fields.proofs.ReadLaws.{bind-by, bind-ok, cond-ok, no-ok}
+use Rattle.fields.proofs.TakeLaws.{stops-first, then-stops}
 use Rattle.fields.specs.Reader.{ok, no, bind}
+use Rattle.fields.specs.Stopped.{Stops}
 use Rattle.fields.specs.declared.error.TextureParseError.the-variants.{Overflow}
 use Rattle.texture.specs.Events.{Events, final, more, eventsBits, GoodEvents, Lands, GoodList, listed}
 use Rattle.texture.specs.EventsReader.{eventsIn, bad, list}
@@ -51,7 +53,7 @@ module _ (rev : Bool) (m : TcoefTable) where
   unfolding GoodEvents eventsBits eventsIn
   events-complete (final e) zero r g h = absurd (omega (arith, length-append (eventBits e) r, event-long e))
   events-complete (final e) (suc n) r g h =
-      bind-by _ (event-complete rev e r (g .0))
+      bind-by _ (event-takes rev e (g .0) .reads r)
       ∙ ap (λ (t : Bool). cond t (ok (final e) r) (bind (eventsIn rev m n r) (λ es r. ok (more e es) r))) (g .1)
   events-complete (more e es) zero r g h =
       absurd (omega (arith, length-append (eventBits e ▸ eventsBits es) r, length-append (eventBits e) (eventsBits es), event-long e))
@@ -61,7 +63,7 @@ module _ (rev : Bool) (m : TcoefTable) where
       let len = length-append (eventBits e) s in
       let len′ = ap length x in
       ap (eventsIn rev m (suc n)) x
-      ∙ bind-by _ (event-complete rev e s (g .0))
+      ∙ bind-by _ (event-takes rev e (g .0) .reads s)
       ∙ ap (λ (t : Bool). cond t (ok (final e) s) (bind (eventsIn rev m n s) (λ es r. ok (more e es) r))) (g .1)
       ∙ bind-by _ (events-complete es n r (g .2) (omega (arith, event-long e)))
 
@@ -118,6 +120,21 @@ module _ (rev : Bool) (m : TcoefTable) where
           let e₂ : s ≡ r = cc in
           subst₂ (λ (x : Events) (y : Bits). GoodList rev m place x × (b ≡ eventsBits x ▸ y)) e₁ e₂
           ((h .0, bad-lands place fs (eqb-true (bad m place fs) 0 t)), h .1)
+
+  -- ---- where a list breaks off: a bad landing before it is not told
+
+  events-stop : (es : Events) (n : ℕ) (b r : Bits) → GoodEvents rev m es → 0 < length r → eventsBits es ≡ b ▸ r → Stops (eventsIn rev m n b)
+  unfolding GoodEvents eventsBits eventsIn
+  events-stop es zero b r g l e = tt
+  events-stop (final e) (suc n) b r g l q = stops-first (event rev b) _ (event-takes rev e (g .0) .stops b r l q)
+  events-stop (more e es) (suc n) b r g l q =
+      then-stops (event rev) _ (event-takes rev e (g .0)) (eventsBits es) b r l q
+      (λ s f. subst⁻¹ (λ (t : Bool). Stops (cond t (ok (final e) s) (bind (eventsIn rev m n s) (λ es r. ok (more e es) r)))) (g .1)
+      (stops-first (eventsIn rev m n s) _ (events-stop es n s r (g .2) l f)))
+
+  pub list-stops : (place : ℕ) (es : Events) (b r : Bits) → GoodEvents rev m es → 0 < length r → eventsBits es ≡ b ▸ r → Stops (list rev m place b)
+  unfolding list
+  list-stops place es b r g l e = stops-first (eventsIn rev m (length b) b) _ (events-stop es (length b) b r g l e)
 
 -- a list whose events land below 64 has no more of them than places: each takes one
 pub lands-few : (m : TcoefTable) (place : ℕ) (es : Events) → Lands m place es → place + length (listed es) ≤ 64
