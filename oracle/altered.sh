@@ -1,16 +1,17 @@
 #!/bin/sh
-# Shows that a comparison can fail: one place at a time of the original, of the driver's picture layer, or of what the driver takes from
-# Rattle's side is altered in a copy, and the comparison must report each; of `record`, what is recorded must be another than the stored
-# output of `replay`:
-#     oracle/altered.sh FOLDER_OF_THE_RUST_SOURCES block|macroblock|picture|record [SCALE]
+# Shows that a comparison can fail: one place at a time of the original, of the driver's picture layer, of where 17 is due, or of what the
+# driver takes from Rattle's side is altered in a copy, and the comparison must report each; of `record`, what is recorded must be another
+# than the stored output of `replay`:
+#     oracle/altered.sh FOLDER_OF_THE_RUST_SOURCES texture|block|macroblock|picture|record [SCALE]
 set -eu
-name=${2:?block, macroblock, picture or record}
+name=${2:?texture, block, macroblock, picture or record}
 . "$(dirname "$0")/common/build.sh"
 begin "$(dirname "$0")/$name" "${1:-}"
 if [ "$name" != record ]; then offered "$name"; fi
 scale=${3:-}
 originals=$sources
 drivers=$here
+shared=$common
 missed=0
 
 compared() {
@@ -28,13 +29,15 @@ alter() {
     case " $1 " in *" $name "*) ;; *) return 0 ;; esac
     sources=$work/altered/sources
     here=$work/altered/driver
+    common=$work/altered/common
     rm -rf "$work/altered"
     mkdir -p "$work/altered"
     cp -r "$originals" "$sources"
     cp -r "$drivers" "$here"
+    cp -r "$shared" "$common"
     cp -r "$drivers/../picture" "$work/altered/picture"
     file=$sources/$2
-    for folder in "$work/altered/picture" "$here"; do
+    for folder in "$work/altered/picture" "$common" "$here"; do
         if [ -e "$folder/$2" ]; then file=$folder/$2; fi
     done
     sed "$3" "$file" >"$work/file"
@@ -90,6 +93,16 @@ alter picture layer.rs 's/return 13;/return 15;/' 'a number out of range in the 
 alter picture layer.rs 's/let row = c.is_none_or.*/let row = true;/' 'AC values of C out of range let through'
 alter 'picture record' layer.rs 's/return 15;/return 11;/' 'a complete picture told as 11'
 alter 'picture record' layer.rs 's/a.picture.numbers\[3\] += 1;//' 'the same macroblock due again'
-alter 'block macroblock picture' main.rs 's/^ *(a, spellings)$/{ spellings.swap(1, 2); (a, spellings) }/' 'types 1 and 2 exchanged in the spellings'
-alter 'block macroblock picture' main.rs 's/^ *(a, spellings)$/{ if a.number != 0 { spellings = [0; 5]; } (a, spellings) }/' 'spellings written on a refusal'
+rattle='texture block macroblock picture'
+alter "$rattle" main.rs 's/^ *(a, spellings)$/{ spellings.swap(1, 2); (a, spellings) }/' 'types 1 and 2 exchanged in the spellings'
+alter "$rattle" main.rs 's/^ *(a, spellings)$/{ if a.number != 0 { spellings = [0; 5]; } (a, spellings) }/' 'spellings written on a refusal'
+alter "$rattle" main.rs 's/^ *(a, spellings)$/{ if a.number == 17 { a.number = 4; } (a, spellings) }/' '17 told as 4'
+alter "$rattle" main.rs 's/^ *(a, spellings)$/{ if a.number == 17 { a.number = 1; } (a, spellings) }/' '17 told as 1'
+alter "$rattle record" stopped.rs 's/code.starts_with(rest) && //' '17 for every short window'
+alter "$rattle record" stopped.rs 's/(2 | 4, _) if/(1 | 2 | 4, _) if/' '17 where no bits are left'
+alter "$rattle record" stopped.rs 's/=> (17, 0)/=> (17, 1)/' 'a figure with 17'
+alter "$rattle record" stopped.rs 's/rows.chain(\[texture::RVLC_ESCAPE\])/rows/' 'the reversible escape not sought'
+alter texture stopped.rs 's/code.len() > rest.len()/code.len() >= rest.len()/' 'a whole code taken for a cut one'
+alter 'texture record' symbol_call.rs 's/dc_codes(component(chroma))/dc_codes(component(false))/' "luma's DC codes sought for chroma"
+alter 'block macroblock' stopped.rs 's/block_component(i)/block_component(0)/' "luma's DC codes sought in every block"
 exit $missed

@@ -205,8 +205,10 @@ fn whole(dice: &mut Dice) -> Call {
 }
 
 // Bits of block 0, written out, that a number refuses: number, figure, whether reversible, text.
-const BAD: [(u32, u32, bool, &str); 10] = [
-    (1, 0, false, "00000001 1000"),
+type Bad = (u32, u32, bool, &'static str);
+
+// Whatever follows.
+const BAD: [Bad; 9] = [
     (2, 1, false, "0000000000001"),
     (3, 0, false, "00000001 100000000 0"),
     (4, 3, false, "011 0000000000011"),
@@ -218,16 +220,33 @@ const BAD: [(u32, u32, bool, &str); 10] = [
     (8, 64, false, "011 0000011 11 1 111111 1 000000000001 1"),
 ];
 
-fn bad(dice: &mut Dice) -> Call {
-    let (number, figure, reversible, text) = dice.of(&BAD);
+// Where the data ends.
+const LAST: [Bad; 14] = [
+    (1, 0, false, "00000001 1000"),
+    (1, 0, false, "011 0000011"),
+    (2, 0, false, "00000000000"),
+    (4, 0, false, "011 000000000"),
+    (4, 3, false, "011 0000011 0 0000011"),
+    (4, 3, false, "011 0000011 10 0000011"),
+    (4, 0, true, "011 00000"),
+    (17, 0, false, "0000000000"),
+    (17, 0, false, "011 00000101000"),
+    (17, 0, false, "011 0000011 0 000001"),
+    (17, 0, false, "011 0000011 10 00000000"),
+    (17, 0, false, "011 0000011 11 0 111111 1 000000000001 1 0"),
+    (17, 0, true, "011 0000"),
+    (17, 0, true, "011 00111111111110"),
+];
+
+// One of these, and at most so many other bits after it.
+fn bad(dice: &mut Dice, these: &[Bad], more: usize) -> Call {
+    let (number, figure, reversible, text) = dice.of(these);
     let (mut call, _) = fine(dice);
     call.cbpy |= 8;
     call.flags = call.flags & !REVERSIBLE_VLC | USE_INTRA_DC_VLC | if reversible { REVERSIBLE_VLC } else { 0 };
     call.bits = Outcome { figure, ..refused(number) };
     let mut bits: Bits = text.bytes().filter(|b| *b != b' ').map(|b| b == b'1').collect();
-    if number != 1 {
-        push(&mut bits, dice.next(), dice.below(65));
-    }
+    push(&mut bits, dice.next(), dice.below(more + 1));
     call.put(dice, &bits);
     call
 }
@@ -271,10 +290,11 @@ pub fn pool(dice: &mut Dice, n: usize) -> Vec<Call> {
         .map(|k| {
             let mut call = match k % 16 {
                 0 => whole(dice),
-                1..=6 => broken(dice, |dice, bits| bits.truncate(dice.below(bits.len()))),
-                7 => broken(dice, flip),
+                1..=6 => cut(dice),
+                7 => flipped(dice),
                 8 => random(dice),
-                9..=11 => bad(dice),
+                9 | 10 => bad(dice, &BAD, 64),
+                11 => bad(dice, &LAST, 0),
                 _ => spoiled(dice, too_long),
             };
             if call.alone_due().number == 0 {
@@ -287,17 +307,25 @@ pub fn pool(dice: &mut Dice, n: usize) -> Vec<Call> {
         .collect()
 }
 
-// A sentence with its bits changed.
-fn broken(dice: &mut Dice, change: impl Fn(&mut Dice, &mut Bits)) -> Call {
+// A sentence that breaks off: refused by 1 or 17 and by nothing else.
+fn cut(dice: &mut Dice) -> Call {
     let (mut call, Sentence { mut bits, .. }) = fine(dice);
-    let whole = bits.len();
-    if whole == 0 {
+    if bits.is_empty() {
         return call;
     }
-    change(dice, &mut bits);
+    bits.truncate(dice.below(bits.len()));
     call.put(dice, &bits);
     call.bits = first(&call);
-    assert!(call.bits.number <= 8 && (call.bits.number > 0 || bits.len() == whole), "{call:?}");
+    assert!(matches!(call.bits.number, 1 | 17) && call.bits.figure == 0, "{call:?}");
+    call
+}
+
+fn flipped(dice: &mut Dice) -> Call {
+    let (mut call, Sentence { mut bits, .. }) = fine(dice);
+    flip(dice, &mut bits);
+    call.put(dice, &bits);
+    call.bits = first(&call);
+    assert!(by_bits(call.bits.number), "{call:?}");
     call
 }
 
@@ -306,8 +334,13 @@ fn random(dice: &mut Dice) -> Call {
     call.data = any_bytes(dice, 40).leak();
     call.at = dice.below(8 * call.data.len() + 1);
     call.bits = first(&call);
-    assert!(call.bits.number <= 8, "{call:?}");
+    assert!(by_bits(call.bits.number), "{call:?}");
     call
+}
+
+// Accepted, or refused by a number of the bits.
+fn by_bits(number: u32) -> bool {
+    number <= 8 || number == 17
 }
 
 // Of a refusal its number and figure, whatever else the answer holds.

@@ -1,4 +1,4 @@
-/* Calls every function; what is due is worked out by hand from document 01. */
+/* Calls every function; what is due is worked out by hand from documents 01 and 02. */
 #include <stdarg.h>
 #include <stdio.h>
 #include <string.h>
@@ -88,6 +88,16 @@ static void put(struct call *c, const char *bits)
     }
     c->data = c->bytes;
     c->data_len = (n + 7) / 8;
+}
+
+/* Bits that end with the data, behind as many others as make up whole bytes. */
+static void put_last(struct call *c, const char *bits)
+{
+    char text[200] = "";
+    size_t n = 0;
+    for (const char *t = bits; *t; t++) n += *t != ' ';
+    for (c->at = 0; (c->at + n) % 8 != 0; c->at++) strcat(text, "1");
+    put(c, strcat(text, bits));
 }
 
 /* Bits with so many events of each spelling. */
@@ -606,7 +616,6 @@ static const struct {
     size_t at;
 } bad[] = {
     {"no bits left", "", 0, 0, VAXEMBRO_TRUNCATED, 0, 0},
-    {"one bit 0 left", "1111111 0", 0, 0, VAXEMBRO_INVALID_DC_SIZE, 0, 7},
     {"no DC code", "0000000000001", 0, 0, VAXEMBRO_INVALID_DC_SIZE, 1, 0},
     {"a marker 0", "00000001 100000000 0", 0, 0, VAXEMBRO_MARKER_BIT_MISSING, 0, 0},
     {"no AC code", "011 0000000000011", 8, 0, VAXEMBRO_INVALID_TCOEF, 3, 0},
@@ -615,7 +624,6 @@ static const struct {
     {"level -2048", "011 0000011 11 1 000000 1 100000000000 1", 8, 0, VAXEMBRO_RESERVED_ESCAPE_LEVEL, 0, 0},
     {"no delimiter", "011 00001 1 000000 1 00000000001 1 0001 0", 8, VAXEMBRO_REVERSIBLE_VLC, VAXEMBRO_RVLC_ESCAPE_DELIMITER_MISSING, 1, 0},
     {"run 63", "011 0000011 11 1 111111 1 000000000001 1", 8, 0, VAXEMBRO_OVERFLOW, 64, 0},
-    {"run 63, and then no code", "011 0000011 11 0 111111 1 000000000001 1 0000000", 8, 0, VAXEMBRO_INVALID_TCOEF, 0, 0},
     {"run 63, and then no bits", "1111111 011 0000011 11 0 111111 1 000000000001 1", 8, 0, VAXEMBRO_TRUNCATED, 0, 7},
     {"events, and then no code", "011" TYPE1 P5 "011" PLAIN "0000000000011", 12, 0, VAXEMBRO_INVALID_TCOEF, 3, 0},
     {"events, and then run 63", "011" P4 "011" PLAIN "0000011 11 1 111111 1 000000000001 1", 12, 0, VAXEMBRO_OVERFLOW, 65, 0},
@@ -640,6 +648,98 @@ static void bad_bits(void)
     c.at = 16;
     refused("at the end", in_picture, &c, VAXEMBRO_TRUNCATED, 0);
     refused("at the end", alone, &c, VAXEMBRO_TRUNCATED, 0);
+}
+
+/* Bits with which the data ends: inside a code, inside a field, or where no code goes on. */
+static const struct {
+    const char *what, *bits;
+    uint8_t cbpy;
+    uint32_t flags, number, figure;
+} left[] = {
+    {"one bit 0 at a luma DC", "0", 0, 0, VAXEMBRO_ENDED_INSIDE_CODE, 0},
+    {"ten zeros at a luma DC", "0000000000", 0, 0, VAXEMBRO_ENDED_INSIDE_CODE, 0},
+    {"eleven zeros at a luma DC", "00000000000", 0, 0, VAXEMBRO_INVALID_DC_SIZE, 0},
+    {"eleven zeros and a 1 at a luma DC", "000000000001", 0, 0, VAXEMBRO_INVALID_DC_SIZE, 1},
+    {"a size of 2 with one bit", "10 1", 0, 0, VAXEMBRO_TRUNCATED, 0},
+    {"one bit 0 at a chroma DC", "011 011 011 011 11 0", 0, 0, VAXEMBRO_ENDED_INSIDE_CODE, 0},
+    {"eleven zeros at a chroma DC", "011 011 011 011 00000000000", 0, 0, VAXEMBRO_ENDED_INSIDE_CODE, 0},
+    {"twelve zeros at a chroma DC", "011 011 011 011 000000000000", 0, 0, VAXEMBRO_INVALID_DC_SIZE, 0},
+    {"eleven zeros and a 1 at a chroma DC", "011 011 011 011 000000000001", 0, 0, VAXEMBRO_TRUNCATED, 0},
+    {"eleven bits of a code of twelve", "011 00000101000", 8, 0, VAXEMBRO_ENDED_INSIDE_CODE, 0},
+    {"eight zeros at an event", "011 00000000", 8, 0, VAXEMBRO_ENDED_INSIDE_CODE, 0},
+    {"nine zeros at an event", "011 000000000", 8, 0, VAXEMBRO_INVALID_TCOEF, 0},
+    {"a code without its sign", "011 0111", 8, 0, VAXEMBRO_TRUNCATED, 0},
+    {"an escape by itself", "011 0000011", 8, 0, VAXEMBRO_TRUNCATED, 0},
+    {"type 1 and no bits", "011 0000011 0", 8, 0, VAXEMBRO_TRUNCATED, 0},
+    {"type 1 and 000001", "011 0000011 0 000001", 8, 0, VAXEMBRO_ENDED_INSIDE_CODE, 0},
+    {"type 1 and 0000011", "011 0000011 0 0000011", 8, 0, VAXEMBRO_INVALID_TCOEF, 3},
+    {"type 1 and nine zeros", "011 0000011 0 000000000", 8, 0, VAXEMBRO_INVALID_TCOEF, 0},
+    {"half of type 2", "011 0000011 1", 8, 0, VAXEMBRO_TRUNCATED, 0},
+    {"type 2 and 000001", "011 0000011 10 000001", 8, 0, VAXEMBRO_ENDED_INSIDE_CODE, 0},
+    {"type 2 and 0000011", "011 0000011 10 0000011", 8, 0, VAXEMBRO_INVALID_TCOEF, 3},
+    {"type 2 and eleven bits of a code of twelve", "011 0000011 10 00000101000", 8, 0, VAXEMBRO_ENDED_INSIDE_CODE, 0},
+    {"four zeros at a reversible event", "011 0000", 8, RVLC, VAXEMBRO_ENDED_INSIDE_CODE, 0},
+    {"five zeros at a reversible event", "011 00000", 8, RVLC, VAXEMBRO_INVALID_TCOEF, 0},
+    {"fourteen bits of a reversible code of fifteen", "011 00111111111110", 8, RVLC, VAXEMBRO_ENDED_INSIDE_CODE, 0},
+    {"fourteen bits of no reversible code", "011 00111111111111", 8, RVLC, VAXEMBRO_INVALID_TCOEF, 4095},
+    {"a reversible code without its sign", "011 1011", 8, RVLC, VAXEMBRO_TRUNCATED, 0},
+    {"a reversible escape by itself, cut", "011 00001", 8, RVLC, VAXEMBRO_TRUNCATED, 0},
+    {"run 63, and then seven zeros", "011 0000011 11 0 111111 1 000000000001 1 0000000", 8, 0, VAXEMBRO_ENDED_INSIDE_CODE, 0},
+    {"run 63, and then nine zeros", "011 0000011 11 0 111111 1 000000000001 1 000000000", 8, 0, VAXEMBRO_INVALID_TCOEF, 0},
+    {"reversible run 63, and then 0000", "011 00001 0 111111 1 00000000001 1 0000 0 0000", 8, RVLC, VAXEMBRO_ENDED_INSIDE_CODE, 0},
+    {"events, and then a cut DC code", "011" P6 "00", 8, 0, VAXEMBRO_ENDED_INSIDE_CODE, 0},
+    {"events, and then a cut code", "011" TYPE1 P5 "011" PLAIN "0001", 12, 0, VAXEMBRO_ENDED_INSIDE_CODE, 0},
+};
+
+static void last_bits(void)
+{
+    struct call c;
+    for (size_t k = 0; k < sizeof left / sizeof *left; k++) {
+        worked(&c);
+        put_last(&c, left[k].bits);
+        c.cbpy = left[k].cbpy;
+        c.flags |= left[k].flags;
+        refused(left[k].what, in_picture, &c, left[k].number, left[k].figure);
+        refused(left[k].what, alone, &c, left[k].number, left[k].figure);
+    }
+}
+
+/* Block 0 and Cb coded, cut before each bit: 17 after the first bit of a code, which stands in brackets here, else 1. */
+static void cut_anywhere(const char *text, uint32_t flags, const uint32_t *due)
+{
+    char bits[200] = "";
+    size_t n = 0;
+    int inside = 0;
+    struct call c;
+    struct lent l;
+    for (;; text++) {
+        if (*text == '(' || *text == ')') inside = *text == '(';
+        if (*text != '0' && *text != '1' && *text != 0) continue;
+        worked(&c);
+        put_last(&c, bits);
+        c.cbpy = 8;
+        c.cbpc = 2;
+        c.flags |= flags;
+        if (*text == 0) break;
+        refused(bits, in_picture, &c, inside > 1 ? VAXEMBRO_ENDED_INSIDE_CODE : VAXEMBRO_TRUNCATED, 0);
+        refused(bits, alone, &c, inside > 1 ? VAXEMBRO_ENDED_INSIDE_CODE : VAXEMBRO_TRUNCATED, 0);
+        inside += inside > 0;
+        bits[n++] = *text;
+    }
+    memcpy(c.spelled, due, sizeof c.spelled);
+    accepted(bits, in_picture, &c, n, &l);
+    accepted(bits, alone, &c, n, &l);
+}
+
+static void cut(void)
+{
+    static const uint32_t plain[SPELLINGS] = {1, 1, 1, 1, 0}, reversible[SPELLINGS] = {2, 0, 0, 0, 2};
+    cut_anywhere("(00000001) 100000000 1 (10) 0 (0000011) 0 (0111) 0 (011) (10) 01 (00001) 100000 (11) (0000011) 10 (10) 0"
+                 "(0000011) 11 1 000000 1 100000000001 1 (01) 11",
+                 0, plain);
+    cut_anywhere("(011) (110) 0 (1011) 0 (011) (011) (011) (11) (00001) 0 000000 1 00000000001 1 0000 0"
+                 "(00001) 1 000000 1 00000000001 1 0000 0 (11)",
+                 RVLC, reversible);
 }
 
 /* What both calls refuse before any bit: the header, and lent memory. */
@@ -853,6 +953,8 @@ int main(void)
     answer_lengths(in_picture);
     answer_lengths(alone);
     bad_bits();
+    last_bits();
+    cut();
     bad_state(in_picture);
     bad_state(alone);
     nothing_lent(in_picture);

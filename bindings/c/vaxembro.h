@@ -46,24 +46,28 @@ enum {
     VAXEMBRO_QUANT_TYPE = 128 /* method 1; in a picture the state's counts */
 };
 
-/* What a call gives: accepted, or the number of its refusal. */
+/* What a call gives: accepted, or the number of its refusal.
+ *
+ * 1 and 17 say that the data stopped: fetch it again. 2 to 8 say that it is bad: discard it. Neither 1 nor 17 promises that more bits would
+ * help: a list that lands past place 63, or a reserved level before its last marker, is told so too where the bits end first. */
 enum {
     VAXEMBRO_ACCEPTED = 0,
-    VAXEMBRO_TRUNCATED = 1,
-    VAXEMBRO_INVALID_DC_SIZE = 2, /* figure: the window */
+    VAXEMBRO_TRUNCATED = 1,       /* no bit is left where a code should begin, or fewer than a field has */
+    VAXEMBRO_INVALID_DC_SIZE = 2, /* the bits that are left neither begin with a code nor begin one; figure: the window */
     VAXEMBRO_MARKER_BIT_MISSING = 3,
-    VAXEMBRO_INVALID_TCOEF = 4, /* figure: the window */
+    VAXEMBRO_INVALID_TCOEF = 4, /* as 2, of a coefficient; figure: the window */
     VAXEMBRO_ESCAPE_MARKER_BIT_MISSING = 5,
     VAXEMBRO_RESERVED_ESCAPE_LEVEL = 6,
     VAXEMBRO_RVLC_ESCAPE_DELIMITER_MISSING = 7, /* figure: the window */
     VAXEMBRO_OVERFLOW = 8,                      /* figure: the landing */
     VAXEMBRO_NOT_CODED_MACROBLOCK = 9,
     VAXEMBRO_NOT_INTRA = 10,
-    VAXEMBRO_OUT_OF_RANGE = 11, /* width, height, data too long, start past its end */
-    VAXEMBRO_CONTEXT = 12,      /* quantiser, depth, a zero in the matrix under method 1 */
-    VAXEMBRO_PREDICTOR = 13,    /* a neighbour's DC, AC value or quantiser */
-    VAXEMBRO_TOO_SHORT = 14,    /* lent memory */
-    VAXEMBRO_COMPLETE = 15      /* width times height macroblocks were accepted */
+    VAXEMBRO_OUT_OF_RANGE = 11,     /* width, height, data too long, start past its end */
+    VAXEMBRO_CONTEXT = 12,          /* quantiser, depth, a zero in the matrix under method 1 */
+    VAXEMBRO_PREDICTOR = 13,        /* a neighbour's DC, AC value or quantiser */
+    VAXEMBRO_TOO_SHORT = 14,        /* lent memory */
+    VAXEMBRO_COMPLETE = 15,         /* width times height macroblocks were accepted */
+    VAXEMBRO_ENDED_INSIDE_CODE = 17 /* all bits that are left begin a code that has more */
 };
 
 /* How an event is spelled. */

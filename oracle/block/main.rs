@@ -1,7 +1,7 @@
 // `block::decode_intra_block_full` against the original, with `pattern_code` and the default matrix. Where the state is fine both must
-// give the same number and figure, or the same position, DC, samples and levels; elsewhere Rattle must refuse by 11, 12 or 13. On a
-// refusal everything lent must stay as it was (the original's reader moves: that is not asked). Spellings, which the original does not
-// tell, must be those that were written.
+// give the same number and figure, with 17 in place of the original's 2 or 4 where the bits end inside a code, or the same position, DC,
+// samples and levels; elsewhere Rattle must refuse by 11, 12 or 13. On a refusal everything lent must stay as it was (the original's
+// reader moves: that is not asked). Spellings, which the original does not tell, must be those that were written.
 use crate::block;
 use crate::common::bits::{any_bytes, bytes_of, flip, push};
 use crate::common::block_call::{Answer, Call, lent};

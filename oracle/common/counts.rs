@@ -1,10 +1,13 @@
 // Counts of answers by number, printed part by part, and of those whose spellings were held to what was written.
 use super::sentence::Spellings;
 
+// Of answers: 0, accepted, to 17.
+pub const NUMBERS: usize = 18;
+
 #[derive(Default)]
 pub struct Counts {
-    now: [u64; 16],
-    all: [u64; 16],
+    now: [u64; NUMBERS],
+    all: [u64; NUMBERS],
     held: u64,
     spelled: [u64; 5],
 }
@@ -18,7 +21,7 @@ impl Counts {
     pub fn says(&mut self, name: &str, what: &str) {
         println!("{name:44} {}", told(&self.now, what));
         self.all.iter_mut().zip(self.now).for_each(|(a, n)| *a += n);
-        self.now = [0; 16];
+        self.now = [0; NUMBERS];
     }
 
     // The spellings that an accepted call tells must be those written; `call` says it where they are not.
@@ -50,7 +53,7 @@ impl Counts {
     }
 }
 
-fn told(counts: &[u64; 16], what: &str) -> String {
+fn told(counts: &[u64; NUMBERS], what: &str) -> String {
     let mut text = format!("{:>9} {what}: {:>8} accepted", counts.iter().sum::<u64>(), counts[0]);
     for (number, n) in counts.iter().enumerate().skip(1).filter(|(_, n)| **n > 0) {
         text += &format!(", {n} by {number}");

@@ -1,9 +1,10 @@
 // One macroblock alone: the call, and what it must give.
 use super::dice::Dice;
 use super::header::{Header, lent, put};
-use super::numbers::{self, data_fine};
+use super::numbers::data_fine;
 use super::sentence::{self, Sentence};
-use super::setting::{self, Setting};
+use super::setting::{self, Block, Setting};
+use super::stopped::{self, Numbering};
 use crate::bitreader::BitReader;
 use crate::block::{self, BlockAssemblyError};
 
@@ -52,11 +53,27 @@ impl Call {
         }
     }
 
-    fn original(&self, br: &mut BitReader, samples: &mut [i32]) -> Result<(), BlockAssemblyError> {
+    // One block, or the refusal in it.
+    fn block(&self, br: &mut BitReader, i: usize) -> Result<Block, (BlockAssemblyError, usize)> {
         let (s, [dc_coded, reversible]) = (&self.setting, self.reading);
+        let reading = [self.header.coded(i), dc_coded, reversible];
+        match setting::read(br, i, reading, s.context(), s.predictors(), &s.matrix) {
+            Ok(one) => Ok(one.spatial),
+            Err(e) => Err((e, i)),
+        }
+    }
+
+    // The original does not tell in which block it refuses: its blocks, taken in turn, do. 9 and 10 are in none.
+    fn refused_in(&self, mut br: BitReader) -> usize {
+        (0..6).find(|&i| self.block(&mut br, i).is_err()).unwrap_or(0)
+    }
+
+    fn original(&self, br: &mut BitReader, samples: &mut [i32]) -> Result<(), (BlockAssemblyError, usize)> {
+        let (s, before) = (&self.setting, br.clone());
         let mut made = [0; 384];
-        if dc_coded && !reversible {
-            let one = block::decode_intra_macroblock(br, &self.header.original(), s.context(), s.predictors(), &s.matrix)?;
+        if self.reading == [true, false] {
+            let one = block::decode_intra_macroblock(br, &self.header.original(), s.context(), s.predictors(), &s.matrix)
+                .map_err(|e| (e, self.refused_in(before)))?;
             let numbers = one
                 .luma
                 .iter()
@@ -66,19 +83,24 @@ impl Call {
             made.iter_mut().zip(numbers).for_each(|(to, from)| *to = *from);
         } else {
             for i in 0..6 {
-                let reading = [self.header.coded(i), dc_coded, reversible];
-                put(
-                    &mut made,
-                    i,
-                    &setting::read(br, i, reading, s.context(), s.predictors(), &s.matrix)?.spatial,
-                );
+                put(&mut made, i, &self.block(br, i)?);
             }
         }
         samples[..384].copy_from_slice(&made);
         Ok(())
     }
 
+    // With 17 where it is due.
     pub fn due(&self, data: &[u8], at: usize) -> Answer {
+        self.numbered(data, at, stopped::of_block)
+    }
+
+    // The number alone, 17 as the original has it: 2 or 4.
+    pub fn by_original(&self, data: &[u8], at: usize) -> u32 {
+        self.numbered(data, at, stopped::ORIGINAL).number
+    }
+
+    fn numbered(&self, data: &[u8], at: usize, of: Numbering) -> Answer {
         let mut a = self.lent(at);
         a.number = self.state(data, at);
         // 9 and 10 the original tells itself, where it is the reference
@@ -93,7 +115,7 @@ impl Call {
                 a.position = br.bit_position();
                 a.bits = a.position - at;
             }
-            Err(e) => (a.number, a.figure) = numbers::of_block(e),
+            Err((e, i)) => (a.number, a.figure) = of(e, &br, i, self.reading[1]),
         }
         a
     }

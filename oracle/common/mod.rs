@@ -9,6 +9,7 @@ pub mod numbers;
 pub mod sentence;
 pub mod setting;
 pub mod smallest;
+pub mod stopped;
 pub mod symbol_call;
 pub mod tally;
 pub mod test;

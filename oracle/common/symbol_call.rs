@@ -1,6 +1,7 @@
 // DC parts, events and event lists: the calls, and what they must give.
-use super::numbers::{data_fine, of_scan, of_texture};
+use super::numbers::{data_fine, of_scan};
 use super::sentence::{component, table};
+use super::stopped::{dc_codes, event_codes, of_texture};
 use crate::bitreader::BitReader;
 use crate::scan;
 use crate::texture;
@@ -35,7 +36,7 @@ pub fn lent(at: usize) -> Answer {
     }
 }
 
-// What the original gives, or document 01's 11, which comes before any bit.
+// What the original gives, with 17 where it is due, or document 01's 11, which comes before any bit.
 pub fn due(call: Call, data: &[u8], at: usize) -> Answer {
     let mut a = lent(at);
     if let Call::Event { .. } = call {
@@ -53,7 +54,7 @@ pub fn due(call: Call, data: &[u8], at: usize) -> Answer {
                 a.values[..2].copy_from_slice(&[dc.size.into(), dc.differential]);
                 None
             }
-            Err(e) => Some(of_texture(e)),
+            Err(e) => Some(of_texture(e, &br, dc_codes(component(chroma)))),
         },
         Call::Event { reversible, inter } => {
             let read = if reversible {
@@ -66,7 +67,7 @@ pub fn due(call: Call, data: &[u8], at: usize) -> Answer {
                     a.values[..3].copy_from_slice(&[v.last.into(), v.run as i32, v.level]);
                     None
                 }
-                Err(e) => Some(of_texture(e)),
+                Err(e) => Some(of_texture(e, &br, event_codes(reversible, table(inter)))),
             }
         }
         Call::List {
@@ -87,7 +88,7 @@ pub fn due(call: Call, data: &[u8], at: usize) -> Answer {
                     }
                     Err(e) => Some(of_scan(e)),
                 },
-                Err(e) => Some(of_texture(e)),
+                Err(e) => Some(of_texture(e, &br, event_codes(reversible, table(inter)))),
             }
         }
     };

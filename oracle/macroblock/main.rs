@@ -1,7 +1,8 @@
 // `macroblock::decode_intra_macroblock` against the original's, which is for DC codes with plain events, and for the rest against the
-// original's block reading taken six times. Where the state is fine both must give the same number and figure, or the same number of
-// bits, position and samples; elsewhere Rattle must refuse by document 01's first of 11, 12, 13, 14, 9 and 10. On a refusal the samples
-// must stay as they were, and always those past 384. Spellings, which the original does not tell, must be those that were written.
+// original's block reading taken six times. Where the state is fine both must give the same number and figure, with 17 in place of the
+// original's 2 or 4 where the bits end inside a code, or the same number of bits, position and samples; elsewhere Rattle must refuse by
+// document 01's first of 11, 12, 13, 14, 9 and 10. On a refusal the samples must stay as they were, and always those past 384.
+// Spellings, which the original does not tell, must be those that were written.
 use crate::common::bits::{Bits, any_bytes, bytes_of, flip, push};
 use crate::common::counts;
 use crate::common::dice::Dice;

@@ -3,8 +3,9 @@
 use crate::bitreader::BitReader;
 use crate::block::{BlockAssemblyError, BlockPredictors, MacroblockTextureContext};
 use crate::common::header::{Header, lent, put};
-use crate::common::numbers::{self, data_fine, dc_fine, depth_fine, level_fine};
+use crate::common::numbers::{data_fine, dc_fine, depth_fine, level_fine};
 use crate::common::setting::{self, Block, Matrix, Seven, context_fine, rule};
+use crate::common::stopped::{self, Numbering};
 
 // What one call brings.
 #[derive(Clone, Debug, PartialEq)]
@@ -143,6 +144,10 @@ fn state(p: Picture, s: &Step, stored: usize, kept: &dyn Fn(Place) -> Kept) -> u
 
 // The macroblock that is due: what the call must give, and if it is accepted what is kept of its six blocks.
 pub fn due(p: Picture, s: &Step, stored: usize, kept: &dyn Fn(Place) -> Kept) -> (Answer, Option<[(Place, Kept); 6]>) {
+    numbered(p, s, stored, kept, stopped::of_block)
+}
+
+fn numbered(p: Picture, s: &Step, stored: usize, kept: &dyn Fn(Place) -> Kept, of: Numbering) -> (Answer, Option<[(Place, Kept); 6]>) {
     let mut a = before(p, s);
     a.number = state(p, s, stored, kept);
     if a.number != 0 {
@@ -158,15 +163,18 @@ pub fn due(p: Picture, s: &Step, stored: usize, kept: &dyn Fn(Place) -> Kept) ->
             a.picture.numbers[3] += 1;
             (a, Some(std::array::from_fn(|i| six[i].0)))
         }
-        Err(e) => {
-            (a.number, a.figure) = numbers::of_block(e);
+        Err((e, i)) => {
+            (a.number, a.figure) = of(e, &br, i, s.flags[5]);
             (a, None)
         }
     }
 }
 
+// Six blocks, or the refusal in one.
+type Six = Result<Vec<((Place, Kept), Block)>, (BlockAssemblyError, usize)>;
+
 // Block after block, each with its own neighbours.
-fn six(p: Picture, s: &Step, br: &mut BitReader, kept: &dyn Fn(Place) -> Kept) -> Result<Vec<((Place, Kept), Block)>, BlockAssemblyError> {
+fn six(p: Picture, s: &Step, br: &mut BitReader, kept: &dyn Fn(Place) -> Kept) -> Six {
     let [width, _, depth, accepted] = p.numbers;
     let (column, row) = ((accepted % width) as usize, (accepted / width) as usize);
     let [
@@ -195,14 +203,14 @@ fn six(p: Picture, s: &Step, br: &mut BitReader, kept: &dyn Fn(Place) -> Kept) -
             Some(own.unwrap_or_else(|| kept(there)))
         };
         let around = predictors(of(1, 0), of(1, 1), of(0, 1), depth, s.quantiser_scale);
-        let one = setting::read(br, i, [s.header.coded(i), dc_coded, reversible], context, around, &s.matrix)?;
+        let reading = [s.header.coded(i), dc_coded, reversible];
+        let one = setting::read(br, i, reading, context, around, &s.matrix).map_err(|e| (e, i))?;
         made.push(((here, Kept::of(one.dc, &one.qf, s.quantiser_scale)), one.spatial));
     }
     Ok(made)
 }
 
 // A picture with all of its blocks.
-#[derive(Clone)]
 pub struct Layer {
     pub picture: Picture,
     grids: [Vec<Option<Kept>>; 3],
@@ -223,9 +231,17 @@ impl Layer {
         if grid == 0 { 2 * width * y + x } else { width * y + x }
     }
 
+    fn kept(&self, p: Place) -> Kept {
+        self.grids[p.0][self.index(p)].expect("a block that was decoded")
+    }
+
+    // The number alone, 17 as the original has it: 2 or 4.
+    pub fn by_original(&self, s: &Step, stored: usize) -> u32 {
+        numbered(self.picture, s, stored, &|p| self.kept(p), stopped::ORIGINAL).0.number
+    }
+
     pub fn call(&mut self, s: &Step, stored: usize) -> Answer {
-        let kept = |p: Place| self.grids[p.0][self.index(p)].expect("a block that was decoded");
-        let (answer, six) = due(self.picture, s, stored, &kept);
+        let (answer, six) = due(self.picture, s, stored, &|p| self.kept(p));
         for (place, block) in six.into_iter().flatten() {
             let index = self.index(place);
             self.grids[place.0][index] = Some(block);

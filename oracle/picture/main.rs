@@ -1,7 +1,8 @@
-// `picture` against a picture layer over the original's block reading (layer.rs). Both must give the same number and figure, or the
-// same number of bits, position, samples and picture. A refusal must leave samples, store and picture as they were, so that the same
-// macroblock is due again; what is lent past 384 samples, or past 192 numbers of store for each macroblock of width, must always stay.
-// Spellings, which the original does not tell, must be those that were written, and stay on a refusal.
+// `picture` against a picture layer over the original's block reading (layer.rs), with 17 in place of its 2 or 4 where the bits end
+// inside a code. Both must give the same number and figure, or the same number of bits, position, samples and picture. A refusal must
+// leave samples, store and picture as they were, so that the same macroblock is due again; what is lent past 384 samples, or past 192
+// numbers of store for each macroblock of width, must always stay. Spellings, which the original does not tell, must be those that were
+// written, and stay on a refusal.
 use crate::common::bits::push;
 use crate::common::counts::{self, Counts};
 use crate::common::dice::Dice;

@@ -2,6 +2,7 @@
 use super::layer::{self, Layer, Picture, Step};
 use crate::block::DEFAULT_INTRA_QUANT_MATRIX;
 use crate::common::bits::bytes_of;
+use crate::common::counts::NUMBERS;
 use crate::common::dice::Dice;
 use crate::common::header::Header;
 use crate::common::numbers::transform_state;
@@ -29,7 +30,7 @@ const KINDS: [&str; 9] = [
 pub struct Record {
     pub asked: String,
     pub due: String,
-    counts: [[u64; 16]; 9],
+    counts: [[u64; NUMBERS]; 9],
 }
 
 // Bits and then the end of the data, or bytes and a start.

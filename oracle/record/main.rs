@@ -1,4 +1,5 @@
-// Draws calls, answers each by the original (11 to 15 by document 01), and writes them as the program `replay` reads and prints them.
+// Draws calls, answers each by the original (11 to 15 by document 01, 17 by where its reader stands), and writes them as the program
+// `replay` reads and prints them.
 use crate::common::dice::Dice;
 use lines::Record;
 

@@ -43,7 +43,7 @@ fn bad(dice: &mut Dice, style: &Style, quantiser: &mut u32, width: u32) -> Step 
     s
 }
 
-// The first drawn that are refused by each number, with plain events and with reversible ones.
+// The first drawn that are refused by each number, 17 taken as 2 or 4, with plain events and with reversible ones.
 fn each_refusal(record: &mut Record, dice: &mut Dice, layer: &mut Layer) {
     let width = layer.picture.numbers[0];
     for number in (1..=12).chain([14]) {
@@ -53,7 +53,7 @@ fn each_refusal(record: &mut Record, dice: &mut Dice, layer: &mut Layer) {
             style.escapes = &SOME;
             let found = (0..20_000).map(|_| bad(dice, &style, &mut 1, width)).find(|s| {
                 let stored = s.stored.min(192 * width as usize);
-                layer.clone().call(s, stored).number == number
+                layer.by_original(s, stored) == number
             });
             found.iter().for_each(|s| {
                 record.step(layer, s);

@@ -1,10 +1,10 @@
-// `texture` against the original. Both must give the same number, figure, position and values. On a refusal the position and the numbers
-// lent must stay as they were (the original's reader moves: that is not asked). Spellings, which the original does not tell, must be
-// those that were written.
+// `texture` against the original. Both must give the same number, figure, position and values, with 17 in place of its 2 or 4 where the
+// bits end inside a code. On a refusal the position and the numbers lent must stay as they were (the original's reader moves: that is
+// not asked). Spellings, which the original does not tell, must be those that were written.
 use crate::common::bits::{Bits, any_bytes, bytes_of, flip, push};
 use crate::common::dice::Dice;
 use crate::common::numbers::MOST_BYTES;
-use crate::common::sentence::{self, MANY, Sentence, Spellings, UNTOLD};
+use crate::common::sentence::{self, MANY, Sentence, Spellings, UNTOLD, component, table};
 use crate::common::symbol_call::{Answer, Call, due, lent};
 use crate::common::test::{self, Test};
 use crate::texture::{self, TcoefTable};
@@ -135,6 +135,34 @@ fn every(test: &mut Test, dice: &mut Dice, calls: &[Call], prefix: &str, lengths
             push(&mut bits, v, n);
             each(test, dice, calls, &bits);
         }
+    }
+}
+
+// Every cut of these codes after a prefix, and then the end of the data: 17, and nothing else.
+fn cuts(test: &mut Test, dice: &mut Dice, call: Call, prefix: &str, codes: impl Iterator<Item = (u32, u8)>) {
+    let prefix: Bits = prefix.chars().map(|c| c == '1').collect();
+    for (code, len) in codes {
+        for n in 1..len {
+            let mut bits = prefix.clone();
+            push(&mut bits, u64::from(code >> (len - n)), n.into());
+            assert_eq!(test.bits(dice, &call, &bits, None).number, 17);
+        }
+    }
+}
+
+// Of every table, at each place where its codes are sought.
+fn every_cut(test: &mut Test, dice: &mut Dice) {
+    for other in [false, true] {
+        let codes = texture::dc_size_table(component(other)).iter().map(|r| (r.0.into(), r.1));
+        cuts(test, dice, Call::Dc { chroma: other }, "", codes);
+        let event = |reversible| Call::Event { reversible, inter: other };
+        let codes = texture::tcoef_table(table(other)).iter().map(|r| (r.0, r.1));
+        cuts(test, dice, event(false), "", codes.clone().chain([texture::ESCAPE]));
+        for escape in ["00000110", "000001110"] {
+            cuts(test, dice, event(false), escape, codes.clone());
+        }
+        let codes = texture::rvlc_tcoef_table().iter().map(|r| (r.0, r.1));
+        cuts(test, dice, event(true), "", codes.chain([texture::RVLC_ESCAPE]));
     }
 }
 
@@ -312,6 +340,9 @@ pub fn main() {
     tails(&mut test, dice, &rvlc, "", 3);
     tails(&mut test, dice, &rvlc, "00001", 3);
     says(&mut test, "RVLC event: (escape,) 16 bits, random tails");
+
+    every_cut(&mut test, &mut Dice(3));
+    says(&mut test, "DC, both events: every cut of every code");
 
     lists(&mut test, dice, false, sentences);
     says(&mut test, "lists: whole, truncated, bits flipped");

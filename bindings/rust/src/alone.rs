@@ -57,7 +57,7 @@ impl Neighbours {
 ///
 /// The samples are as they were. By the state, in this order: 11 where the data has more than 1,048,576 bytes or `at` lies past its end;
 /// 12 where the quantiser is outside 1 to 31, the depth outside 4 to 12, or the matrix of method 1 has a zero; 13 where a number of the
-/// neighbours is out of range; 9 where the header says not coded; 10 where its type is not intra. Then by the bits: 1 to 8.
+/// neighbours is out of range; 9 where the header says not coded; 10 where its type is not intra. Then by the bits: 1 to 8, and 17.
 ///
 /// ```
 /// use vaxembro::{Context, Header, Matrix, Method, Neighbours, decode_intra_macroblock};

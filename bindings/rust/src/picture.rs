@@ -48,7 +48,8 @@ impl<'a> Picture<'a> {
     ///
     /// Picture, store and samples are as they were. By the state, in this order: 11 where the data has more than 1,048,576 bytes or
     /// `at` lies past its end; 12 where the quantiser is none or the matrix of method 1 has a zero; 14 where the store is too short;
-    /// 15 where the picture is complete; 9 where the header says not coded; 10 where its type is not intra. Then by the bits: 1 to 8.
+    /// 15 where the picture is complete; 9 where the header says not coded; 10 where its type is not intra. Then by the bits: 1 to 8,
+    /// and 17.
     ///
     /// ```
     /// use vaxembro::{Context, Header, Matrix, Method, Picture, Refusal, STORE};
@@ -56,9 +57,9 @@ impl<'a> Picture<'a> {
     /// let (mut store, mut samples) = ([0; STORE], [0; 384]);
     /// let mut picture = Picture::open(1, 1, 8, Method::Two, &mut store)?;
     /// let (header, context, matrix) = (Header::intra(0, 0), Context::new(8), Matrix::default());
-    /// // 011, 011 and 01: no code begins the last two bits
+    /// // 011, 011 and 01, which begins 011 and 010
     /// let cut = picture.decode_macroblock(&[0x6D], 0, header, context, &matrix, &mut samples);
-    /// assert_eq!(cut, Err(Refusal { number: 2, figure: 1 }));
+    /// assert_eq!(cut, Err(Refusal { number: 17, figure: 0 }));
     /// assert_eq!(picture.due(), Some((0, 0)));
     /// picture.decode_macroblock(&[0x6D, 0xBF], 0, header, context, &matrix, &mut samples)?;
     /// assert_eq!(picture.due(), None);

@@ -8,13 +8,16 @@ use core::fmt;
 /// | number | name | figure | when |
 /// |---|---|---|---|
 /// | 1 | `Truncated` | | no bit is left where a code should begin, or fewer are left than a field has |
-/// | 2 | `InvalidDcSize` | the window | no code of a DC size begins the bits that are left |
+/// | 2 | `InvalidDcSize` | the window | the bits that are left neither begin with a code of a DC size nor begin one |
 /// | 3 | `MarkerBitMissing` | | the marker after a DC difference of more than 8 bits is 0 |
-/// | 4 | `InvalidTcoef` | the window | no code of a coefficient begins the bits that are left |
+/// | 4 | `InvalidTcoef` | the window | the bits that are left neither begin with a code of a coefficient nor begin one |
 /// | 5 | `EscapeMarkerBitMissing` | | a marker inside an escape is 0 |
 /// | 6 | `ReservedEscapeLevel` | | an escape's level is 0 or -2048 |
 /// | 7 | `RvlcEscapeDelimiterMissing` | the four bits | the delimiter of a reversible escape is not 0000 |
 /// | 8 | `Overflow` | the landing | an event lands at place 64 or beyond; any other fault in the same list comes before it |
+/// | 17 | `EndedInsideCode` | | all bits that are left begin a code that has more |
+///
+/// 1 and 17 say that the data stopped, 2 to 8 that it is bad: [`Refusal::stopped`].
 ///
 /// From the state, before any bit is read; the figure is 0:
 ///
@@ -31,7 +34,7 @@ use core::fmt;
 /// docs/REFUSALS.md of the repository says it in full.
 #[derive(Clone, Copy, Debug, PartialEq, Eq)]
 pub struct Refusal {
-    /// 1 to 15.
+    /// 1 to 15, or 17.
     pub number: u32,
     /// The window of 2, 4 and 7, the number that its bits write; the landing of 8; else 0.
     pub figure: u32,
@@ -62,8 +65,22 @@ impl Refusal {
             13 => "Predictor",
             14 => "TooShort",
             15 => "Complete",
+            17 => "EndedInsideCode",
             _ => "Unknown",
         }
+    }
+
+    /// Whether the data stopped, by 1 or 17: it may be fetched again, where 2 to 8 say that it is bad.
+    ///
+    /// That is no promise that more bits would help: a list that lands past place 63, or a reserved level before its last marker, is
+    /// told so too where the bits end first.
+    ///
+    /// ```
+    /// assert!(vaxembro::Refusal { number: 17, figure: 0 }.stopped());
+    /// assert!(!vaxembro::Refusal { number: 2, figure: 0 }.stopped());
+    /// ```
+    pub const fn stopped(&self) -> bool {
+        matches!(self.number, 1 | 17)
     }
 }
 

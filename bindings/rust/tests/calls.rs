@@ -1,4 +1,4 @@
-// Calls every function of the wrapper; what is due is worked out by hand from document 01.
+// Calls every function of the wrapper; what is due is worked out by hand from documents 01 and 02.
 use std::error::Error;
 use vaxembro::{
     Context, Decoded, Header, Matrix, MbType, Method, Neighbours, Picture, Refusal, STORE, Samples, Spellings, decode_intra_macroblock, ffi,
@@ -441,7 +441,7 @@ fn one_after_the_other() {
     let mut picture = Picture::open(3, 1, 8, Method::Two, &mut store).unwrap();
     assert_eq!(first.in_this(&mut picture, &mut samples), Ok(decoded(62, 62, [1, 1, 0, 1, 0])));
     let cut = second.clone().with(|c| c.data.truncate(9)).in_this(&mut picture, &mut samples);
-    assert_eq!(cut, Err(Refusal { number: 4, figure: 0 }));
+    assert_eq!(cut, Err(Refusal { number: 17, figure: 0 }));
     assert_eq!(second.in_this(&mut picture, &mut samples), Ok(decoded(92, 30, [0, 0, 1, 0, 0])));
     assert_eq!(worked().in_this(&mut picture, &mut samples), Ok(decoded(16, 16, NONE)));
     accepted(second.alone(), 92, 30, [0, 0, 1, 0, 0]);
@@ -453,7 +453,6 @@ fn one_after_the_other() {
 fn bits_that_are_no_sentence() {
     both_refuse(&reading("", 0, 0), 1, 0, "Truncated");
     both_refuse(&reading("0000000000001", 0, 0), 2, 1, "InvalidDcSize");
-    both_refuse(&reading("1111111 0", 0, 0).with(|c| c.at = 7), 2, 0, "InvalidDcSize");
     both_refuse(&reading("00000001 100000000 0", 0, 0), 3, 0, "MarkerBitMissing");
     both_refuse(&reading("011 0000000000011", 8, 0), 4, 3, "InvalidTcoef");
     both_refuse(&reading("011 0000011 11 1 000000 0", 8, 0), 5, 0, "EscapeMarkerBitMissing");
@@ -475,6 +474,107 @@ fn bits_that_are_no_sentence() {
     both_refuse(&reading("011 0000011 11 1 111111 1 000000000001 1", 8, 0), 8, 64, "Overflow");
     let run_63 = "1111111 011 0000011 11 0 111111 1 000000000001 1";
     both_refuse(&reading(run_63, 8, 0).with(|c| c.at = 7), 1, 0, "Truncated");
+}
+
+// Bits that end with the data, behind as many others as make up whole bytes.
+fn ending(text: &str, cbpy: u8, cbpc: u8, reversible: bool) -> Call {
+    let n = text.bytes().filter(|b| *b != b' ').count();
+    let at = (8 - n % 8) % 8;
+    reading(&("1".repeat(at) + text), cbpy, cbpc).with(|c| (c.at, c.context.reversible_vlc) = (at, reversible))
+}
+
+fn left(number: u32, figure: u32, name: &str, reversible: bool, cbpy: u8, texts: &[&str]) {
+    for text in texts {
+        both_refuse(&ending(text, cbpy, 0, reversible), number, figure, name);
+    }
+}
+
+const FOUR: &str = "011 011 011 011";
+
+#[test]
+fn bits_that_end_inside_a_code() {
+    let cut = |reversible, cbpy, texts: &[&str]| left(17, 0, "EndedInsideCode", reversible, cbpy, texts);
+    let chroma = [[FOUR, "0"].concat(), [FOUR, "11 0"].concat(), [FOUR, "00000000000"].concat()];
+    cut(false, 0, &["0", "01", "0000000000"]);
+    cut(false, 0, &chroma.each_ref().map(|text| text.as_str()));
+    cut(false, 8, &["011 0", "011 1", "011 00000101000", "011 00000000", "011 000001"]);
+    cut(
+        false,
+        8,
+        &["011 0000011 0 000001", "011 0000011 10 000001", "011 0000011 10 00000101000"],
+    );
+    cut(true, 8, &["011 0000", "011 1", "011 00111111111110", "011 1000000000001"]);
+    // a landing of 64 before it is not told
+    cut(false, 8, &["011 0000011 11 0 111111 1 000000000001 1 00000000"]);
+    cut(true, 8, &["011 00001 0 111111 1 00000000001 1 0000 0 0000"]);
+    cut(false, 8, &["011 01111 011 011 0"]);
+}
+
+#[test]
+fn last_bits_that_begin_no_code() {
+    let dc = |figure, texts: &[&str]| left(2, figure, "InvalidDcSize", false, 0, texts);
+    dc(0, &["00000000000", &[FOUR, "000000000000"].concat()]);
+    dc(1, &["000000000001"]);
+    let event = |figure, reversible, texts: &[&str]| left(4, figure, "InvalidTcoef", reversible, 8, texts);
+    event(0, false, &["011 000000000", "011 0000011 0 000000000"]);
+    event(3, false, &["011 0000011 0 0000011", "011 0000011 10 0000011"]);
+    event(0, false, &["011 0000011 11 0 111111 1 000000000001 1 000000000"]);
+    event(0, true, &["011 00000", "011 00001 0 111111 1 00000000001 1 0000 0 00000"]);
+    event(4095, true, &["011 00111111111111"]);
+    event(4096, true, &["011 1000000000000"]);
+}
+
+#[test]
+fn last_bits_inside_a_field() {
+    let field = |reversible, texts: &[&str]| left(1, 0, "Truncated", reversible, 8, texts);
+    field(false, &["", "011", "10 1", "00000001 100000000"]);
+    field(
+        false,
+        &[
+            "011 0111",
+            "011 0000011",
+            "011 0000011 0",
+            "011 0000011 1",
+            "011 0000011 10",
+            "011 0000011 11",
+        ],
+    );
+    field(
+        false,
+        &["011 0000011 11 1 000000 1 00000000000", "011 0000011 11 0 111111 1 000000000001 1"],
+    );
+    field(true, &["011 1011", "011 00001", "011 00001 1 000000 1 00000000000 1 0000"]);
+}
+
+// Block 0 and Cb coded, cut before each bit: 17 after the first bit of a code, which stands in brackets here, else 1.
+fn cut_anywhere(text: &str, reversible: bool, events: [u32; 5]) {
+    let (mut bits, mut inside) = (String::new(), 0);
+    for b in text.chars() {
+        match b {
+            '(' => inside = 1,
+            ')' => inside = 0,
+            '0' | '1' => {
+                let (number, name) = if inside > 1 { (17, "EndedInsideCode") } else { (1, "Truncated") };
+                both_refuse(&ending(&bits, 8, 2, reversible), number, 0, name);
+                bits.push(b);
+                inside += u32::from(inside > 0);
+            }
+            _ => (),
+        }
+    }
+    let whole = ending(&bits, 8, 2, reversible);
+    accepted(whole.in_picture(), whole.at + bits.len(), bits.len(), events);
+    accepted(whole.alone(), whole.at + bits.len(), bits.len(), events);
+}
+
+#[test]
+fn a_good_macroblock_cut_anywhere() {
+    let plain = "(00000001) 100000000 1 (10) 0 (0000011) 0 (0111) 0 (011) (10) 01 (00001) 100000 (11) (0000011) 10 (10) 0 \
+                 (0000011) 11 1 000000 1 100000000001 1 (01) 11";
+    cut_anywhere(plain, false, [1, 1, 1, 1, 0]);
+    let reversible = "(011) (110) 0 (1011) 0 (011) (011) (011) (11) (00001) 0 000000 1 00000000001 1 0000 0 \
+                      (00001) 1 000000 1 00000000001 1 0000 0 (11)";
+    cut_anywhere(reversible, true, [2, 0, 0, 0, 2]);
 }
 
 #[test]
@@ -649,4 +749,13 @@ fn refusals_told() {
     assert_eq!(told(2, 5), "refused by 2 InvalidDcSize, window 5");
     assert_eq!(told(8, 64), "refused by 8 Overflow, landing 64");
     assert_eq!(told(15, 0), "refused by 15 Complete");
+    assert_eq!(told(17, 0), "refused by 17 EndedInsideCode");
+}
+
+#[test]
+fn stopped() {
+    let by: Vec<u32> = (0..=20).filter(|&number| Refusal { number, figure: 0 }.stopped()).collect();
+    assert_eq!(by, [1, 17]);
+    assert!(ending("0", 0, 0, false).alone().0.unwrap_err().stopped());
+    assert!(!ending("00000000000", 0, 0, false).alone().0.unwrap_err().stopped());
 }

@@ -1,4 +1,4 @@
-// Runs the edges that document 01 names for bits and codes through the public functions, one a line.
+// Runs the edges that documents 01 and 02 name for bits and codes through the public functions, one a line.
 use bits::Cursor;
 use codes::DcComponent;
 use codes::TcoefTable;
@@ -185,6 +185,46 @@ fn dc_without_a_code() {
     dc(b"start past the end", &[0xFF], 9, DcComponent::Luminance);
 }
 
+// DC parts whose code is cut, beside bits that begin none.
+fn dc_cut_codes() {
+    dc(
+        b"ten zeros left, luminance",
+        &[0xFC, 0x00],
+        6,
+        DcComponent::Luminance,
+    );
+    dc(
+        b"eleven zeros left, luminance",
+        &[0xF8, 0x00],
+        5,
+        DcComponent::Luminance,
+    );
+    dc(
+        b"eleven zeros left, chrominance",
+        &[0xF8, 0x00],
+        5,
+        DcComponent::Chrominance,
+    );
+    dc(
+        b"twelve zeros left, chrominance",
+        &[0xF0, 0x00],
+        4,
+        DcComponent::Chrominance,
+    );
+    dc(
+        b"eleven zeros and a 1 left, luminance",
+        &[0xF0, 0x01],
+        4,
+        DcComponent::Luminance,
+    );
+    dc(
+        b"eleven zeros and a 1 left, chrominance",
+        &[0xF0, 0x01],
+        4,
+        DcComponent::Chrominance,
+    );
+}
+
 // DC parts: size, difference and the position after it.
 fn dc_examples() {
     dc(b"P1", &[0xC0], 0, DcComponent::Luminance);
@@ -215,6 +255,37 @@ fn event_without_bits() {
     event(b"no bits left, intra", &[0xFF], 8, TcoefTable::Intra);
     event(b"no bits left, inter", &[0xFF], 8, TcoefTable::Inter);
     event(b"start past the end", &[0xFF], 9, TcoefTable::Intra);
+}
+
+// Plain events whose code is cut, beside bits that begin none.
+fn event_cut_codes() {
+    event(
+        b"eleven bits of a code of twelve, intra",
+        &[0xF8, 0x28],
+        5,
+        TcoefTable::Intra,
+    );
+    event(
+        b"eleven bits of a code of twelve, inter",
+        &[0xF8, 0x28],
+        5,
+        TcoefTable::Inter,
+    );
+    event(b"eight zeros left, intra", &[0x00], 0, TcoefTable::Intra);
+    event(b"eight zeros left, inter", &[0x00], 0, TcoefTable::Inter);
+    event(
+        b"nine zeros left, intra",
+        &[0xFE, 0x00],
+        7,
+        TcoefTable::Intra,
+    );
+    event(
+        b"nine zeros left, inter",
+        &[0xFE, 0x00],
+        7,
+        TcoefTable::Inter,
+    );
+    event(b"code without its sign", &[0xF7], 4, TcoefTable::Intra);
 }
 
 // Plain events: last, run, level and the position after it.
@@ -266,11 +337,80 @@ fn event_escapes() {
     event(b"escape alone", &[0x83], 1, TcoefTable::Intra);
 }
 
+// Codes that are cut after an escape of type 1, beside bits that begin none.
+fn event_cut_type_1() {
+    event(b"type 1 alone", &[0x06], 0, TcoefTable::Intra);
+    event(b"type 1 with 000001", &[0xC1, 0x81], 2, TcoefTable::Intra);
+    event(b"type 1 with 0000011", &[0x83, 0x03], 1, TcoefTable::Intra);
+    event(
+        b"type 1 with eleven bits of a code of twelve",
+        &[0xF8, 0x30, 0x28],
+        5,
+        TcoefTable::Intra,
+    );
+    event(
+        b"type 1 with nine zeros",
+        &[0xFE, 0x0C, 0x00],
+        7,
+        TcoefTable::Intra,
+    );
+}
+
+// Codes that are cut after an escape of type 2, beside bits that begin none.
+fn event_cut_type_2() {
+    event(b"type 2 without its 0", &[0x07], 0, TcoefTable::Intra);
+    event(b"type 2 with 000001", &[0x83, 0x81], 1, TcoefTable::Intra);
+    event(b"type 2 with 0000011", &[0x07, 0x03], 0, TcoefTable::Intra);
+    event(
+        b"type 2 with eleven bits of a code of twelve",
+        &[0xF0, 0x70, 0x28],
+        4,
+        TcoefTable::Intra,
+    );
+    event(
+        b"type 2 with nine zeros",
+        &[0xFC, 0x1C, 0x00],
+        6,
+        TcoefTable::Intra,
+    );
+}
+
 // Reversible events that are not there.
 fn reversible_without_bits() {
     event_rvlc(b"no bits left, intra", &[0xFF], 8, TcoefTable::Intra);
     event_rvlc(b"no bits left, inter", &[0xFF], 8, TcoefTable::Inter);
     event_rvlc(b"start past the end", &[0xFF], 9, TcoefTable::Intra);
+}
+
+// Reversible events whose code is cut, beside bits that begin none.
+fn reversible_cut_codes() {
+    event_rvlc(b"four zeros left", &[0xF0], 4, TcoefTable::Intra);
+    event_rvlc(b"five zeros left", &[0xE0], 3, TcoefTable::Intra);
+    event_rvlc(
+        b"fourteen bits of a code of fifteen, intra",
+        &[0xCF, 0xFE],
+        2,
+        TcoefTable::Intra,
+    );
+    event_rvlc(
+        b"fourteen bits of a code of fifteen, inter",
+        &[0xCF, 0xFE],
+        2,
+        TcoefTable::Inter,
+    );
+    event_rvlc(
+        b"fourteen bits of no code",
+        &[0xCF, 0xFF],
+        2,
+        TcoefTable::Intra,
+    );
+    event_rvlc(
+        b"reversible code without its sign",
+        &[0xFB],
+        4,
+        TcoefTable::Intra,
+    );
+    event_rvlc(b"reversible escape alone", &[0xE1], 3, TcoefTable::Intra);
 }
 
 // Reversible escapes, after a code that is none.
@@ -340,6 +480,12 @@ fn plain_list_ends() {
         true,
     );
     list(
+        b"after a DC, run 63 without last, then a cut code",
+        &[0xC1, 0xEF, 0xE0, 0x0B, 0x00],
+        2,
+        true,
+    );
+    list(
         b"without a DC, two events",
         &[0xF0, 0x78, 0x28, 0x02, 0xC1, 0xF0, 0xE0, 0x0B],
         4,
@@ -394,6 +540,12 @@ fn reversible_list_ends() {
     list_rvlc(
         b"after a DC, run 63 without last, then no code",
         &[0xC2, 0xFE, 0x01, 0x60, 0x00, 0x00],
+        2,
+        true,
+    );
+    list_rvlc(
+        b"after a DC, run 63 without last, then a cut code",
+        &[0xC2, 0xFE, 0x01, 0x60, 0x7F],
         2,
         true,
     );
@@ -458,11 +610,16 @@ fn spellings_in_lists() {
 
 fn main() {
     dc_without_a_code();
+    dc_cut_codes();
     dc_examples();
     event_without_bits();
+    event_cut_codes();
     event_examples();
     event_escapes();
+    event_cut_type_1();
+    event_cut_type_2();
     reversible_without_bits();
+    reversible_cut_codes();
     reversible_escapes();
     reversible_markers();
     plain_list_ends();

@@ -1,4 +1,4 @@
--- A macroblock read alone: its answer, its samples and demand 3, by what the state and the reader say. Assumes nothing.
+-- A macroblock read alone: its answer, its samples, demand 3 and what is told where its sentence breaks off, by what the state and the reader say. Assumes nothing.
 use mathlib.Core.Bool.{Bool}
 use mathlib.Core.List.{List, _++_, _∷_}
 use mathlib.Core.Path.{_≡_, ap, ap₂, refl, subst, subst⁻¹, sym, _∙_}
@@ -17,7 +17,8 @@ use Rattle.fields.specs.Answer.{after}
 use Rattle.events.specs.declared.spelling.Spellings.{Spellings}
 use Rattle.sentences.proofs.CountLaws.{countsIn}
 use Rattle.sentences.specs.Macroblock.{Parts}
-use Rattle.fields.specs.Reader.{Res}
+use Rattle.fields.specs.Reader.{Res, no, ok}
+use Rattle.fields.specs.Stopped.{Stops}
 use Rattle.assembly.proofs.OutcomeLaws.{answered, read-by}
 use Rattle.assembly.proofs.ContextLaws.{depth-fine}
 use Rattle.assembly.specs.Answer.{testsOf}
@@ -28,10 +29,10 @@ use Rattle.assembly.specs.declared.error.BlockAssemblyError.{BlockAssemblyError
 use Rattle.assembly.specs.declared.error.BlockAssemblyError.the-variants.{TooShort}
 use Rattle.assembly.specs.declared.error.Checked.{Checked}
 use Rattle.assembly.specs.declared.error.Checked.the-variants.{Bad, Fine}
-use Rattle.macroblock.proofs.DemandLaws.{Call, demand}
+use Rattle.macroblock.proofs.DemandLaws.{Call, demand, stopped-of}
 use Rattle.macroblock.proofs.SixLaws.{values-six-fine}
 use Rattle.macroblock.proofs.StateLaws.{StateFine, state-fine}
-use Rattle.macroblock.specs.Alone.{Accepted, DemandAlone, Told}
+use Rattle.macroblock.specs.Alone.{Accepted, DemandAlone, Stopped, StoppedAlone, Told}
 use Rattle.macroblock.specs.Answer.{answerBy, keptBy, macroblockAnswer, samplesOut, samplesTold, sentenceOf, stateOf, told, valuesAlone}
 use Rattle.macroblock.specs.Header.{headerTests, patternBy}
 use Rattle.macroblock.specs.Outcomes.{bitsSaid, headerNumbers, macroblockDue, macroblockOutcome}
@@ -45,7 +46,8 @@ module _ (d : List ℕ) (at : ℕ) (h : MacroblockHeader) (dcCoded rev : Bool) (
   Meets r out =
       (r ≡ macroblockAnswer d at h dcCoded rev x p w old)
       × ((out ≡ samplesOut d at h dcCoded rev x p w old)
-      × (DemandAlone d at h dcCoded rev x p w old r out × (macroblockOutcome r ≡ macroblockDue d at h dcCoded rev x p w (length old))))
+      × (DemandAlone d at h dcCoded rev x p w old r out
+      × ((macroblockOutcome r ≡ macroblockDue d at h dcCoded rev x p w (length old)) × StoppedAlone d at h dcCoded rev x p w (length old) r)))
 
   -- the answer by number
   by-number : {r : MacroblockDecoded} → r ≡ macroblockAnswer d at h dcCoded rev x p w old → macroblockOutcome r ≡ macroblockDue d at h dcCoded rev x p w (length old)
@@ -64,7 +66,7 @@ module _ (d : List ℕ) (at : ℕ) (h : MacroblockHeader) (dcCoded rev : Bool) (
         a,
         (
           sym (ap (λ (s : Checked). keptBy s (samplesTold h dcCoded x p w (sentenceOf d at h dcCoded rev) old) old) q),
-          (λ f. absurd (let z : _≡_ {A = ℕ} 0 1 = cc in omega arith), by-number a),
+          (λ f. absurd (let z : _≡_ {A = ℕ} 0 1 = cc in omega arith), (by-number a, λ f. absurd (let z : _≡_ {A = ℕ} 0 1 = cc in omega arith))),
         ),
       )
 
@@ -87,8 +89,13 @@ module _ (d : List ℕ) (at : ℕ) (h : MacroblockHeader) (dcCoded rev : Bool) (
       writes = λ s b g. f ∙ ap (λ (y : Res (List Parts)). samplesTold h dcCoded x p w y old) g;
     }
 
+    -- what stopped the reader is told
+    stopped-told : (y : Res (List Parts)) → Stops y → Stopped (told d at y)
+    stopped-told (ok s b) k = k
+    stopped-told (no n) k = k
+
     pub whole : Meets r out
-    unfolding macroblockAnswer samplesOut
+    unfolding macroblockAnswer samplesOut sentenceOf
     whole =
         let a = e ∙ sym (ap (λ (s : Checked). answerBy s (told d at (sentenceOf d at h dcCoded rev))) q) in (
           a,
@@ -97,7 +104,7 @@ module _ (d : List ℕ) (at : ℕ) (h : MacroblockHeader) (dcCoded rev : Bool) (
             (
               λ _. demand d at dcCoded rev (patternBy h) x (valuesAlone h dcCoded x p w) (Accepted r) (Told at r) old out
                   (in-data-yes (length d) at (fine .inside) .1) (depth-fine x w (fine .context)) (λ s i l. values-six-fine x p w (rowsOf dcCoded (patternBy h) s) i l) (fine .roomy) call,
-              by-number a,
+              (by-number a, λ _ s b. subst⁻¹ Stopped e (stopped-told (sentenceOf d at h dcCoded rev) (stopped-of d at dcCoded rev (patternBy h) s b))),
             ),
           ),
         )

@@ -28,7 +28,7 @@ use Rattle.macroblock.specs.declared.header.MacroblockHeader.{Macroblock
 pub header-told : (h : MacroblockHeader) → Told fine Bad (headerCheck h)
 header-told h = first-told (headerTests h) (tt, (tt, tt))
 
--- what is read of a macroblock is refused by 1 to 8
+-- what is read of a macroblock is refused by 1 to 8 or 17
 pub sentence-by-bits : (d : List ℕ) (at : ℕ) (h : MacroblockHeader) (dcCoded rev : Bool) → ByBits (sentenceOf d at h dcCoded rev)
 unfolding sentenceOf
 sentence-by-bits d at h dcCoded rev = macroblock-by-bits dcCoded rev (patternBy h) (bitsFrom d at)

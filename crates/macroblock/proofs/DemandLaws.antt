@@ -14,15 +14,17 @@ use Rattle.numbers.specs.Grid.{cell}
 use Rattle.ranges.specs.Range.{depthFine}
 use Rattle.samples.proofs.LayoutLaws.{rest-kept, sample-at}
 use Rattle.samples.specs.Samples.{placeOf, samplesAfter}
+use Rattle.sentences.proofs.CutSentences.{macroblock-cut-sentence}
 use Rattle.sentences.proofs.Sentences.{macroblock-sentences}
 use Rattle.fields.specs.Answer.{after}
 use Rattle.sentences.specs.Macroblock.{Parts}
 use Rattle.sentences.specs.MacroblockReader.{readMacroblock}
 use Rattle.fields.specs.Reader.{Res, no, ok}
+use Rattle.fields.specs.Stopped.{Stops}
 use Rattle.fields.specs.declared.error.TextureParseError.{TextureParseError}
 use Rattle.assembly.specs.declared.context.MacroblockTextureContext.{MacroblockTextureContext}
 use Rattle.macroblock.proofs.SixLaws.{samples-at}
-use Rattle.macroblock.specs.Demand.{BeginsAt, Demand3, Sample}
+use Rattle.macroblock.specs.Demand.{BeginsAt, BreaksOffAt, Demand3, Sample}
 use Rattle.macroblock.specs.Six.{blockAt, samplesOfSix}
 
 module _ (d : List ℕ) (at : ℕ) (dcCoded rev : Bool) (pattern : List Bool) where
@@ -32,6 +34,10 @@ module _ (d : List ℕ) (at : ℕ) (dcCoded rev : Bool) (pattern : List Bool) wh
   -- the reader accepts what begins with a sentence
   pub read-of : (s : List Parts) → (b : BeginsAt d at dcCoded rev pattern s) → readBy ≡ ok s (b .1 .0)
   read-of s b = ap (readMacroblock dcCoded rev pattern) (b .1 .1) ∙ macroblock-sentences dcCoded rev pattern .own s (b .1 .0) (b .0)
+
+  -- and is stopped where a sentence breaks off
+  pub stopped-of : (s : List Parts) → BreaksOffAt d at dcCoded rev pattern s → Stops readBy
+  stopped-of s b = macroblock-cut-sentence dcCoded rev pattern (bitsFrom d at) s b
 
   module _ (x : MacroblockTextureContext) (values : List Parts → List (List (List ℤ))) (Accepted : Type 0) (Told : ℕ → List Parts → Type 0) (before out : List ℤ) where
     -- what is asked of the call

@@ -1,18 +1,21 @@
--- Demand 3 of a macroblock read alone. Definitions only.
+-- Demand 3 of a macroblock read alone, and what is told where its sentence breaks off. Definitions only.
 use mathlib.Core.Bool.{Bool}
 use mathlib.Core.List.{List}
 use mathlib.Core.Path.{_≡_}
 use Prim.Native.Nat.{ℕ, _+_}
+use lib.Dec.{T}
 use lib.IntN.{ℤ}
 use lib.ListN.{length}
 use Rattle.bits.specs.Cursor.{cursorAt}
 use Rattle.events.specs.Spellings.{spellingsOf}
+use Rattle.fields.specs.Stopped.{stopped}
 use Rattle.sentences.specs.Macroblock.{Parts, eventsIn}
 use Rattle.prediction.specs.declared.predictor.BlockPredictors.{BlockPredictors}
+use Rattle.assembly.specs.Answer.{numberOf}
 use Rattle.assembly.specs.declared.context.MacroblockTextureContext.{MacroblockTextureContext}
 use Rattle.assembly.specs.declared.error.Checked.the-variants.{Fine}
 use Rattle.macroblock.specs.Answer.{stateOf, valuesAlone}
-use Rattle.macroblock.specs.Demand.{Demand3}
+use Rattle.macroblock.specs.Demand.{BreaksOffAt, Demand3}
 use Rattle.macroblock.specs.Header.{patternBy}
 use Rattle.macroblock.specs.declared.decode.MacroblockDecoded.{MacroblockDecoded}
 use Rattle.macroblock.specs.declared.decode.MacroblockDecoded.the-variants.{Decoded, Refused}
@@ -32,3 +35,13 @@ abbrev pub DemandAlone : List ℕ → ℕ → MacroblockHeader → Bool → Bool
 DemandAlone d at h dcCoded rev x p w before r after =
     stateOf d at h x p w (length before) ≡ Fine
     → Demand3 d at dcCoded rev (patternBy h) x (valuesAlone h dcCoded x p w) (Accepted r) (Told at r) before after
+
+-- refused by 1 or 17
+abbrev pub Stopped : MacroblockDecoded → Type 0
+Stopped (Decoded n c k) = ⊥
+Stopped (Refused e) = T (stopped (numberOf e))
+
+-- where none of 9 to 15 holds: a sentence that breaks off is told so, never as bad
+abbrev pub StoppedAlone : List ℕ → ℕ → MacroblockHeader → Bool → Bool → MacroblockTextureContext → BlockPredictors → List (List ℕ) → ℕ → MacroblockDecoded → Type 0
+StoppedAlone d at h dcCoded rev x p w room r =
+    stateOf d at h x p w room ≡ Fine → (s : List Parts) → BreaksOffAt d at dcCoded rev (patternBy h) s → Stopped r

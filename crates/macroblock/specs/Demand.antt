@@ -12,7 +12,7 @@ use Rattle.exact_transform.specs.Exact.{Near, exact}
 use Rattle.ranges.specs.Range.{highest}
 use Rattle.exact_transform.specs.Transform.{whole}
 use Rattle.samples.specs.Samples.{macroblockSamples, placeOf}
-use Rattle.sentences.specs.Compose.{Begins}
+use Rattle.sentences.specs.Compose.{Begins, BreaksOff}
 use Rattle.sentences.specs.Macroblock.{GoodMacroblock, Parts, macroblockBits}
 use Rattle.assembly.specs.declared.context.MacroblockTextureContext.{MacroblockTextureContext}
 use Rattle.macroblock.specs.Six.{blockAt}
@@ -20,6 +20,10 @@ use Rattle.macroblock.specs.Six.{blockAt}
 -- the bits from the start to the end of the data begin with the sentence
 abbrev pub BeginsAt : List ℕ → ℕ → Bool → Bool → List Bool → List Parts → Type 0
 BeginsAt d at dcCoded rev pattern s = Begins (macroblockBits pattern) (GoodMacroblock dcCoded rev pattern) (bitsFrom d at) s
+
+-- they break off inside the sentence
+abbrev pub BreaksOffAt : List ℕ → ℕ → Bool → Bool → List Bool → List Parts → Type 0
+BreaksOffAt d at dcCoded rev pattern s = BreaksOff (macroblockBits pattern) (GoodMacroblock dcCoded rev pattern) (bitsFrom d at) s
 
 -- the sample of row y, column u of block i: the limited whole number of the block's values, which is near the exact transform of the same values
 pub record Sample (x : MacroblockTextureContext) (f : List (List ℤ)) (after : List ℤ) (i y u : ℕ) : Type 0 where

@@ -2,7 +2,7 @@
 ghost use mathlib.Core.Path.{_≡_};
 ghost use lib.ListN.{length};
 ghost use Rattle.macroblock.specs.Answer.{macroblockAnswer, samplesOut, samplesTold, sentenceOf, stateOf, told};
-ghost use Rattle.macroblock.specs.Alone.{DemandAlone};
+ghost use Rattle.macroblock.specs.Alone.{DemandAlone, StoppedAlone};
 ghost use Rattle.macroblock.specs.Outcomes.{macroblockDue, macroblockOutcome};
 ghost use Rattle.assembly.specs.declared.error.Checked.the-variants.{Fine};
 use crate::header::MacroblockHeader;
@@ -87,7 +87,8 @@ fn decode_checked(
     }
 }
 
-// A macroblock read alone: what is answered, what the samples hold, demand 3, and the answer by number.
+// A macroblock read alone: what is answered, what the samples hold, demand 3, the answer by number, and what is told
+// where its sentence breaks off.
 pub fn decode_intra_macroblock(
     data: &[u8],
     c: Cursor,
@@ -103,6 +104,7 @@ pub fn decode_intra_macroblock(
     ensures samples { λ r. ⌜ now (samples .exit) ≡ samplesOut (now («data» .entry)) (c .«bit_pos») header «use_intra_dc_vlc» «reversible_vlc» ctx predictors «quant_matrix» (now (samples .entry)) ⌝ }
     ensures demand { λ r. ⌜ DemandAlone (now («data» .entry)) (c .«bit_pos») header «use_intra_dc_vlc» «reversible_vlc» ctx predictors «quant_matrix» (now (samples .entry)) r (now (samples .exit)) ⌝ }
     ensures outcome { λ r. ⌜ macroblockOutcome r ≡ macroblockDue (now («data» .entry)) (c .«bit_pos») header «use_intra_dc_vlc» «reversible_vlc» ctx predictors «quant_matrix» (length (now (samples .entry))) ⌝ }
+    ensures stopped { λ r. ⌜ StoppedAlone (now («data» .entry)) (c .«bit_pos») header «use_intra_dc_vlc» «reversible_vlc» ctx predictors «quant_matrix» (length (now (samples .entry))) r ⌝ }
 {
     let room = samples.len();
     let checked = check_state(data, c, header, ctx, predictors, quant_matrix, room);

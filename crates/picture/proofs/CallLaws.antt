@@ -1,4 +1,4 @@
--- A call in a picture: its answer, samples and store, and demand 3, by what the state and the reader say. Assumes nothing.
+-- A call in a picture: its answer, samples and store, demand 3 and what is told where its sentence breaks off, by what the state and the reader say. Assumes nothing.
 use mathlib.Core.Bool.{Bool}
 use mathlib.Core.List.{List, _++_}
 use mathlib.Core.Path.{_≡_, ap, refl, subst, subst⁻¹, sym, _∙_}
@@ -14,14 +14,15 @@ use Rattle.fields.specs.Answer.{after}
 use Rattle.events.specs.declared.spelling.Spellings.{Spellings}
 use Rattle.sentences.proofs.CountLaws.{countsIn}
 use Rattle.sentences.specs.Macroblock.{Parts}
-use Rattle.fields.specs.Reader.{Res}
+use Rattle.fields.specs.Reader.{Res, no, ok}
+use Rattle.fields.specs.Stopped.{Stops}
 use Rattle.assembly.proofs.OutcomeLaws.{answered, read-by}
 use Rattle.assembly.proofs.ContextLaws.{depth-fine}
 use Rattle.block_reader.specs.Rows.{rowsOf}
 use Rattle.assembly.specs.declared.error.BlockAssemblyError.{BlockAssemblyError}
 use Rattle.assembly.specs.declared.error.Checked.{Checked}
 use Rattle.assembly.specs.declared.error.Checked.the-variants.{Bad, Fine}
-use Rattle.macroblock.proofs.DemandLaws.{Call, demand, read-of}
+use Rattle.macroblock.proofs.DemandLaws.{Call, demand, read-of, stopped-of}
 use Rattle.macroblock.specs.Answer.{keptBy, sentenceOf}
 use Rattle.macroblock.specs.Header.{patternBy}
 use Rattle.record.proofs.RecordLaws.{read-back}
@@ -31,7 +32,7 @@ use Rattle.picture.proofs.SerialLaws.{kept-is, turn-fine, up-sound}
 use Rattle.picture_state.proofs.StateLaws.{FirstFine, state-first}
 use Rattle.picture.specs.Answered.{Answered}
 use Rattle.picture.specs.Call.{Input, answerBy, answerOut, answerTold, aroundHere, contextHere, recordHere, samplesOut, samplesTold, sentenceHere, stateHere, storeOut, storeTold, valuesHere}
-use Rattle.picture.specs.InPicture.{Accepted, Begun, Promise, Told, kept}
+use Rattle.picture.specs.InPicture.{Accepted, Begun, Promise, Stopped, Told, kept}
 use Rattle.picture.specs.Outcomes.{callDue, callNumbers, callSaid, pictureOutcome}
 use Rattle.picture_state.specs.Picture.{onward}
 use Rattle.picture_state.specs.Ring.{offset}
@@ -72,6 +73,7 @@ module _ (p : Picture) (x : Input) (store : List ℤ) where
         store = sym (ap (λ (s : Checked). keptBy s (storeRead (sentenceHere p x)) store) q);
         demand = λ f. absurd (let z : _≡_ {A = ℕ} 0 1 = cc in omega arith);
         outcome = by-number a;
+        stopped = λ f. absurd (let z : _≡_ {A = ℕ} 0 1 = cc in omega arith);
       }
 
   module _ (q : stateHere p x store ≡ Fine) (r : PictureDecoded) (out st : List ℤ)
@@ -131,8 +133,13 @@ module _ (p : Picture) (x : Input) (store : List ℤ) where
       earlier = earlier-is;
     }
 
+    -- what stopped the reader is told
+    stopped-told : (y : Res (List Parts)) → Stops y → Stopped (answerTold p (x .bytes) (x .start) y)
+    stopped-told (ok s b) k = k
+    stopped-told (no n) k = k
+
     pub whole : Answered p x store r out st
-    unfolding answerOut samplesOut storeOut
+    unfolding answerOut samplesOut storeOut sentenceOf
     whole =
         let a = e ∙ sym (ap (λ (s : Checked). answerBy s (answerTold p (x .bytes) (x .start) (sentenceHere p x))) q) in record {
           answer = a;
@@ -140,4 +147,5 @@ module _ (p : Picture) (x : Input) (store : List ℤ) where
           store = g ∙ sym (ap (λ (s : Checked). keptBy s (storeRead (sentenceHere p x)) store) q);
           demand = λ _. promise;
           outcome = by-number a;
+          stopped = λ _ s b. subst⁻¹ Stopped e (stopped-told (sentenceHere p x) (stopped-of (x .bytes) (x .start) dcCoded rev (patternBy (x .header)) s b));
         }

@@ -4,7 +4,7 @@ use mathlib.Core.Path.{_≡_}
 use lib.IntN.{ℤ}
 use Rattle.picture_state.specs.declared.picture.Picture.{Picture}
 use Rattle.picture.specs.Call.{Input, answerOut, samplesOut, storeOut}
-use Rattle.picture.specs.InPicture.{DemandInPicture}
+use Rattle.picture.specs.InPicture.{DemandInPicture, StoppedInPicture}
 use Rattle.picture.specs.Outcomes.{callDue, pictureOutcome}
 use Rattle.picture.specs.declared.call.PictureDecoded.{PictureDecoded}
 
@@ -16,3 +16,5 @@ pub record Answered (p : Picture) (x : Input) (before : List ℤ) (r : PictureDe
   pub demand : DemandInPicture p x before r out after
   -- the answer by number
   pub outcome : pictureOutcome r ≡ callDue p x before
+  -- where the sentence breaks off
+  pub stopped : StoppedInPicture p x before r

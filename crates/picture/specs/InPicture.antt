@@ -1,14 +1,17 @@
--- Demand 3 of a macroblock in a picture. Definitions only.
+-- Demand 3 of a macroblock in a picture, and what is told where its sentence breaks off. Definitions only.
 use mathlib.Core.List.{List}
 use mathlib.Core.Path.{_≡_}
 use Prim.Native.Nat.{ℕ, _+_, _<_, _≤_}
+use lib.Dec.{T}
 use lib.IntN.{ℤ}
 use Rattle.bits.specs.Cursor.{cursorAt}
 use Rattle.events.specs.Spellings.{spellingsOf}
+use Rattle.fields.specs.Stopped.{stopped}
 use Rattle.sentences.specs.Macroblock.{Parts, eventsIn}
 use Rattle.block_reader.specs.Rows.{rowsOf}
+use Rattle.assembly.specs.Answer.{numberOf}
 use Rattle.assembly.specs.declared.error.Checked.the-variants.{Fine}
-use Rattle.macroblock.specs.Demand.{BeginsAt, Demand3}
+use Rattle.macroblock.specs.Demand.{BeginsAt, BreaksOffAt, Demand3}
 use Rattle.macroblock.specs.Header.{patternBy}
 use Rattle.record.specs.Record.{knownOf, recordAt}
 use Rattle.record.specs.declared.record.Side.{Side}
@@ -28,6 +31,11 @@ Accepted (Refused e) = ⊥
 -- n bits, the position n bits on, the sentence's events of each spelling, and one macroblock more
 abbrev pub Told : Picture → ℕ → PictureDecoded → ℕ → List Parts → Type 0
 Told p at r n s = r ≡ Decoded n (cursorAt (at + n)) (spellingsOf (eventsIn s)) (onward p)
+
+-- refused by 1 or 17
+abbrev pub Stopped : PictureDecoded → Type 0
+Stopped (Decoded n c k p) = ⊥
+Stopped (Refused e) = T (stopped (numberOf e))
 
 module _ (p : Picture) (x : Input) (before : List ℤ) where
   abbrev pub Begun : List Parts → Type 0
@@ -50,3 +58,9 @@ module _ (p : Picture) (x : Input) (before : List ℤ) where
   -- where none of 9 to 15 holds
   abbrev pub DemandInPicture : PictureDecoded → List ℤ → List ℤ → Type 0
   DemandInPicture r samples store = stateHere p x before ≡ Fine → Promise r samples store
+
+  -- where none of 9 to 15 holds: a sentence that breaks off is told so, never as bad
+  abbrev pub StoppedInPicture : PictureDecoded → Type 0
+  StoppedInPicture r =
+      stateHere p x before ≡ Fine
+      → (s : List Parts) → BreaksOffAt (x .bytes) (x .start) (x .context .«use_intra_dc_vlc») (x .context .«reversible_vlc») (patternBy (x .header)) s → Stopped r

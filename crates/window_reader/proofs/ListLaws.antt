@@ -17,7 +17,7 @@ use Rattle.codes.proofs.FirstBitsLaws.{intraRow, row-small}
 use Rattle.codes.specs.Tcoef.{lmaxBy, tcoefIntra}
 use Rattle.codes.specs.Tcoef as T
 use Rattle.codes.specs.declared.tcoef_tables.TcoefTable.the-variants.{Intra}
-use Rattle.events.proofs.EitherLaws.{event-complete}
+use Rattle.events.proofs.EitherLaws.{event-takes}
 use Rattle.fields.proofs.ReadLaws.{no-ok}
 use Rattle.texture.proofs.LoopLaws.{ended, event-less, rest, rest-last, rest-more, rest-start, small, startOf}
 use Rattle.events.specs.Event.{Event, GoodEvent, lastOf, levelOf, plain, runOf, rvlc, rvlcEscape, signed12, signedBy, spellingOf, type1, type2, type3, valueOf}
@@ -80,7 +80,7 @@ pub record Turn (d : List ℕ) (at : ℕ) (r : EventAt) : Type 0 where
 
 pub turn : (d : List ℕ) (at : ℕ) (r : EventAt) → EventTold d at r → Turn d at r
 turn d at r t =
-    let read : event false (bitsFrom d at) ≡ ok (t .event) (bitsFrom d (r .next)) = ap (event false) (t .bits) ∙ event-complete false (t .event) (bitsFrom d (r .next)) (t .good) in
+    let read : event false (bitsFrom d at) ≡ ok (t .event) (bitsFrom d (r .next)) = ap (event false) (t .bits) ∙ event-takes false (t .event) (t .good) .reads (bitsFrom d (r .next)) in
     let run-is : runOf Intra (t .event) ≡ r .run = ap (λ (v : AcEvent). v .run) (t .says) in
     let level-is : levelOf Intra (t .event) ≡ r .level = ap (λ (v : AcEvent). v .level) (t .says) in
     let s = small false Intra (t .event) (t .good) in
