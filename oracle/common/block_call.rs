@@ -3,7 +3,7 @@ use super::dice::Dice;
 use super::numbers::data_fine;
 use super::sentence::{self, Sentence};
 use super::setting::{self, Block, Setting};
-use super::stopped::{self, Numbering};
+use super::stopped;
 use crate::bitreader::BitReader;
 
 #[derive(Clone, Copy, Debug)]
@@ -62,15 +62,6 @@ impl Call {
 
     // 11, 12, 13, or what the original gives, with 17 where it is due.
     pub fn due(&self, data: &[u8], at: usize) -> Answer {
-        self.numbered(data, at, stopped::of_block)
-    }
-
-    // The number alone, 17 as the original has it: 2 or 4.
-    pub fn by_original(&self, data: &[u8], at: usize) -> u32 {
-        self.numbered(data, at, stopped::ORIGINAL).number
-    }
-
-    fn numbered(&self, data: &[u8], at: usize, of: Numbering) -> Answer {
         let mut a = lent(at);
         a.number = if self.i > 5 || !data_fine(data, at) {
             11
@@ -90,7 +81,7 @@ impl Call {
                 a.samples = one.spatial;
                 a.levels = one.qf;
             }
-            Err(e) => (a.number, a.figure) = of(e, &br, self.i, self.reading[2]),
+            Err(e) => (a.number, a.figure) = stopped::of_block(e, &br, self.i, self.reading[2]),
         }
         a
     }

@@ -4,7 +4,7 @@ use super::header::{Header, lent, put};
 use super::numbers::data_fine;
 use super::sentence::{self, Sentence};
 use super::setting::{self, Block, Setting};
-use super::stopped::{self, Numbering};
+use super::stopped;
 use crate::bitreader::BitReader;
 use crate::block::{self, BlockAssemblyError};
 
@@ -92,15 +92,6 @@ impl Call {
 
     // With 17 where it is due.
     pub fn due(&self, data: &[u8], at: usize) -> Answer {
-        self.numbered(data, at, stopped::of_block)
-    }
-
-    // The number alone, 17 as the original has it: 2 or 4.
-    pub fn by_original(&self, data: &[u8], at: usize) -> u32 {
-        self.numbered(data, at, stopped::ORIGINAL).number
-    }
-
-    fn numbered(&self, data: &[u8], at: usize, of: Numbering) -> Answer {
         let mut a = self.lent(at);
         a.number = self.state(data, at);
         // 9 and 10 the original tells itself, where it is the reference
@@ -115,7 +106,7 @@ impl Call {
                 a.position = br.bit_position();
                 a.bits = a.position - at;
             }
-            Err((e, i)) => (a.number, a.figure) = of(e, &br, i, self.reading[1]),
+            Err((e, i)) => (a.number, a.figure) = stopped::of_block(e, &br, i, self.reading[1]),
         }
         a
     }

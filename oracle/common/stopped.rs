@@ -85,12 +85,7 @@ pub fn of_texture(e: TextureParseError, br: &BitReader, codes: &[String]) -> (u3
     }
 }
 
-// How a refusal in block i, with plain or reversible events, is numbered.
-pub type Numbering = fn(BlockAssemblyError, &BitReader, usize, bool) -> (u32, u32);
-
-// As the original has it, 17 as 2 or 4.
-pub const ORIGINAL: Numbering = |e, _, _, _| numbers::of_block(e);
-
+// The same of a refusal in block i, with plain or reversible events.
 pub fn of_block(e: BlockAssemblyError, br: &BitReader, i: usize, reversible: bool) -> (u32, u32) {
     let BlockAssemblyError::Texture(e) = e else {
         return numbers::of_block(e);

@@ -5,7 +5,7 @@ use crate::block::{BlockAssemblyError, BlockPredictors, MacroblockTextureContext
 use crate::common::header::{Header, lent, put};
 use crate::common::numbers::{data_fine, dc_fine, depth_fine, level_fine};
 use crate::common::setting::{self, Block, Matrix, Seven, context_fine, rule};
-use crate::common::stopped::{self, Numbering};
+use crate::common::stopped;
 
 // What one call brings.
 #[derive(Clone, Debug, PartialEq)]
@@ -144,10 +144,6 @@ fn state(p: Picture, s: &Step, stored: usize, kept: &dyn Fn(Place) -> Kept) -> u
 
 // The macroblock that is due: what the call must give, and if it is accepted what is kept of its six blocks.
 pub fn due(p: Picture, s: &Step, stored: usize, kept: &dyn Fn(Place) -> Kept) -> (Answer, Option<[(Place, Kept); 6]>) {
-    numbered(p, s, stored, kept, stopped::of_block)
-}
-
-fn numbered(p: Picture, s: &Step, stored: usize, kept: &dyn Fn(Place) -> Kept, of: Numbering) -> (Answer, Option<[(Place, Kept); 6]>) {
     let mut a = before(p, s);
     a.number = state(p, s, stored, kept);
     if a.number != 0 {
@@ -164,7 +160,7 @@ fn numbered(p: Picture, s: &Step, stored: usize, kept: &dyn Fn(Place) -> Kept, o
             (a, Some(std::array::from_fn(|i| six[i].0)))
         }
         Err((e, i)) => {
-            (a.number, a.figure) = of(e, &br, i, s.flags[5]);
+            (a.number, a.figure) = stopped::of_block(e, &br, i, s.flags[5]);
             (a, None)
         }
     }
@@ -211,6 +207,7 @@ fn six(p: Picture, s: &Step, br: &mut BitReader, kept: &dyn Fn(Place) -> Kept) -
 }
 
 // A picture with all of its blocks.
+#[derive(Clone)]
 pub struct Layer {
     pub picture: Picture,
     grids: [Vec<Option<Kept>>; 3],
@@ -231,17 +228,9 @@ impl Layer {
         if grid == 0 { 2 * width * y + x } else { width * y + x }
     }
 
-    fn kept(&self, p: Place) -> Kept {
-        self.grids[p.0][self.index(p)].expect("a block that was decoded")
-    }
-
-    // The number alone, 17 as the original has it: 2 or 4.
-    pub fn by_original(&self, s: &Step, stored: usize) -> u32 {
-        numbered(self.picture, s, stored, &|p| self.kept(p), stopped::ORIGINAL).0.number
-    }
-
     pub fn call(&mut self, s: &Step, stored: usize) -> Answer {
-        let (answer, six) = due(self.picture, s, stored, &|p| self.kept(p));
+        let kept = |p: Place| self.grids[p.0][self.index(p)].expect("a block that was decoded");
+        let (answer, six) = due(self.picture, s, stored, &kept);
         for (place, block) in six.into_iter().flatten() {
             let index = self.index(place);
             self.grids[place.0][index] = Some(block);

@@ -52,16 +52,16 @@ fn bad(dice: &mut Dice, c: &mut Call) -> Data {
     Data::of_bits(dice, &one)
 }
 
-// The first drawn that are refused by each number, 17 taken as 2 or 4, plain and reversible, with a DC part and without.
+// The first drawn that are refused by each number, plain and reversible, with a DC part and without.
 fn refused(record: &mut Record, dice: &mut Dice) {
-    for number in (1..=8).chain(11..=13) {
+    for number in (1..=8).chain(11..=13).chain([17]) {
         for reading in 0..4 {
             for _ in 0..2 {
                 let found = (0..20_000).find_map(|_| {
                     let mut c = Call::drawn(dice);
                     c.reading = [c.reading[0], reading & 1 == 1, reading & 2 == 2];
                     let data = bad(dice, &mut c);
-                    (data.number(|bytes, at| c.by_original(bytes, at)) == number).then_some((c, data))
+                    (data.number(|bytes, at| c.due(bytes, at).number) == number).then_some((c, data))
                 });
                 found.iter().for_each(|(c, data)| record.block(c, data));
             }

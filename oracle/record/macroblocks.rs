@@ -50,15 +50,15 @@ fn bad(dice: &mut Dice, c: &mut Call) -> Data {
     Data::of_bits(dice, &one)
 }
 
-// The first drawn that are refused by each number, 17 taken as 2 or 4, with each reading.
+// The first drawn that are refused by each number, with each reading.
 fn refused(record: &mut Record, dice: &mut Dice) {
-    for number in 1..=14 {
+    for number in (1..=14).chain([17]) {
         for reading in READINGS {
             let found = (0..20_000).find_map(|_| {
                 let pattern = dice.below(64);
                 let mut c = Call::drawn(dice, pattern, reading);
                 let data = bad(dice, &mut c);
-                (data.number(|bytes, at| c.by_original(bytes, at)) == number).then_some((c, data))
+                (data.number(|bytes, at| c.due(bytes, at).number) == number).then_some((c, data))
             });
             found.iter().for_each(|(c, data)| record.macroblock(c, data));
         }

@@ -43,17 +43,17 @@ fn bad(dice: &mut Dice, style: &Style, quantiser: &mut u32, width: u32) -> Step 
     s
 }
 
-// The first drawn that are refused by each number, 17 taken as 2 or 4, with plain events and with reversible ones.
+// The first drawn that are refused by each number, with plain events and with reversible ones.
 fn each_refusal(record: &mut Record, dice: &mut Dice, layer: &mut Layer) {
     let width = layer.picture.numbers[0];
-    for number in (1..=12).chain([14]) {
+    for number in (1..=12).chain([14, 17]) {
         for reversible in [false, true] {
             let mut style = Style::drawn(dice);
             style.reading = Some([true, reversible]);
             style.escapes = &SOME;
             let found = (0..20_000).map(|_| bad(dice, &style, &mut 1, width)).find(|s| {
                 let stored = s.stored.min(192 * width as usize);
-                layer.by_original(s, stored) == number
+                layer.clone().call(s, stored).number == number
             });
             found.iter().for_each(|s| {
                 record.step(layer, s);

@@ -12,8 +12,7 @@ use mir.Facts.{yes-and}
 use borrow.Author.Tests.{le-ltb, lt-ltb}
 use Rattle.bits.proofs.BitLaws.{bin-val, length-bin, val-bin, val-lt}
 use Rattle.bits.specs.Bits.{Bits, bin, val}
-use Rattle.codes.proofs.PrefixFree.{dc-prefix-free, rvlc-prefix-free, vlc-prefix-free}
-use Rattle.codes.proofs.SearchLaws.{seek-hit, seek-none, seek-some}
+use Rattle.codes.proofs.SearchLaws.{seek-hit, seek-some}
 use Rattle.codes.proofs.TableLaws.{hit-complete, hit-sound, one-row, sound-row}
 use Rattle.codes.specs.DcSize.{dcCodes, dcLens, sizeChrominance, sizeLuminance}
 use Rattle.codes.specs.Rvlc.{rvlcCodes, rvlcLens, rvlcTcoef}

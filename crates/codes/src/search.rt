@@ -340,23 +340,23 @@ pub fn find_row(codes: &[u32], lens: &[u32], rows: usize, window: u32, n: u32) -
 fn ends_in(window: u32, n: u32, code: u32, len: u32) -> bool
     ensures { λ r. ⌜ r ≡ cut window n code len ⌝ }
 {
-    if n < len {
-        let k = len - n;
-        if k < 32 {
-            return window == code >> k;
-        }
-        return window == 0;
+    if len <= n {
+        return false;
     }
-    false
+    let k = len - n;
+    if k < 32 {
+        return window == code >> k;
+    }
+    window == 0
 }
 
 // Whether a window of n bits, in which no code is found, ends inside one of the first `rows` of a table.
 pub fn ends_inside(codes: &[u32], lens: &[u32], rows: usize, window: u32, n: u32) -> bool
     ensures { λ r. ⌜ r ≡ cutIn (now (codes .entry)) (now (lens .entry)) (min rows (min (length (now (codes .entry))) (length (now (lens .entry))))) window n ⌝ }
 {
-    let most = numbers::least(rows, numbers::least(codes.len(), lens.len()));
+    let to = numbers::least(rows, numbers::least(codes.len(), lens.len()));
     let mut i = 0;
-    while i < most {
+    while i < to {
         if ends_in(window, n, codes[i], lens[i]) {
             return true;
         }

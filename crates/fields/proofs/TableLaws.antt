@@ -1,17 +1,22 @@
--- A code of the tables of Annex B, however they are lent, is the reader's. Assumes nothing.
+-- A code of the tables of Annex B, however they are lent, is the reader's, and 17 is told only of fewer bits than the longest code has. Assumes nothing.
 use mathlib.Core.List.{List}
 use mathlib.Core.Path.{_≡_, subst₂}
-use Prim.Native.Nat.{_≤_, ℕ}
+use Prim.Native.Nat.{_<_, _≤_, ℕ}
 use native.Mathlib.Omega.{arith}
+use lib.ListN.{length}
+use Rattle.bits.specs.Bits.{Bits}
+use Rattle.codes.proofs.CutLaws.{dc-few, longestOf, rvlc-few, vlc-few}
 use Rattle.codes.proofs.PrefixFree.{dc-prefix-free, dc-rows, rvlc-prefix-free, rvlc-rows, vlc-prefix-free, vlc-rows}
 use Rattle.codes.specs.DcSize.{dcCodes, dcLens}
 use Rattle.codes.specs.Rvlc.{rvlcCodes, rvlcLens}
 use Rattle.codes.specs.Tcoef.{vlcCodes, vlcLens}
 use Rattle.codes.specs.declared.dc_size.DcComponent.{DcComponent}
 use Rattle.fields.proofs.CodeLaws.{GoodTable, code-read}
+use Rattle.fields.proofs.TakeLaws.{ended-exactly}
 use Rattle.fields.specs.Answer.{CodeRead, codeAnswer}
+use Rattle.fields.specs.Reader.{code, no}
 use Rattle.fields.specs.declared.error.TextureParseError.{TextureParseError}
-use Rattle.fields.specs.declared.error.TextureParseError.the-variants.{InvalidDcSize, InvalidTcoef}
+use Rattle.fields.specs.declared.error.TextureParseError.the-variants.{EndedInsideCode, InvalidDcSize, InvalidTcoef}
 use Rattle.fields.specs.declared.field.Got.{Got}
 
 module _ (d : List ℕ) (at : ℕ) {cs ls : List ℕ} (g : Got) where
@@ -33,3 +38,21 @@ module _ (d : List ℕ) (at : ℕ) {cs ls : List ℕ} (g : Got) where
   rvlc-code e f x =
       let n = rvlc-rows in
       of-table rvlcCodes rvlcLens 16 170 InvalidTcoef (omega arith, omega arith, omega arith, omega arith, rvlc-prefix-free) e f x
+
+-- ---- how many bits are left at most where 17 is told
+
+module _ (b : Bits) where
+  pub dc-ended-few : (c : DcComponent) → code (dcCodes c) (dcLens c) 13 13 InvalidDcSize b ≡ no EndedInsideCode → length b < longestOf c
+  dc-ended-few c q =
+      let n = dc-rows c in
+      dc-few b c (ended-exactly (dcCodes c) (dcLens c) 13 13 InvalidDcSize (dc-prefix-free c) (omega arith) (λ w e. omega arith) b .0 q .1)
+
+  pub vlc-ended-few : (rows : ℕ) → rows ≤ 103 → code vlcCodes vlcLens 13 rows InvalidTcoef b ≡ no EndedInsideCode → length b < 12
+  vlc-ended-few rows h q =
+      let n = vlc-rows in
+      vlc-few b rows (ended-exactly vlcCodes vlcLens 13 rows InvalidTcoef vlc-prefix-free (omega arith) (λ w e. omega arith) b .0 q .1)
+
+  pub rvlc-ended-few : code rvlcCodes rvlcLens 16 170 InvalidTcoef b ≡ no EndedInsideCode → length b < 15
+  rvlc-ended-few q =
+      let n = rvlc-rows in
+      rvlc-few b 170 (ended-exactly rvlcCodes rvlcLens 16 170 InvalidTcoef rvlc-prefix-free (omega arith) (λ w e. omega arith) b .0 q .1)

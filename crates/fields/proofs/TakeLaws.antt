@@ -1,21 +1,22 @@
--- A reader takes a string of bits: it reads them, whatever follows, and where they break off it is stopped. Kept by reading one after the other. Assumes nothing.
+-- A reader takes a string of bits: it reads them, whatever follows, and where they break off it is stopped. Kept by reading one after the other; of a code, where 17 is told. Assumes nothing.
 use mathlib.Core.Bool.{Bool, cond, false, true}
 use mathlib.Core.List.{List, [], _++_, _∷_, append-assoc}
-use mathlib.Core.Logic.{⊎-elim, _⊎_, inl, inr}
+use mathlib.Core.Logic.{⊎-elim, _⊎_, _↔_, inl, inr}
 use mathlib.Core.Path.{_≡_, _∙_, ap, ap₂, refl, subst⁻¹, sym}
 use Prim.Native.Nat.{_+_, _<_, _^_, _≤_, ℕ}
 use native.Mathlib.Omega.{arith}
-use lib.Dec.{T, leb, lit<}
-use lib.ListN.{drop, length, length-append, take}
-use borrow.Author.Tests.{lt-leb}
+use lib.Dec.{T, eqb, lit<, ltb}
+use lib.ListN.{drop, getD, length, length-append, take}
+use borrow.Author.Tests.{eqb-false, lt-leb}
 use Rattle.bits.proofs.BitLaws.{length-bin}
 use Rattle.bits.specs.Bits.{Bits, bin, val}
 use Rattle.codes.proofs.CutLaws.{cut-exactly, cut-no-code}
 use Rattle.codes.proofs.TableLaws.{row-sound}
 use Rattle.codes.specs.Table.{codeBits, cutAt, prefixFree, rowAt}
-use Rattle.fields.proofs.ReadLaws.{bind-by, code-complete, field-complete, marker-complete}
+use Rattle.fields.proofs.ReadLaws.{bind-by, code-complete, field-complete, marker-complete, no-ok}
 use Rattle.fields.proofs.StepLaws.{code-empty, code-lost}
 use Rattle.fields.specs.Reader.{Res, bind, code, field, marker, no, ok}
+use Rattle.fields.specs.Refusal.{numberOf}
 use Rattle.fields.specs.Stopped.{Stops}
 use Rattle.fields.specs.declared.error.TextureParseError.{TextureParseError}
 use Rattle.fields.specs.declared.error.TextureParseError.the-variants.{EndedInsideCode, Truncated}
@@ -96,20 +97,39 @@ marker-takes err = record {
   stops = λ b r l e. stops-first (field 1 b) _ (field-takes 1 1 (lit< tt) .stops b r l e);
 }
 
--- a code of a prefix-free table: cut, it is no other, and the bits that are left of it are told as such
-pub code-takes : (cs ls : List ℕ) (width rows : ℕ) (err : ℕ → TextureParseError) → T (prefixFree width cs ls) → rows ≤ length cs → (i : ℕ) → i < rows
-    → Takes (code cs ls width rows err) (codeBits cs ls i) i
-code-takes cs ls width rows err free within i h = record { reads = λ s. code-complete cs ls width rows err free within i s h; stops = stop }
-  where
-    ended : (b : Bits) → cutAt cs ls rows b ≡ true → 0 < length b → code cs ls width rows err b ≡ no EndedInsideCode
-    ended b t l =
-        let k = rowAt cs ls width rows b in
-        ⊎-elim (λ (f : k < rows). let s = row-sound width cs ls rows b f in absurd (cut-no-code width cs ls free rows within b t k f (s .0) (s .1)))
-        (λ (f : rows ≤ k). code-lost cs ls width rows err b l k refl f ∙ ap (λ (t : Bool). no (cond t EndedInsideCode (err (val (take width b))))) t)
-        (lt-or-le k rows)
+-- ---- a code of a prefix-free table
 
-    stop : (b r : Bits) → 0 < length r → codeBits cs ls i ≡ b ++ r → Stops (code cs ls width rows err b)
-    stop b r l e =
-        ⊎-elim (λ (f : length b < 1). subst⁻¹ Stops (code-empty cs ls width rows err b (omega arith)) tt)
-        (λ (f : 1 ≤ length b). subst⁻¹ Stops (ended b (cut-exactly width cs ls free rows within b .1 (i, (h, (r, (l, e))))) f) tt)
-        (lt-or-le (length b) 1)
+module _ (cs ls : List ℕ) (width rows : ℕ) (err : ℕ → TextureParseError) (free : T (prefixFree width cs ls)) (within : rows ≤ length cs) where
+  -- bits that end inside a code begin with no other
+  ended : (b : Bits) → 0 < length b → cutAt cs ls rows b ≡ true → code cs ls width rows err b ≡ no EndedInsideCode
+  ended b l t =
+      let k = rowAt cs ls width rows b in
+      ⊎-elim (λ (f : k < rows). let s = row-sound width cs ls rows b f in absurd (cut-no-code width cs ls free rows within b t k f (s .0) (s .1)))
+      (λ (f : rows ≤ k). code-lost cs ls width rows err b l k refl f ∙ ap (λ (t : Bool). no (cond t EndedInsideCode (err (val (take width b))))) t)
+      (lt-or-le k rows)
+
+  -- 17 is told exactly where bits are left and end inside a code that is sought
+  pub ended-exactly : ((w : ℕ) → numberOf (err w) ≡ 17 → ⊥) → (b : Bits) → (code cs ls width rows err b ≡ no EndedInsideCode) ↔ ((0 < length b) × (cutAt cs ls rows b ≡ true))
+  unfolding code
+  ended-exactly other b = (go (eqb (length b) 0) refl (ltb (rowAt cs ls width rows b) rows) (cutAt cs ls rows b) refl, λ x. ended b (x .0) (x .1))
+    where
+      w : ℕ
+      w = val (take width b)
+
+      go : (u : Bool) → eqb (length b) 0 ≡ u → (v t : Bool) → cutAt cs ls rows b ≡ t
+          → cond u (no Truncated) (cond v (ok (rowAt cs ls width rows b) (drop (getD ls (rowAt cs ls width rows b) 0) b)) (no (cond t EndedInsideCode (err w)))) ≡ no EndedInsideCode
+          → (0 < length b) × (cutAt cs ls rows b ≡ true)
+      go true e v t f q = absurd (let z : Truncated ≡ EndedInsideCode = cc in let n = ap numberOf z in omega arith)
+      go false e true t f q = absurd (no-ok (sym q))
+      go false e false true f q = (let n = eqb-false (length b) 0 e in omega arith, f)
+      go false e false false f q = absurd (other w (let z : err w ≡ EndedInsideCode = cc in ap numberOf z))
+
+  -- cut, it is no other, and what is left of it is told as such
+  pub code-takes : (i : ℕ) → i < rows → Takes (code cs ls width rows err) (codeBits cs ls i) i
+  code-takes i h = record { reads = λ s. code-complete cs ls width rows err free within i s h; stops = stop }
+    where
+      stop : (b r : Bits) → 0 < length r → codeBits cs ls i ≡ b ++ r → Stops (code cs ls width rows err b)
+      stop b r l e =
+          ⊎-elim (λ (f : length b < 1). subst⁻¹ Stops (code-empty cs ls width rows err b (omega arith)) tt)
+          (λ (f : 1 ≤ length b). subst⁻¹ Stops (ended b f (cut-exactly width cs ls free rows within b .1 (i, (h, (r, (l, e)))))) tt)
+          (lt-or-le (length b) 1)

@@ -1,7 +1,7 @@
 -- A proper beginning of a sentence is refused by 1 or 17: DC parts, events, lists, blocks and macroblocks, plain and reversible. Assumes nothing.
 use mathlib.Core.Bool.{Bool, false, true}
 use mathlib.Core.List.{List, [], _∷_}
-use mathlib.Core.Option.{Option, none, some}
+use mathlib.Core.Option.{none, some}
 use mathlib.Core.Path.{_≡_, ap, _∙_}
 use Prim.Native.Nat.{ℕ, _<_}
 use native.Mathlib.Omega.{arith}
@@ -17,12 +17,11 @@ use Rattle.events.proofs.EitherLaws.{event-takes}
 use Rattle.events.specs.Event.{GoodEvent, _▸_, eventBits}
 use Rattle.events.specs.EventReader.{event}
 use Rattle.fields.proofs.TakeLaws.{Takes, stops-first, then-stops}
-use Rattle.fields.specs.Reader.{Res, bind, ok}
-use Rattle.fields.specs.Stopped.{Stops}
+use Rattle.fields.specs.Reader.{Res}
 use Rattle.sentences.proofs.Reading.{dc-reads}
 use Rattle.sentences.proofs.ComposeLaws.{opt-reads}
 use Rattle.sentences.proofs.Sentences.{block-reads}
-use Rattle.sentences.specs.Compose.{BreaksOff, GoodEach, GoodOpt, GoodPair, eachBits, optBits, pairBits}
+use Rattle.sentences.specs.Compose.{GoodEach, GoodOpt, GoodPair, eachBits, optBits, pairBits}
 use Rattle.sentences.specs.ComposeReader.{CutSentence, Reads, readEach, readOpt, readPair}
 use Rattle.sentences.specs.Macroblock.{GoodBlock, GoodMacroblock, Place, blockBits, macroblockBits, placesOfPattern}
 use Rattle.sentences.specs.MacroblockReader.{readBlock, readMacroblock}

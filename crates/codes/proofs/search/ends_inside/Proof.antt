@@ -1,8 +1,8 @@
 -- `codes::ends_inside` meets its contract: after each turn the search goes on from row i. Assumes nothing.
 use mathlib.Core.Bool.{Bool}
 use mathlib.Core.List.{List}
-use mathlib.Core.Path.{_≡_, _∙_, ap, refl, subst, sym}
-use Prim.Native.Nat.{_-_, _<_, _≤_, min, ℕ}
+use mathlib.Core.Path.{_≡_, _∙_, ap, sym}
+use Prim.Native.Nat.{_-_, _≤_, min, ℕ}
 use native.Mathlib.Nat.{sub-zero}
 use native.Mathlib.Omega.{arith}
 use lib.Dec.{ltb}
@@ -20,11 +20,11 @@ abbrev at : List ℕ → List ℕ → ℕ → ℕ → ℕ → Bool
 at cs ls w n i = cut w n (getD cs i 0) (getD ls i 0)
 
 abbrev Inv-loop : tie.InvT-loop
-Inv-loop codes lens rows window n most i₀ i =
-    (i ≤ most) × (most ≤ length codes) × (most ≤ length lens) × (seek (at codes lens window n) most 0 ≡ seek (at codes lens window n) (most - i) i)
+Inv-loop codes lens rows window n to i₀ i =
+    (i ≤ to) × (to ≤ length codes) × (to ≤ length lens) × (seek (at codes lens window n) to 0 ≡ seek (at codes lens window n) (to - i) i)
 
 abbrev μ-loop : tie.MeasureT-loop
-μ-loop codes lens rows window n most i₀ i = most - i
+μ-loop codes lens rows window n to i₀ i = to - i
 
 least-requires : tie.Need-least-requires Inv-loop μ-loop
 least-requires c κs = search needs

@@ -1,6 +1,6 @@
 -- `fields::code::no_code` meets its contract: one case each. Assumes nothing.
 use mathlib.Core.Bool.{Bool, cond}
-use mathlib.Core.Path.{_≡_, _∙_, ap, ap₂, sym}
+use mathlib.Core.Path.{ap, ap₂, sym}
 use borrow.Author.Needs.{needs}
 use Rattle.fields.proofs.code.no_code.Statement.{statement}
 use Rattle.fields.specs.Inside.{invalid}
