@@ -21,6 +21,7 @@ use Rattle.codes.specs.Tcoef.{tcoefIntra, vlcCodes, vlcLens}
 use Rattle.codes.specs.declared.dc_size.DcComponent.{DcComponent}
 use Rattle.codes.specs.declared.dc_size.DcComponent.the-variants.{Chrominance, Luminance}
 use Rattle.numbers.proofs.Every.{every-at}
+use Rattle.numbers.specs.Every.{every}
 use Rattle.numbers.proofs.Fill.{lt-or-le}
 use Rattle.numbers.proofs.Tests.{F-false, T-true, and-left, and-right, true-T}
 
@@ -71,18 +72,15 @@ module _ (cs ls : List ℕ) (rows : ℕ) where
   cut-some : (w n i : ℕ) → i < rows → T (cutBy w n i) → cutIn cs ls rows w n ≡ true
   cut-some w n i l t = let s = seek-some (cutBy w n) rows 0 i zero-le (omega arith) t in lt-ltb (seek (cutBy w n) rows 0) rows (omega arith)
 
-  cut-none : (w n : ℕ) → ((i : ℕ) → i < rows → getD ls i 0 ≤ n) → cutIn cs ls rows w n ≡ false
-  cut-none w n h = F-false (cutIn cs ls rows w n) (λ t.
-      let r = cut-row w n (T-true (cutIn cs ls rows w n) t) in
-      let l = ltb→lt n (getD ls (r .0) 0) (and-left (ltb n (getD ls (r .0) 0)) _ (r .1 .1)) in
-      omega (arith, h (r .0) (r .1 .0)))
-
   -- bits that end inside a code are fewer than the longest code has
-  pub cut-shorter : (b : Bits) (m : ℕ) → ((i : ℕ) → i < rows → getD ls i 0 ≤ m) → cutAt cs ls rows b ≡ true → length b < m
-  cut-shorter b m h t =
-      let r = cut-row (val b) (length b) t in
-      let l = ltb→lt (length b) (getD ls (r .0) 0) (and-left (ltb (length b) (getD ls (r .0) 0)) _ (r .1 .1)) in
+  cut-shorter : (w n m : ℕ) → ((i : ℕ) → i < rows → getD ls i 0 ≤ m) → cutIn cs ls rows w n ≡ true → n < m
+  cut-shorter w n m h t =
+      let r = cut-row w n t in
+      let l = ltb→lt n (getD ls (r .0) 0) (and-left (ltb n (getD ls (r .0) 0)) _ (r .1 .1)) in
       omega (arith, h (r .0) (r .1 .0))
+
+  cut-none : (w n : ℕ) → ((i : ℕ) → i < rows → getD ls i 0 ≤ n) → cutIn cs ls rows w n ≡ false
+  cut-none w n h = F-false (cutIn cs ls rows w n) (λ t. let l = cut-shorter w n n h (T-true (cutIn cs ls rows w n) t) in omega arith)
 
 module _ (width : ℕ) (cs ls : List ℕ) (ok : T (prefixFree width cs ls)) (rows : ℕ) (within : rows ≤ length cs) where
   -- the bits end inside a code exactly when some row's code begins with all of them and has more
@@ -129,17 +127,20 @@ abbrev pub longestOf : DcComponent → ℕ
 longestOf Luminance = 11
 longestOf Chrominance = 12
 
-module _ (b : Bits) where
-  pub dc-few : (c : DcComponent) → cutAt (dcCodes c) (dcLens c) 13 b ≡ true → length b < longestOf c
-  unfolding dcLens sizeLuminance sizeChrominance
-  dc-few Luminance t = cut-shorter (dcCodes Luminance) (dcLens Luminance) 13 b 11 (λ i l. leb→le _ 11 (every-at (λ (n : ℕ). leb n 11) 0 (dcLens Luminance) tt tt i)) t
-  dc-few Chrominance t = cut-shorter (dcCodes Chrominance) (dcLens Chrominance) 13 b 12 (λ i l. leb→le _ 12 (every-at (λ (n : ℕ). leb n 12) 0 (dcLens Chrominance) tt tt i)) t
+-- of a table whose codes have at most m bits, by one computed test
+few : (cs ls : List ℕ) (rows m : ℕ) → T (every (λ (n : ℕ). leb n m) ls) → (b : Bits) → cutAt cs ls rows b ≡ true → length b < m
+few cs ls rows m t b = cut-shorter cs ls rows (val b) (length b) m (λ i l. leb→le (getD ls i 0) m (every-at (λ (n : ℕ). leb n m) 0 ls (le→leb 0 m zero-le) t i))
 
-  -- the escape, or none
-  pub vlc-few : (rows : ℕ) → cutAt vlcCodes vlcLens rows b ≡ true → length b < 12
-  unfolding vlcLens tcoefIntra
-  vlc-few rows t = cut-shorter vlcCodes vlcLens rows b 12 (λ i l. leb→le _ 12 (every-at (λ (n : ℕ). leb n 12) 0 vlcLens tt tt i)) t
+pub dc-few : (c : DcComponent) (b : Bits) → cutAt (dcCodes c) (dcLens c) 13 b ≡ true → length b < longestOf c
+unfolding dcLens sizeLuminance sizeChrominance
+dc-few Luminance = few (dcCodes Luminance) (dcLens Luminance) 13 11 tt
+dc-few Chrominance = few (dcCodes Chrominance) (dcLens Chrominance) 13 12 tt
 
-  pub rvlc-few : (rows : ℕ) → cutAt rvlcCodes rvlcLens rows b ≡ true → length b < 15
-  unfolding rvlcLens rvlcTcoef
-  rvlc-few rows t = cut-shorter rvlcCodes rvlcLens rows b 15 (λ i l. leb→le _ 15 (every-at (λ (n : ℕ). leb n 15) 0 rvlcLens tt tt i)) t
+-- with the escape or without it
+pub vlc-few : (rows : ℕ) (b : Bits) → cutAt vlcCodes vlcLens rows b ≡ true → length b < 12
+unfolding vlcLens tcoefIntra
+vlc-few rows = few vlcCodes vlcLens rows 12 tt
+
+pub rvlc-few : (rows : ℕ) (b : Bits) → cutAt rvlcCodes rvlcLens rows b ≡ true → length b < 15
+unfolding rvlcLens rvlcTcoef
+rvlc-few rows = few rvlcCodes rvlcLens rows 15 tt

@@ -45,14 +45,14 @@ module _ (b : Bits) where
   pub dc-ended-few : (c : DcComponent) → code (dcCodes c) (dcLens c) 13 13 InvalidDcSize b ≡ no EndedInsideCode → length b < longestOf c
   dc-ended-few c q =
       let n = dc-rows c in
-      dc-few b c (ended-exactly (dcCodes c) (dcLens c) 13 13 InvalidDcSize (dc-prefix-free c) (omega arith) (λ w e. omega arith) b .0 q .1)
+      dc-few c b (ended-exactly (dcCodes c) (dcLens c) 13 13 InvalidDcSize (dc-prefix-free c) (omega arith) (λ w e. omega arith) b .0 q .1)
 
   pub vlc-ended-few : (rows : ℕ) → rows ≤ 103 → code vlcCodes vlcLens 13 rows InvalidTcoef b ≡ no EndedInsideCode → length b < 12
   vlc-ended-few rows h q =
       let n = vlc-rows in
-      vlc-few b rows (ended-exactly vlcCodes vlcLens 13 rows InvalidTcoef vlc-prefix-free (omega arith) (λ w e. omega arith) b .0 q .1)
+      vlc-few rows b (ended-exactly vlcCodes vlcLens 13 rows InvalidTcoef vlc-prefix-free (omega arith) (λ w e. omega arith) b .0 q .1)
 
   pub rvlc-ended-few : code rvlcCodes rvlcLens 16 170 InvalidTcoef b ≡ no EndedInsideCode → length b < 15
   rvlc-ended-few q =
       let n = rvlc-rows in
-      rvlc-few b 170 (ended-exactly rvlcCodes rvlcLens 16 170 InvalidTcoef rvlc-prefix-free (omega arith) (λ w e. omega arith) b .0 q .1)
+      rvlc-few 170 b (ended-exactly rvlcCodes rvlcLens 16 170 InvalidTcoef rvlc-prefix-free (omega arith) (λ w e. omega arith) b .0 q .1)

@@ -2,7 +2,7 @@
 // `fields`, DC parts those of `dc_parts`, and what follows a code those of `events`.
 //
 // No public function has a `requires`. Data of more than 1,048,576 bytes or a start past the end of the
-// data is refused by 11; what the bits hold is refused by 1 to 8. A refusal hands back no position and
+// data is refused by 11; what the bits hold is refused by 1 to 8 or 17. A refusal hands back no position and
 // leaves lent places as they were.
 mod event;
 mod list;
