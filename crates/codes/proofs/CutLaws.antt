@@ -15,6 +15,7 @@ use Rattle.bits.specs.Bits.{Bits, bin, val}
 use Rattle.codes.proofs.SearchLaws.{seek-hit, seek-some}
 use Rattle.codes.proofs.TableLaws.{hit-complete, hit-sound, one-row, sound-row}
 use Rattle.codes.specs.DcSize.{dcCodes, dcLens, sizeChrominance, sizeLuminance}
+use Rattle.codes.specs.Header.{cbpyCodes, cbpyIntra, cbpyLens, mcbpcCodes, mcbpcIntra, mcbpcLens}
 use Rattle.codes.specs.Rvlc.{rvlcCodes, rvlcLens, rvlcTcoef}
 use Rattle.codes.specs.Table.{codeBits, cut, cutAt, cutIn, hit, prefixFree, seek}
 use Rattle.codes.specs.Tcoef.{tcoefIntra, vlcCodes, vlcLens}
@@ -144,3 +145,12 @@ vlc-few rows = few vlcCodes vlcLens rows 12 tt
 pub rvlc-few : (rows : ℕ) (b : Bits) → cutAt rvlcCodes rvlcLens rows b ≡ true → length b < 15
 unfolding rvlcLens rvlcTcoef
 rvlc-few rows = few rvlcCodes rvlcLens rows 15 tt
+
+-- stuffing among the codes
+pub mcbpc-few : (b : Bits) → cutAt mcbpcCodes mcbpcLens 9 b ≡ true → length b < 9
+unfolding mcbpcLens mcbpcIntra
+mcbpc-few = few mcbpcCodes mcbpcLens 9 9 tt
+
+pub cbpy-few : (b : Bits) → cutAt cbpyCodes cbpyLens 16 b ≡ true → length b < 6
+unfolding cbpyLens cbpyIntra
+cbpy-few = few cbpyCodes cbpyLens 16 6 tt

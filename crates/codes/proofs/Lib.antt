@@ -4,5 +4,6 @@ pub mod TableLaws
 pub mod CutLaws
 pub mod PrefixFree
 pub mod FirstBitsLaws
+pub mod HeaderLaws
 pub mod Maxima
 pub mod ComponentLaws

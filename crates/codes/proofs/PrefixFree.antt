@@ -4,6 +4,7 @@ use mathlib.Core.Path.{_≡_, refl}
 use lib.Dec.{T}
 use lib.ListN.{length}
 use Rattle.codes.specs.DcSize.{dcCodes, dcLens, dcSizes, sizeChrominance, sizeLuminance}
+use Rattle.codes.specs.Header.{cbpyCodes, cbpyIntra, cbpyLens, mcbpcCodes, mcbpcIntra, mcbpcLens}
 use Rattle.codes.specs.Rvlc.{rvlcCodes, rvlcLens, rvlcTcoef}
 use Rattle.codes.specs.Table.{prefixFree}
 use Rattle.codes.specs.Tcoef.{codeOf, lengthOf, tcoefInter, tcoefIntra, vlcCodes, vlcLens}
@@ -23,6 +24,15 @@ unfolding dcCodes dcLens sizeLuminance sizeChrominance
 dc-prefix-free Luminance = tt
 dc-prefix-free Chrominance = tt
 
+-- stuffing among the codes
+pub mcbpc-prefix-free : T (prefixFree 9 mcbpcCodes mcbpcLens)
+unfolding mcbpcCodes mcbpcLens mcbpcIntra
+mcbpc-prefix-free = tt
+
+pub cbpy-prefix-free : T (prefixFree 6 cbpyCodes cbpyLens)
+unfolding cbpyCodes cbpyLens cbpyIntra
+cbpy-prefix-free = tt
+
 -- the two tables of transform coefficients have the same codes
 pub same-codes : map codeOf tcoefInter ≡ map codeOf tcoefIntra
 unfolding tcoefIntra tcoefInter
@@ -38,7 +48,7 @@ unfolding dcSizes sizeLuminance sizeChrominance
 sizes-count Luminance = refl
 sizes-count Chrominance = refl
 
--- ---- how many rows there are, the escapes among them
+-- ---- how many rows there are, the escapes and stuffing among them
 
 pub vlc-rows : (length vlcCodes ≡ 103) × (length vlcLens ≡ 103)
 unfolding vlcCodes vlcLens tcoefIntra
@@ -52,3 +62,11 @@ pub dc-rows : (c : DcComponent) → (length (dcCodes c) ≡ 13) × (length (dcLe
 unfolding dcCodes dcLens sizeLuminance sizeChrominance
 dc-rows Luminance = (refl, refl)
 dc-rows Chrominance = (refl, refl)
+
+pub mcbpc-rows : (length mcbpcCodes ≡ 9) × (length mcbpcLens ≡ 9)
+unfolding mcbpcCodes mcbpcLens mcbpcIntra
+mcbpc-rows = (refl, refl)
+
+pub cbpy-rows : (length cbpyCodes ≡ 16) × (length cbpyLens ≡ 16)
+unfolding cbpyCodes cbpyLens cbpyIntra
+cbpy-rows = (refl, refl)

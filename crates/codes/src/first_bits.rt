@@ -687,7 +687,7 @@ pub fn tcoef_plain(short: &[u16], long: &[u16], window: u32) -> u32
 }
 
 // The same of a table of bytes.
-fn small_number(rows: &[u8], at: usize) -> u32
+pub(crate) fn small_number(rows: &[u8], at: usize) -> u32
     ensures { λ r. ⌜ r ≡ getD (now (rows .entry)) at 0 ⌝ }
 {
     if at < rows.len() {

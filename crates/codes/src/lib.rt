@@ -1,10 +1,11 @@
-// The code tables of Annex B and the search in them (tcoef_tables.rs, rvlc_tables.rs and the DC size
-// tables of texture.rs).
+// The code tables of Annex B and the search in them (tcoef_tables.rs, rvlc_tables.rs, the DC size
+// tables of texture.rs and the I-VOP tables of macroblock.rs).
 //
 // A table indexed as a constant is made anew at each read, so each is made once by its function and
 // lent from then on. No public function has a `requires`.
 mod dc_size;
 mod first_bits;
+mod header_tables;
 mod rvlc_tables;
 mod search;
 mod tcoef_tables;
@@ -19,6 +20,12 @@ pub use first_bits::rmax_intra;
 pub use first_bits::tcoef_long;
 pub use first_bits::tcoef_plain;
 pub use first_bits::tcoef_short;
+pub use header_tables::cbpy_codes;
+pub use header_tables::cbpy_lens;
+pub use header_tables::cbpy_short;
+pub use header_tables::mcbpc_codes;
+pub use header_tables::mcbpc_lens;
+pub use header_tables::mcbpc_short;
 pub use rvlc_tables::rvlc_codes;
 pub use rvlc_tables::rvlc_events;
 pub use rvlc_tables::rvlc_lens;

@@ -7,7 +7,7 @@ use Rattle.bits.specs.Cursor.{cursorAt}
 use Rattle.fields.specs.Outcomes.{gotOutcome}
 use Rattle.fields.specs.Refusal.{figureOf, numberOf}
 use Rattle.fields.specs.declared.error.TextureParseError.{TextureParseError}
-use Rattle.fields.specs.declared.error.TextureParseError.the-variants.{Truncated, InvalidDcSize, MarkerBitMissing, InvalidTcoef, EscapeMarkerBitMissing, ReservedEscapeLevel, RvlcEscapeDelimiterMissing, Overflow, OutOfRange, EndedInsideCode}
+use Rattle.fields.specs.declared.error.TextureParseError.the-variants.{Truncated, InvalidDcSize, MarkerBitMissing, InvalidTcoef, EscapeMarkerBitMissing, ReservedEscapeLevel, RvlcEscapeDelimiterMissing, Overflow, OutOfRange, EndedInsideCode, InvalidHeader}
 use Rattle.fields.specs.declared.field.Got.{Got}
 use Rattle.fields.specs.declared.field.Got.the-variants.{Number, Refused as NumberRefused}
 use Rattle.numbers.specs.Outcome.{Outcome, accepted, refused}
@@ -25,7 +25,8 @@ errorBy n f =
     (cond (eqb n 6) ReservedEscapeLevel
     (cond (eqb n 7) (RvlcEscapeDelimiterMissing f)
     (cond (eqb n 8) (Overflow f)
-    (cond (eqb n 17) EndedInsideCode OutOfRange))))))))
+    (cond (eqb n 16) InvalidHeader
+    (cond (eqb n 17) EndedInsideCode OutOfRange)))))))))
 
 pub error-by : (e : TextureParseError) → e ≡ errorBy (numberOf e) (figureOf e)
 error-by Truncated = refl
@@ -38,6 +39,7 @@ error-by (RvlcEscapeDelimiterMissing w) = refl
 error-by (Overflow p) = refl
 error-by OutOfRange = refl
 error-by EndedInsideCode = refl
+error-by InvalidHeader = refl
 
 pub error-apart : (e f : TextureParseError) → numberOf e ≡ numberOf f → figureOf e ≡ figureOf f → e ≡ f
 error-apart e f n g = error-by e ∙ ap₂ errorBy n g ∙ sym (error-by f)

@@ -1,4 +1,4 @@
--- The steps of reading refuse by 1 to 8 and 17 alone: 11 is told before any bit. Assumes nothing.
+-- The steps of reading refuse by 1 to 8, 16 and 17 alone: 11 is told before any bit. Assumes nothing.
 use mathlib.Core.Bool.{Bool, cond, false, true}
 use mathlib.Core.List.{List}
 use Prim.Native.Nat.{ℕ}
@@ -8,7 +8,7 @@ use Rattle.bits.specs.Bits.{Bits}
 use Rattle.codes.specs.Table.{cutAt, rowAt}
 use Rattle.fields.specs.Reader.{Res, bind, code, field, marker, no, ok}
 use Rattle.fields.specs.declared.error.TextureParseError.{TextureParseError}
-use Rattle.fields.specs.declared.error.TextureParseError.the-variants.{EndedInsideCode, EscapeMarkerBitMissing, InvalidDcSize, InvalidTcoef, MarkerBitMissing, OutOfRange, Overflow, ReservedEscapeLevel, RvlcEscapeDelimiterMissing, Truncated}
+use Rattle.fields.specs.declared.error.TextureParseError.the-variants.{EndedInsideCode, EscapeMarkerBitMissing, InvalidDcSize, InvalidHeader, InvalidTcoef, MarkerBitMissing, OutOfRange, Overflow, ReservedEscapeLevel, RvlcEscapeDelimiterMissing, Truncated}
 
 -- a refusal of bits: any but 11
 abbrev pub OfBits : TextureParseError → Type 0
@@ -22,6 +22,7 @@ OfBits (RvlcEscapeDelimiterMissing w) = Unit {0}
 OfBits (Overflow p) = Unit {0}
 OfBits OutOfRange = ⊥
 OfBits EndedInsideCode = Unit {0}
+OfBits InvalidHeader = Unit {0}
 
 abbrev pub ByBits : {A : Type 0} → Res A → Type 0
 ByBits (ok a r) = Unit {0}

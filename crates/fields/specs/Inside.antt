@@ -9,9 +9,9 @@ use Rattle.bits.specs.declared.error.BitReaderError.{BitReaderError}
 use Rattle.bits.specs.declared.error.BitReaderError.the-variants.{EndOfStream, OutOfRange as BitsOut}
 use Rattle.fields.specs.Reader.{Res, ok, no}
 use Rattle.fields.specs.declared.code.CodeKind.{CodeKind}
-use Rattle.fields.specs.declared.code.CodeKind.the-variants.{DcSize, Tcoef}
+use Rattle.fields.specs.declared.code.CodeKind.the-variants.{DcSize, Header, Tcoef}
 use Rattle.fields.specs.declared.error.TextureParseError.{TextureParseError}
-use Rattle.fields.specs.declared.error.TextureParseError.the-variants.{InvalidDcSize, InvalidTcoef, OutOfRange, Truncated}
+use Rattle.fields.specs.declared.error.TextureParseError.the-variants.{InvalidDcSize, InvalidHeader, InvalidTcoef, OutOfRange, Truncated}
 use Rattle.fields.specs.declared.field.Got.{Got}
 use Rattle.fields.specs.declared.field.Got.the-variants.{Number, Refused as NumberRefused}
 
@@ -42,7 +42,8 @@ abbrev pub refusalOf : BitReaderError → TextureParseError
 refusalOf EndOfStream = Truncated
 refusalOf BitsOut = OutOfRange
 
--- the refusal of a window in which no code stands
+-- the refusal of a window in which no code stands; a header's tells no window
 abbrev pub invalid : CodeKind → ℕ → TextureParseError
 invalid DcSize w = InvalidDcSize w
 invalid Tcoef w = InvalidTcoef w
+invalid Header w = InvalidHeader

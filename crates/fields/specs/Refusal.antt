@@ -1,7 +1,7 @@
 -- The refusals of reading: document 01's number and figure of each. Definitions only.
 use Prim.Native.Nat.{ℕ}
 use Rattle.fields.specs.declared.error.TextureParseError.{TextureParseError}
-use Rattle.fields.specs.declared.error.TextureParseError.the-variants.{Truncated, InvalidDcSize, MarkerBitMissing, InvalidTcoef, EscapeMarkerBitMissing, ReservedEscapeLevel, RvlcEscapeDelimiterMissing, Overflow, OutOfRange, EndedInsideCode}
+use Rattle.fields.specs.declared.error.TextureParseError.the-variants.{Truncated, InvalidDcSize, MarkerBitMissing, InvalidTcoef, EscapeMarkerBitMissing, ReservedEscapeLevel, RvlcEscapeDelimiterMissing, Overflow, OutOfRange, EndedInsideCode, InvalidHeader}
 
 abbrev pub numberOf : TextureParseError → ℕ
 numberOf Truncated = 1
@@ -14,6 +14,7 @@ numberOf (RvlcEscapeDelimiterMissing w) = 7
 numberOf (Overflow p) = 8
 numberOf OutOfRange = 11
 numberOf EndedInsideCode = 17
+numberOf InvalidHeader = 16
 
 -- the window of 2, 4 and 7, the landing of 8; the others have no figure, told as 0
 abbrev pub figureOf : TextureParseError → ℕ
@@ -27,3 +28,4 @@ figureOf (RvlcEscapeDelimiterMissing w) = w
 figureOf (Overflow p) = p
 figureOf OutOfRange = 0
 figureOf EndedInsideCode = 0
+figureOf InvalidHeader = 0

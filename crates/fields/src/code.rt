@@ -14,6 +14,7 @@ use bits::WindowPeeked;
 pub enum CodeKind {
     DcSize,
     Tcoef,
+    Header,
 }
 
 // The refusal of a window in which no code stands, but one may end.
@@ -26,6 +27,7 @@ fn no_code(kind: CodeKind, window: u32, ends_inside: bool) -> TextureParseError
     match kind {
         CodeKind::DcSize => TextureParseError::InvalidDcSize { window },
         CodeKind::Tcoef => TextureParseError::InvalidTcoef { window },
+        CodeKind::Header => TextureParseError::InvalidHeader,
     }
 }
 

@@ -23,6 +23,8 @@ pub enum TextureParseError {
     OutOfRange,
     // 17: the bits ended inside a code
     EndedInsideCode,
+    // 16: bits are left, but no code of mcbpc or cbpy begins them
+    InvalidHeader,
 }
 
 impl TextureParseError {
@@ -41,6 +43,7 @@ impl TextureParseError {
             TextureParseError::Overflow { position: _ } => 8,
             TextureParseError::OutOfRange => 11,
             TextureParseError::EndedInsideCode => 17,
+            TextureParseError::InvalidHeader => 16,
         }
     }
 
@@ -59,6 +62,7 @@ impl TextureParseError {
             TextureParseError::Overflow { position } => position,
             TextureParseError::OutOfRange => 0,
             TextureParseError::EndedInsideCode => 0,
+            TextureParseError::InvalidHeader => 0,
         }
     }
 }
