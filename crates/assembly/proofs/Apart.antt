@@ -12,7 +12,7 @@ use Rattle.fields.proofs.Apart.{errorBy as readingBy}
 use Rattle.fields.proofs.ByBits.{ByBits, OfBits}
 use Rattle.fields.specs.Reader.{Res, no, ok}
 use Rattle.fields.specs.declared.error.TextureParseError.{TextureParseError}
-use Rattle.fields.specs.declared.error.TextureParseError.the-variants.{EndedInsideCode, EscapeMarkerBitMissing, InvalidDcSize, InvalidTcoef, MarkerBitMissing, OutOfRange as ReadingOutOfRange, Overflow, ReservedEscapeLevel, RvlcEscapeDelimiterMissing, Truncated}
+use Rattle.fields.specs.declared.error.TextureParseError.the-variants.{EndedInsideCode, EscapeMarkerBitMissing, InvalidDcSize, InvalidHeader, InvalidTcoef, MarkerBitMissing, OutOfRange as ReadingOutOfRange, Overflow, ReservedEscapeLevel, RvlcEscapeDelimiterMissing, Truncated}
 use Rattle.assembly.specs.Answer.{checkOf, figureOf, firstBad, numberOf, testsOf}
 use Rattle.assembly.specs.Outcomes.{checkedOutcome}
 use Rattle.assembly.specs.declared.context.MacroblockTextureContext.{MacroblockTextureContext}
@@ -62,6 +62,7 @@ error-by (Texture (RvlcEscapeDelimiterMissing w)) a = refl
 error-by (Texture (Overflow p)) a = refl
 error-by (Texture ReadingOutOfRange) a = absurd a
 error-by (Texture EndedInsideCode) a = refl
+error-by (Texture InvalidHeader) a = refl
 
 pub error-apart : (e f : BlockAssemblyError) → Arises e → Arises f → numberOf e ≡ numberOf f → figureOf e ≡ figureOf f → e ≡ f
 error-apart e f a b n g = error-by e a ∙ ap₂ errorBy n g ∙ sym (error-by f b)

@@ -24,7 +24,7 @@ pub enum BlockAssemblyError {
     NotCoded,
     // 10: no type, or an inter type
     NotIntra,
-    // 1 to 8, 17
+    // 1 to 8, 16, 17
     Texture(TextureParseError),
 }
 

@@ -11,8 +11,8 @@ use Rattle.bits.specs.Bits.{Bits}
 use Rattle.events.specs.Event.{_▸_}
 use Rattle.fields.proofs.ReadLaws.{bind-ok, bind-by}
 use Rattle.fields.specs.Reader.{Res, ok}
-use Rattle.sentences.specs.Compose.{Begins, pairBits, GoodPair, optBits, GoodOpt, eachBits, GoodEach}
-use Rattle.sentences.specs.ComposeReader.{readPair, readOpt, readEach, Reads}
+use Rattle.sentences.specs.Compose.{Begins, pairBits, GoodPair, thenBits, GoodThen, optBits, GoodOpt, eachBits, GoodEach}
+use Rattle.sentences.specs.ComposeReader.{readPair, readThen, readOpt, readEach, Reads}
 
 module _ {A : Type 0} (read : Bits → Res A) (bits : A → Bits) (Good : A → Type 0) (h : Reads read bits Good) where
   pub accepts : (b : Bits) → ((a : A) × ((r : Bits) × (read b ≡ ok a r))) ↔ ((a : A) × Begins bits Good b a)
@@ -35,29 +35,33 @@ module _ {A : Type 0} (read : Bits → Res A) (bits : A → Bits) (Good : A → 
 
 -- ---- put together
 
-module _ {A B : Type 0} (p : Bits → Res A) (f : A → Bits) (P : A → Type 0) (q : Bits → Res B) (g : B → Bits) (Q : B → Type 0)
-    (hp : Reads p f P) (hq : Reads q g Q) where
-  pub pair-reads : Reads (readPair p q) (pairBits f g) (GoodPair P Q)
-  pair-reads = record {
+module _ {A B : Type 0} (p : Bits → Res A) (f : A → Bits) (P : A → Type 0) (q : A → Bits → Res B) (g : A → B → Bits) (Q : A → B → Type 0)
+    (hp : Reads p f P) (hq : (a : A) → Reads (q a) (g a) (Q a)) where
+  pub then-reads : Reads (readThen p q) (thenBits f g) (GoodThen P Q)
+  then-reads = record {
     sound = λ b x r e.
         let u = bind-ok (p b) _ e in
-        let v = bind-ok (q (u .rest)) _ (u .then) in
+        let v = bind-ok (q (u .got) (u .rest)) _ (u .then) in
         let su = hp .sound b (u .got) (u .rest) (u .first) in
-        let sv = hq .sound (u .rest) (v .got) (v .rest) (v .first) in
+        let sv = hq (u .got) .sound (u .rest) (v .got) (v .rest) (v .first) in
         end b (u .got) (u .rest) (v .got) (v .rest) x r su sv (v .then);
     complete = λ x r h.
-        ap (readPair p q) (append-assoc (f (x .0)) (g (x .1)) r)
-        ∙ bind-by _ (hp .complete (x .0) (g (x .1) ▸ r) (h .0))
-        ∙ bind-by _ (hq .complete (x .1) r (h .1));
+        ap (readThen p q) (append-assoc (f (x .0)) (g (x .0) (x .1)) r)
+        ∙ bind-by _ (hp .complete (x .0) (g (x .0) (x .1) ▸ r) (h .0))
+        ∙ bind-by _ (hq (x .0) .complete (x .1) r (h .1));
   }
     where
-      end : (b : Bits) (a : A) (s : Bits) (c : B) (t : Bits) (x : A × B) (r : Bits) → P a × (b ≡ f a ▸ s) → Q c × (s ≡ g c ▸ t)
-          → _≡_ {A = Res (A × B)} (ok (a, c) t) (ok x r) → GoodPair P Q x × (b ≡ pairBits f g x ▸ r)
+      end : (b : Bits) (a : A) (s : Bits) (c : B) (t : Bits) (x : A × B) (r : Bits) → P a × (b ≡ f a ▸ s) → Q a c × (s ≡ g a c ▸ t)
+          → _≡_ {A = Res (A × B)} (ok (a, c) t) (ok x r) → GoodThen P Q x × (b ≡ thenBits f g x ▸ r)
       end b a s c t x r su sv e =
           let e₁ : _≡_ {A = A × B} (a, c) x = cc in
           let e₂ : t ≡ r = cc in
-          subst₂ (λ (y : A × B) (z : Bits). GoodPair P Q y × (b ≡ pairBits f g y ▸ z)) e₁ e₂
-          ((su .0, sv .0), su .1 ∙ ap (λ (k : Bits). f a ▸ k) (sv .1) ∙ sym (append-assoc (f a) (g c) t))
+          subst₂ (λ (y : A × B) (z : Bits). GoodThen P Q y × (b ≡ thenBits f g y ▸ z)) e₁ e₂
+          ((su .0, sv .0), su .1 ∙ ap (λ (k : Bits). f a ▸ k) (sv .1) ∙ sym (append-assoc (f a) (g a c) t))
+
+pub pair-reads : {A B : Type 0} (p : Bits → Res A) (f : A → Bits) (P : A → Type 0) (q : Bits → Res B) (g : B → Bits) (Q : B → Type 0)
+    → Reads p f P → Reads q g Q → Reads (readPair p q) (pairBits f g) (GoodPair P Q)
+pair-reads p f P q g Q hp hq = then-reads p f P (λ _. q) (λ _. g) (λ _. Q) hp (λ _. hq)
 
 module _ {A : Type 0} (p : Bits → Res A) (f : A → Bits) (P : A → Type 0) (hp : Reads p f P) where
   pub opt-reads : (t : Bool) → Reads (readOpt t p) (optBits f) (GoodOpt t P)

@@ -21,8 +21,8 @@ use Rattle.fields.specs.Reader.{Res}
 use Rattle.sentences.proofs.Reading.{dc-reads}
 use Rattle.sentences.proofs.ComposeLaws.{opt-reads}
 use Rattle.sentences.proofs.Sentences.{block-reads}
-use Rattle.sentences.specs.Compose.{GoodEach, GoodOpt, GoodPair, eachBits, optBits, pairBits}
-use Rattle.sentences.specs.ComposeReader.{CutSentence, Reads, readEach, readOpt, readPair}
+use Rattle.sentences.specs.Compose.{GoodEach, GoodOpt, GoodPair, GoodThen, eachBits, optBits, pairBits, thenBits}
+use Rattle.sentences.specs.ComposeReader.{CutSentence, Reads, readEach, readOpt, readPair, readThen}
 use Rattle.sentences.specs.Macroblock.{GoodBlock, GoodMacroblock, Place, blockBits, macroblockBits, placesOfPattern}
 use Rattle.sentences.specs.MacroblockReader.{readBlock, readMacroblock}
 use Rattle.texture.proofs.ListLaws.{list-stops}
@@ -39,15 +39,19 @@ none-longer b r l e = let n = ap length e ∙ length-append b r in omega arith
 takes : {A : Type 0} {p : Bits → Res A} {f : A → Bits} {P : A → Type 0} → Reads p f P → CutSentence p f P → (a : A) → P a → Takes p (f a) a
 takes hp cp a g = record { reads = λ s. hp .complete a s g; stops = λ b r l e. cp b a (g, (r, (l, e))) }
 
-module _ {A B : Type 0} (p : Bits → Res A) (f : A → Bits) (P : A → Type 0) (q : Bits → Res B) (g : B → Bits) (Q : B → Type 0)
-    (hp : Reads p f P) (cp : CutSentence p f P) (cq : CutSentence q g Q) where
-  pair-cut : CutSentence (readPair p q) (pairBits f g) (GoodPair P Q)
-  pair-cut b x (h, (r, (l, e))) =
-      then-stops p _ (takes hp cp (x .0) (h .0)) (g (x .1)) b r l e
-      (λ s k. stops-first (q s) _ (cq s (x .1) (h .1, (r, (l, k)))))
+module _ {A B : Type 0} (p : Bits → Res A) (f : A → Bits) (P : A → Type 0) (q : A → Bits → Res B) (g : A → B → Bits) (Q : A → B → Type 0)
+    (hp : Reads p f P) (cp : CutSentence p f P) (cq : (a : A) → CutSentence (q a) (g a) (Q a)) where
+  pub then-cut : CutSentence (readThen p q) (thenBits f g) (GoodThen P Q)
+  then-cut b x (h, (r, (l, e))) =
+      then-stops p _ (takes hp cp (x .0) (h .0)) (g (x .0) (x .1)) b r l e
+      (λ s k. stops-first (q (x .0) s) _ (cq (x .0) s (x .1) (h .1, (r, (l, k)))))
+
+pub pair-cut : {A B : Type 0} (p : Bits → Res A) (f : A → Bits) (P : A → Type 0) (q : Bits → Res B) (g : B → Bits) (Q : B → Type 0)
+    → Reads p f P → CutSentence p f P → CutSentence q g Q → CutSentence (readPair p q) (pairBits f g) (GoodPair P Q)
+pair-cut p f P q g Q hp cp cq = then-cut p f P (λ _. q) (λ _. g) (λ _. Q) hp cp (λ _. cq)
 
 module _ {A : Type 0} (p : Bits → Res A) (f : A → Bits) (P : A → Type 0) (cp : CutSentence p f P) where
-  opt-cut : (t : Bool) → CutSentence (readOpt t p) (optBits f) (GoodOpt t P)
+  pub opt-cut : (t : Bool) → CutSentence (readOpt t p) (optBits f) (GoodOpt t P)
   opt-cut true b none (h, x) = absurd h
   opt-cut true b (some a) (h, x) = stops-first (p b) _ (cp b a (h, x))
   opt-cut false b none (h, (r, (l, e))) = absurd (none-longer b r l e)

@@ -1,4 +1,4 @@
--- How grammars are put together: one after the other, one that a flag has, one for each of a list. No reader is named here. Definitions only.
+-- How grammars are put together: one after the other, one that depends on the one before it, one that a flag has, one for each of a list. No reader is named here. Definitions only.
 use mathlib.Core.Path.{_≡_}
 use mathlib.Core.Bool.{Bool, true, false}
 use mathlib.Core.List.{List, [], _∷_}
@@ -22,6 +22,13 @@ pairBits f g x = f (x .0) ▸ g (x .1)
 
 abbrev pub GoodPair : {A B : Type 0} → (A → Type 0) → (B → Type 0) → A × B → Type 0
 GoodPair P Q x = P (x .0) × Q (x .1)
+
+-- one after the other, the second as what the first says asks for it
+abbrev pub thenBits : {A B : Type 0} → (A → Bits) → (A → B → Bits) → A × B → Bits
+thenBits f g x = f (x .0) ▸ g (x .0) (x .1)
+
+abbrev pub GoodThen : {A B : Type 0} → (A → Type 0) → (A → B → Type 0) → A × B → Type 0
+GoodThen P Q x = P (x .0) × Q (x .0) (x .1)
 
 -- there if the flag is set
 abbrev pub optBits : {A : Type 0} → (A → Bits) → Option A → Bits

@@ -22,6 +22,10 @@ CutSentence {A} read bits Good = (b : Bits) (a : A) → BreaksOff bits Good b a 
 abbrev pub readPair : {A B : Type 0} → (Bits → Res A) → (Bits → Res B) → Bits → Res (A × B)
 readPair p q b = bind (p b) (λ a r. bind (q r) (λ c r. ok (a, c) r))
 
+-- one after the other, the second as what the first says asks for it
+abbrev pub readThen : {A B : Type 0} → (Bits → Res A) → (A → Bits → Res B) → Bits → Res (A × B)
+readThen p q b = bind (p b) (λ a r. bind (q a r) (λ c r. ok (a, c) r))
+
 -- there if the flag is set
 abbrev pub readOpt : {A : Type 0} → Bool → (Bits → Res A) → Bits → Res (Option A)
 readOpt true p b = bind (p b) (λ a r. ok (some a) r)

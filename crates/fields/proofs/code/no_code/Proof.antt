@@ -17,6 +17,9 @@ enum-told c = search needs
 enum-told-2 : tie.Need-enum-told-2
 enum-told-2 c = search needs
 
+enum-told-3 : tie.Need-enum-told-3
+enum-told-3 c = search needs
+
 returns-2 : tie.Need-returns-2
 returns-2 c =
     let e = c .before .before in
@@ -27,5 +30,10 @@ returns-3 c =
     let e = c .before .before in
     ap₂ (λ (t : Bool) (k : CodeKind). cond t EndedInsideCode (invalid k (e .before .args .window))) (sym (e .if1 .left)) (sym (c .enum-told2 .given .1))
 
+returns-4 : tie.Need-returns-4
+returns-4 c =
+    let e = c .before .before in
+    ap₂ (λ (t : Bool) (k : CodeKind). cond t EndedInsideCode (invalid k (e .before .args .window))) (sym (e .if1 .left)) (sym (c .enum-told3 .given .1))
+
 pub no-code-spec : {M : Type 1} → statement M
-no-code-spec = tie.close (tie.spec returns enum-told enum-told-2 returns-2 returns-3)
+no-code-spec = tie.close (tie.spec returns enum-told enum-told-2 enum-told-3 returns-2 returns-3 returns-4)
