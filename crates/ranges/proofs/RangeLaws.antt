@@ -8,8 +8,10 @@ use lib.IntN.{ℤ, pos, negsuc, natAbs}
 use lib.Pow.{pow-pos}
 use lib.Signed.{leZ, _<ℤ_, _≤ℤ_}
 use borrow.Author.Tests.{leb-true, le-leb}
-use Rattle.numbers.proofs.Integers.{<ℤ-≤ℤ, diff-is, halves, le-in, le-leZ, le-yes, lt-in, neg-dn, neg-up, ≤ℤ-trans}
-use Rattle.ranges.specs.Range.{within, depthFine, quantiserFine, levelFine, differenceFine, dcFine, highest, lowest}
+use Rattle.numbers.proofs.Integers.{<ℤ-≤ℤ, diff-is, halves, le-in, le-leZ, le-out, le-yes, lt-in, neg-dn, neg-up, ≤ℤ-trans}
+use Rattle.numbers.proofs.Limits.{clamp-high, clamp-low}
+use Rattle.numbers.specs.Limit.{clampZ}
+use Rattle.ranges.specs.Range.{within, depthFine, limitedQuantiser, quantiserFine, levelFine, differenceFine, dcFine, highest, lowest}
 use Rattle.numbers.proofs.Tests.{both-true, true-both}
 
 pub within-of : (lo hi z : ℤ) → lo ≤ℤ z → z ≤ℤ hi → within lo hi z ≡ true
@@ -58,6 +60,14 @@ quantiser-range = leb-range 1 31
 
 pub range-quantiser : (q : ℕ) → 1 ≤ q → q ≤ 31 → quantiserFine q ≡ true
 range-quantiser = range-leb 1 31
+
+-- a limited one is fine
+pub limited-fine : (z : ℤ) → quantiserFine (limitedQuantiser z) ≡ true
+limited-fine z =
+    let c : ℤ = clampZ z (pos 1) (pos 31) in
+    let l = le-out (clamp-low z (pos 1) (pos 31) (le-in (omega arith))) in
+    let h = le-out (clamp-high z (pos 1) (pos 31) (le-in (omega arith))) in
+    range-quantiser (natAbs c) (omega (arith, halves c)) (omega (arith, halves c))
 
 pub depth-range : (d : ℕ) → depthFine d ≡ true → (4 ≤ d) × (d ≤ 12)
 depth-range = leb-range 4 12

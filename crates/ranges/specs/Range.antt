@@ -3,8 +3,9 @@ use mathlib.Core.Bool.{Bool, _&&_}
 use mathlib.Core.List.{[], _∷_}
 use Prim.Native.Nat.{ℕ, _+_, _^_}
 use lib.Dec.{leb}
-use lib.IntN.{ℤ, negsuc, negℤ, pos, _-ℤ_}
+use lib.IntN.{ℤ, natAbs, negsuc, negℤ, pos, _-ℤ_}
 use lib.Signed.{leZ}
+use Rattle.numbers.specs.Limit.{clampZ}
 use Rattle.numbers.specs.Outcome.{Outcome, accepted, checked, refused}
 use Rattle.ranges.specs.declared.DepthLimits.{DepthLimits}
 use Rattle.ranges.specs.declared.DepthLimits.the-variants.{Are, OutOfRange}
@@ -20,6 +21,10 @@ depthFine d = leb 4 d && leb d 12
 -- a quantiser scale, the present one or a neighbour's: 1 to 31
 abbrev pub quantiserFine : ℕ → Bool
 quantiserFine q = leb 1 q && leb q 31
+
+-- a quantiser scale after a change, limited to the same (6.3.6)
+abbrev pub limitedQuantiser : ℤ → ℕ
+limitedQuantiser z = natAbs (clampZ z (pos 1) (pos 31))
 
 -- a level QF: -2048 to 2047 (7.4.3.4)
 abbrev pub levelFine : ℤ → Bool

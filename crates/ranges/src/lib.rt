@@ -2,7 +2,7 @@
 // neighbour. Bounds are constants of their type.
 ghost use mathlib.Core.Path.{_≡_};
 ghost use Prim.Native.Nat.{_<_};
-ghost use Rattle.ranges.specs.Range.{dcFine, depthFine, differenceFine, highest, levelFine, limitsOutcome, lowest, quantiserFine, saturationLimits, valueLimits, within};
+ghost use Rattle.ranges.specs.Range.{dcFine, depthFine, differenceFine, highest, levelFine, limitedQuantiser, limitsOutcome, lowest, quantiserFine, saturationLimits, valueLimits, within};
 
 // Whether lo <= z <= hi.
 pub fn inside(z: i32, lo: i32, hi: i32) -> bool
@@ -88,6 +88,13 @@ impl Quantiser {
             return false;
         }
         quantiser_scale <= Quantiser::GREATEST
+    }
+
+    // The quantiser scale that a change makes, limited to those that are one.
+    pub fn limited(changed: i32) -> u32
+        ensures { λ r. ⌜ r ≡ limitedQuantiser changed ⌝ }
+    {
+        numbers::abs(numbers::clamp(changed, Quantiser::LEAST as i32, Quantiser::GREATEST as i32))
     }
 }
 

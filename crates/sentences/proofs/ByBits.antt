@@ -14,7 +14,7 @@ use Rattle.texture.proofs.ByBits.{list-by-bits}
 use Rattle.texture.specs.Events.{firstPlace}
 use Rattle.texture.specs.EventsReader.{list}
 
-opt-by-bits : {A : Type 0} (there : Bool) (p : Bits → Res A) → ((b : Bits) → ByBits (p b)) → (b : Bits) → ByBits (readOpt there p b)
+pub opt-by-bits : {A : Type 0} (there : Bool) (p : Bits → Res A) → ((b : Bits) → ByBits (p b)) → (b : Bits) → ByBits (readOpt there p b)
 opt-by-bits true p h b = then (p b) _ (h b) (λ a r. tt)
 opt-by-bits false p h b = tt
 

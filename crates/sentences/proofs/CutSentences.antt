@@ -1,12 +1,14 @@
--- A proper beginning of a sentence is refused by 1 or 17: DC parts, events, lists, blocks and macroblocks, plain and reversible. Assumes nothing.
+-- A proper beginning of a sentence is refused by 1 or 17: codes, fields, DC parts, events, lists, blocks and macroblocks, plain and reversible. Assumes nothing.
 use mathlib.Core.Bool.{Bool, false, true}
 use mathlib.Core.List.{List, [], _∷_}
 use mathlib.Core.Option.{none, some}
 use mathlib.Core.Path.{_≡_, ap, _∙_}
-use Prim.Native.Nat.{ℕ, _<_}
+use Prim.Native.Nat.{ℕ, _<_, _^_, _≤_}
 use native.Mathlib.Omega.{arith}
+use lib.Dec.{T}
 use lib.ListN.{length, length-append}
-use Rattle.bits.specs.Bits.{Bits}
+use Rattle.bits.specs.Bits.{Bits, bin}
+use Rattle.codes.specs.Table.{codeBits, prefixFree}
 use Rattle.codes.specs.declared.dc_size.DcComponent.{DcComponent}
 use Rattle.codes.specs.declared.tcoef_tables.TcoefTable.{TcoefTable}
 use Rattle.codes.specs.declared.tcoef_tables.TcoefTable.the-variants.{Intra}
@@ -16,8 +18,9 @@ use Rattle.dc_parts.specs.DcReader.{readDc}
 use Rattle.events.proofs.EitherLaws.{event-takes}
 use Rattle.events.specs.Event.{GoodEvent, _▸_, eventBits}
 use Rattle.events.specs.EventReader.{event}
-use Rattle.fields.proofs.TakeLaws.{Takes, stops-first, then-stops}
-use Rattle.fields.specs.Reader.{Res}
+use Rattle.fields.proofs.TakeLaws.{Takes, code-takes, field-takes, stops-first, then-stops}
+use Rattle.fields.specs.Reader.{Res, code, field}
+use Rattle.fields.specs.declared.error.TextureParseError.{TextureParseError}
 use Rattle.sentences.proofs.Reading.{dc-reads}
 use Rattle.sentences.proofs.ComposeLaws.{opt-reads}
 use Rattle.sentences.proofs.Sentences.{block-reads}
@@ -67,6 +70,13 @@ module _ {S A : Type 0} (p : S → Bits → Res A) (f : S → A → Bits) (P : S
       (λ t k. stops-first (readEach p ss t) _ (each-cut ss t xs (h .1, (r, (l, k)))))
 
 -- ---- sentences
+
+pub code-cut-sentence : (cs ls : List ℕ) (width rows : ℕ) (err : ℕ → TextureParseError) → T (prefixFree width cs ls) → rows ≤ length cs
+    → CutSentence (code cs ls width rows err) (codeBits cs ls) (λ (i : ℕ). i < rows)
+code-cut-sentence cs ls width rows err free within b i (h, (r, (l, e))) = code-takes cs ls width rows err free within i h .stops b r l e
+
+pub field-cut-sentence : (n : ℕ) → CutSentence (field n) (bin n) (λ (v : ℕ). v < 2 ^ n)
+field-cut-sentence n b v (h, (r, (l, e))) = field-takes n v h .stops b r l e
 
 pub dc-cut-sentence : (c : DcComponent) → CutSentence (readDc c) (dcBits c) (GoodDc c)
 dc-cut-sentence c b x (g, (r, (l, e))) = dc-takes c x g .stops b r l e

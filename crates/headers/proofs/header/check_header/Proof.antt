@@ -1,13 +1,13 @@
--- `macroblock::header::check_header` meets its contract: 9, then 10. Assumes nothing.
+-- `headers::header::check_header` meets its contract: 9, then 10. Assumes nothing.
 use mathlib.Core.Bool.{false, true}
 use mathlib.Core.Path.{refl, sym}
 use borrow.Author.Needs.{needs}
 use Rattle.numbers.proofs.OutcomeLaws.{both}
 use Rattle.numbers.proofs.Tests.{flag-passes, flag-refuses}
 use Rattle.assembly.specs.Outcomes.{checkedOutcome}
-use Rattle.macroblock.proofs.StateLaws.{header-by, header-due}
-use Rattle.macroblock.proofs.header.check_header.Statement.{statement}
-use Rattle.macroblock.proofs.header.check_header.Tie as tie
+use Rattle.headers.proofs.RecordLaws.{header-by, header-due}
+use Rattle.headers.proofs.header.check_header.Statement.{statement}
+use Rattle.headers.proofs.header.check_header.Tie as tie
 
 returns : tie.Need-returns
 returns c = both checkedOutcome (sym (header-by (c .before .args .header) true _ (c .if1 .taken) refl)) (header-due (c .before .args .header))

@@ -1,10 +1,10 @@
 // The header record of a macroblock (macroblock.rs).
 ghost use mathlib.Core.Path.{_≡_};
 ghost use Rattle.assembly.specs.Outcomes.{checkedOutcome};
-ghost use Rattle.macroblock.specs.Header.{headerCheck, isIntra};
-ghost use Rattle.macroblock.specs.Outcomes.{headerDue};
-use block::BlockAssemblyError;
-use block::Checked;
+ghost use Rattle.headers.specs.Fields.{headerCheck, isIntra};
+ghost use Rattle.headers.specs.Outcomes.{headerDue};
+use assembly::BlockAssemblyError;
+use assembly::Checked;
 
 // Table B.1; `Missing` is the Rust's `None`.
 pub enum DerivedMbType {
