@@ -1,5 +1,6 @@
 -- The reader of a header reads its grammar, is stopped where a header breaks off, and refuses by 1, 16 and 17; what a header says is fine. Assumes nothing.
 use mathlib.Core.Bool.{Bool, cond, false, true}
+use mathlib.Core.List.{List}
 use mathlib.Core.Option.{Option}
 use mathlib.Core.Path.{_≡_, refl}
 use Prim.Native.Nat.{ℕ, suc, zero, _<_, _≤_}
@@ -15,6 +16,7 @@ use Rattle.fields.proofs.ByBits.{ByBits, code-by-bits, either, field-by-bits, t
 use Rattle.fields.specs.Inside.{invalid}
 use Rattle.fields.specs.Reader.{Res, code, field, mapped, no, ok}
 use Rattle.fields.specs.declared.code.CodeKind.the-variants.{Header as HeaderCode}
+use Rattle.numbers.proofs.Tests.{both-true, true-both}
 use Rattle.ranges.proofs.RangeLaws.{limited-fine}
 use Rattle.ranges.specs.Range.{quantiserFine}
 use Rattle.sentences.proofs.ComposeLaws.{opt-reads, pair-reads, then-reads}
@@ -25,10 +27,12 @@ use Rattle.sentences.proofs.Sentences.{sentences}
 use Rattle.sentences.specs.Compose.{GoodOpt, GoodPair, optBits, pairBits}
 use Rattle.sentences.specs.ComposeReader.{CutSentence, Reads, readOpt, readPair}
 use Rattle.sentences.specs.Sentences.{Sentences}
+use Rattle.assembly.specs.Values.{contextFine}
+use Rattle.assembly.specs.declared.context.MacroblockTextureContext.{MacroblockTextureContext}
 use Rattle.assembly.specs.declared.error.BlockAssemblyError.the-variants.{NotCoded, NotIntra}
 use Rattle.assembly.specs.declared.error.Checked.the-variants.{Bad, Fine}
 use Rattle.headers.proofs.McbpcLaws.{coded, mcbpc-cut, mcbpc-reads}
-use Rattle.headers.specs.Fields.{deltaOf, headerCheck, headerOf, isIntra, newQuantiser}
+use Rattle.headers.specs.Fields.{contextWith, deltaOf, fieldsOf, headerCheck, headerOf, isIntra, newQuantiser}
 use Rattle.headers.specs.Header.{GoodHeader, GoodMcbpc, GoodRest, Header, Mcbpc, changesAt, headerBits, mcbpcBits, restBits, rowOf}
 use Rattle.headers.specs.HeaderReader.{mcbpcIn, oneMore, readHeader, readMcbpc, readRest}
 use Rattle.headers.specs.declared.header.DerivedMbType.{DerivedMbType}
@@ -116,3 +120,7 @@ header-checked h = go (changesAt (rowOf (h .0)))
 -- a new quantiser is fine
 pub new-fine : (q : ℕ) (h : Header) → quantiserFine (newQuantiser q h) ≡ true
 new-fine q h = limited-fine (pos q +ℤ deltaOf (h .1 .1 .1))
+
+-- and so is the context with it
+pub context-fine : (x : MacroblockTextureContext) (w : List (List ℕ)) (h : Header) → contextFine x w ≡ true → contextFine (contextWith (fieldsOf (x .«quantiser_scale») h) x) w ≡ true
+context-fine x w h e = true-both (new-fine (x .«quantiser_scale») h) (both-true (quantiserFine (x .«quantiser_scale»)) _ e .1)

@@ -20,7 +20,7 @@ use Rattle.assembly.specs.declared.error.BlockAssemblyError.the-variants.{Compl
 use Rattle.assembly.specs.declared.error.Checked.{Checked}
 use Rattle.assembly.specs.declared.error.Checked.the-variants.{Bad, Fine}
 use Rattle.macroblock.specs.Answer.{keptBy}
-use Rattle.macroblock.specs.Header.{headerCheck}
+use Rattle.headers.specs.Fields.{headerCheck}
 use Rattle.macroblock.specs.Six.{samplesOfSix}
 use Rattle.record.proofs.RecordLaws.{stored-length}
 use Rattle.neighbours.proofs.SoundLaws.{around-fine, blank-sound}

@@ -26,7 +26,7 @@ use Rattle.assembly.specs.declared.error.BlockAssemblyError.the-variants.{Compl
 use Rattle.assembly.specs.declared.error.Checked.{Checked}
 use Rattle.assembly.specs.declared.error.Checked.the-variants.{Bad, Fine}
 use Rattle.macroblock.specs.Answer.{keptBy, told as toldAlone}
-use Rattle.macroblock.specs.Header.{headerCheck}
+use Rattle.headers.specs.Fields.{headerCheck}
 use Rattle.macroblock.specs.Six.{blockAt, valuesOfSix}
 use Rattle.macroblock.specs.declared.decode.MacroblockDecoded.{MacroblockDecoded}
 use Rattle.macroblock.specs.declared.decode.MacroblockDecoded.the-variants.{Decoded as AloneDecoded, Refused as AloneRefused}

@@ -17,7 +17,7 @@ use Rattle.assembly.specs.declared.error.BlockAssemblyError.the-variants.{Compl
 use Rattle.assembly.specs.declared.error.Checked.{Checked}
 use Rattle.assembly.specs.declared.error.Checked.the-variants.{Bad, Fine}
 use Rattle.macroblock.specs.Answer.{keptBy}
-use Rattle.macroblock.specs.Header.{headerTests, patternBy}
+use Rattle.headers.specs.Fields.{headerTests, patternBy}
 use Rattle.macroblock.specs.Six.{samplesOfSix}
 use Rattle.neighbours.specs.Neighbours.{found}
 use Rattle.picture.specs.Call.{Input, answerWith, contextHere, sentenceHere}

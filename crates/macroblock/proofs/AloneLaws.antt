@@ -16,7 +16,9 @@ use Rattle.prediction.specs.declared.predictor.BlockPredictors.{BlockPredictors
 use Rattle.fields.specs.Answer.{after}
 use Rattle.events.specs.declared.spelling.Spellings.{Spellings}
 use Rattle.sentences.proofs.CountLaws.{countsIn}
-use Rattle.sentences.specs.Macroblock.{Parts}
+use Rattle.sentences.proofs.Sentences.{macroblock-sentences}
+use Rattle.sentences.specs.Macroblock.{GoodMacroblock, Parts, macroblockBits}
+use Rattle.sentences.specs.MacroblockReader.{readMacroblock}
 use Rattle.fields.specs.Reader.{Res, no, ok}
 use Rattle.fields.specs.Stopped.{Stops}
 use Rattle.assembly.proofs.OutcomeLaws.{answered, read-by}
@@ -34,11 +36,12 @@ use Rattle.macroblock.proofs.SixLaws.{values-six-fine}
 use Rattle.macroblock.proofs.StateLaws.{StateFine, state-fine}
 use Rattle.macroblock.specs.Alone.{Accepted, DemandAlone, Stopped, StoppedAlone, Told}
 use Rattle.macroblock.specs.Answer.{answerBy, keptBy, macroblockAnswer, samplesOut, samplesTold, sentenceOf, stateOf, told, valuesAlone}
-use Rattle.macroblock.specs.Header.{headerTests, patternBy}
-use Rattle.macroblock.specs.Outcomes.{bitsSaid, headerNumbers, macroblockDue, macroblockOutcome}
+use Rattle.headers.specs.Fields.{headerTests, patternBy}
+use Rattle.headers.specs.Outcomes.{headerNumbers}
+use Rattle.macroblock.specs.Outcomes.{bitsSaid, macroblockDue, macroblockOutcome}
 use Rattle.macroblock.specs.declared.decode.MacroblockDecoded.{MacroblockDecoded}
 use Rattle.macroblock.specs.declared.decode.MacroblockDecoded.the-variants.{Decoded, Refused}
-use Rattle.macroblock.specs.declared.header.MacroblockHeader.{MacroblockHeader}
+use Rattle.headers.specs.declared.header.MacroblockHeader.{MacroblockHeader}
 
 module _ (d : List ℕ) (at : ℕ) (h : MacroblockHeader) (dcCoded rev : Bool) (x : MacroblockTextureContext) (p : BlockPredictors) (w : List (List ℕ)) (old : List ℤ) where
   -- what the public contract says
@@ -80,7 +83,7 @@ module _ (d : List ℕ) (at : ℕ) (h : MacroblockHeader) (dcCoded rev : Bool) (
         let k : c .«bit_pos» - at ≡ n = let m = ap (λ (y : Cursor). y .«bit_pos») g in omega arith in
         ap₂ (λ (m : ℕ) (y : Cursor). Decoded m y counts) k g
 
-    call : Call d at dcCoded rev (patternBy h) x (valuesAlone h dcCoded x p w) (Accepted r) (Told at r) old out
+    call : Call (readMacroblock dcCoded rev (patternBy h)) d at x (valuesAlone h dcCoded x p w) (Accepted r) (Told at r) old out
     unfolding sentenceOf
     call = record {
       accepts = λ s b g. subst⁻¹ Accepted (e ∙ ap (told d at) g) tt;
@@ -102,7 +105,7 @@ module _ (d : List ℕ) (at : ℕ) (h : MacroblockHeader) (dcCoded rev : Bool) (
           (
             f ∙ sym (ap (λ (s : Checked). keptBy s (samplesTold h dcCoded x p w (sentenceOf d at h dcCoded rev) old) old) q),
             (
-              λ _. demand d at dcCoded rev (patternBy h) x (valuesAlone h dcCoded x p w) (Accepted r) (Told at r) old out
+              λ _. demand (readMacroblock dcCoded rev (patternBy h)) d at (macroblockBits (patternBy h)) (GoodMacroblock dcCoded rev (patternBy h)) (macroblock-sentences dcCoded rev (patternBy h)) x (valuesAlone h dcCoded x p w) (Accepted r) (Told at r) old out
                   (in-data-yes (length d) at (fine .inside) .1) (depth-fine x w (fine .context)) (λ s i l. values-six-fine x p w (rowsOf dcCoded (patternBy h) s) i l) (fine .roomy) call,
               (by-number a, λ _ s b. subst⁻¹ Stopped e (stopped-told (sentenceOf d at h dcCoded rev) (stopped-of d at dcCoded rev (patternBy h) s b))),
             ),

@@ -19,14 +19,11 @@ use Rattle.assembly.specs.declared.error.BlockAssemblyError.the-variants.{TooSh
 use Rattle.assembly.specs.declared.error.Checked.{Checked}
 use Rattle.assembly.specs.declared.error.Checked.the-variants.{Bad}
 use Rattle.macroblock.specs.Answer.{answerBy, macroblockAnswer, sentenceOf, stateOf, told}
-use Rattle.macroblock.specs.Header.{headerCheck, headerTests, patternBy}
+use Rattle.headers.specs.Fields.{headerTests, patternBy}
 use Rattle.macroblock.specs.Outcomes.{macroblockOutcome}
 use Rattle.macroblock.specs.declared.decode.MacroblockDecoded.{MacroblockDecoded}
 use Rattle.macroblock.specs.declared.decode.MacroblockDecoded.the-variants.{Decoded, Refused}
-use Rattle.macroblock.specs.declared.header.MacroblockHeader.{MacroblockHeader}
-
-pub header-told : (h : MacroblockHeader) → Told fine Bad (headerCheck h)
-header-told h = first-told (headerTests h) (tt, (tt, tt))
+use Rattle.headers.specs.declared.header.MacroblockHeader.{MacroblockHeader}
 
 -- what is read of a macroblock is refused by 1 to 8 or 17
 pub sentence-by-bits : (d : List ℕ) (at : ℕ) (h : MacroblockHeader) (dcCoded rev : Bool) → ByBits (sentenceOf d at h dcCoded rev)

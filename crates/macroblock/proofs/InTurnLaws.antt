@@ -28,10 +28,10 @@ use Rattle.block_reader.specs.Rows.{rowsOf}
 use Rattle.assembly.specs.Values.{levelsOf, valuesOf}
 use Rattle.assembly.specs.declared.context.MacroblockTextureContext.{MacroblockTextureContext}
 use Rattle.macroblock.specs.Answer.{valuesAlone}
-use Rattle.macroblock.specs.Header.{patternBy}
+use Rattle.headers.specs.Fields.{patternBy}
 use Rattle.macroblock.specs.InTurn.{inTurn}
 use Rattle.macroblock.specs.Six.{blockAt, valuesOfSix}
-use Rattle.macroblock.specs.declared.header.MacroblockHeader.{MacroblockHeader}
+use Rattle.headers.specs.declared.header.MacroblockHeader.{MacroblockHeader}
 
 module _ (d : List ℕ) (dcCoded rev : Bool) where
   each-in-turn : (ss : List Place) (at : ℕ) → at ≤ 8 * length d → inTurn d dcCoded rev at ss ≡ readEach (readBlock dcCoded rev) ss (bitsFrom d at)

@@ -4,4 +4,6 @@ pub mod SixLaws
 pub mod DemandLaws
 pub mod AloneLaws
 pub mod InTurnLaws
+pub mod WholeLaws
+pub mod WholeAnswerLaws
 pub mod Apart

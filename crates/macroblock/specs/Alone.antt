@@ -9,17 +9,17 @@ use lib.ListN.{length}
 use Rattle.bits.specs.Cursor.{cursorAt}
 use Rattle.events.specs.Spellings.{spellingsOf}
 use Rattle.fields.specs.Stopped.{stopped}
-use Rattle.sentences.specs.Macroblock.{Parts, eventsIn}
+use Rattle.sentences.specs.Macroblock.{GoodMacroblock, Parts, eventsIn, macroblockBits}
 use Rattle.prediction.specs.declared.predictor.BlockPredictors.{BlockPredictors}
 use Rattle.assembly.specs.Answer.{numberOf}
 use Rattle.assembly.specs.declared.context.MacroblockTextureContext.{MacroblockTextureContext}
 use Rattle.assembly.specs.declared.error.Checked.the-variants.{Fine}
 use Rattle.macroblock.specs.Answer.{stateOf, valuesAlone}
 use Rattle.macroblock.specs.Demand.{BreaksOffAt, Demand3}
-use Rattle.macroblock.specs.Header.{patternBy}
+use Rattle.headers.specs.Fields.{patternBy}
 use Rattle.macroblock.specs.declared.decode.MacroblockDecoded.{MacroblockDecoded}
 use Rattle.macroblock.specs.declared.decode.MacroblockDecoded.the-variants.{Decoded, Refused}
-use Rattle.macroblock.specs.declared.header.MacroblockHeader.{MacroblockHeader}
+use Rattle.headers.specs.declared.header.MacroblockHeader.{MacroblockHeader}
 
 -- answered without a number
 abbrev pub Accepted : MacroblockDecoded → Type 0
@@ -34,7 +34,7 @@ Told at r n s = r ≡ Decoded n (cursorAt (at + n)) (spellingsOf (eventsIn s))
 abbrev pub DemandAlone : List ℕ → ℕ → MacroblockHeader → Bool → Bool → MacroblockTextureContext → BlockPredictors → List (List ℕ) → List ℤ → MacroblockDecoded → List ℤ → Type 0
 DemandAlone d at h dcCoded rev x p w before r after =
     stateOf d at h x p w (length before) ≡ Fine
-    → Demand3 d at dcCoded rev (patternBy h) x (valuesAlone h dcCoded x p w) (Accepted r) (Told at r) before after
+    → Demand3 (macroblockBits (patternBy h)) (GoodMacroblock dcCoded rev (patternBy h)) d at x (valuesAlone h dcCoded x p w) (Accepted r) (Told at r) before after
 
 -- refused by 1 or 17
 abbrev pub Stopped : MacroblockDecoded → Type 0

@@ -1,6 +1,6 @@
 -- What is answered of a macroblock read alone, and what its lent samples hold afterwards, refusals included. Definitions only.
 use mathlib.Core.Bool.{Bool}
-use mathlib.Core.List.{List, _++_, _∷_}
+use mathlib.Core.List.{List, [], _++_, _∷_}
 use Prim.Native.Nat.{ℕ, _-_}
 use lib.Dec.{leb}
 use lib.IntN.{ℤ}
@@ -19,16 +19,20 @@ use Rattle.assembly.specs.declared.context.MacroblockTextureContext.{Macroblock
 use Rattle.assembly.specs.declared.error.BlockAssemblyError.the-variants.{Texture, TooShort}
 use Rattle.assembly.specs.declared.error.Checked.{Checked}
 use Rattle.assembly.specs.declared.error.Checked.the-variants.{Bad, Fine}
-use Rattle.macroblock.specs.Header.{headerTests, patternBy}
+use Rattle.headers.specs.Fields.{headerTests, patternBy}
 use Rattle.macroblock.specs.Six.{samplesOfSix, valuesOfSix}
 use Rattle.macroblock.specs.declared.decode.MacroblockDecoded.{MacroblockDecoded}
 use Rattle.macroblock.specs.declared.decode.MacroblockDecoded.the-variants.{Decoded, Refused}
-use Rattle.macroblock.specs.declared.header.MacroblockHeader.{MacroblockHeader}
+use Rattle.headers.specs.declared.header.MacroblockHeader.{MacroblockHeader}
 
 -- the state, before any bit: 11, 12, 13 as of a block, then 14, 9, 10
 unfoldable pub stateOf : List ℕ → ℕ → MacroblockHeader → MacroblockTextureContext → BlockPredictors → List (List ℕ) → ℕ → Checked
 stateOf d at h x p w room =
     firstBad (testsOf d at x p w ++ ((leb macroblockSamples room, TooShort) ∷ headerTests h))
+
+-- the same without a header: 11, 12, 13, 14
+unfoldable pub roomOf : List ℕ → ℕ → MacroblockTextureContext → BlockPredictors → List (List ℕ) → ℕ → Checked
+roomOf d at x p w room = firstBad (testsOf d at x p w ++ ((leb macroblockSamples room, TooShort) ∷ []))
 
 -- what the reader makes of the bits from the start to the end of the data
 unfoldable pub sentenceOf : List ℕ → ℕ → MacroblockHeader → Bool → Bool → Res (List Parts)

@@ -7,7 +7,7 @@ use Prim.Native.Nat.{ℕ, _<_}
 use lib.IntN.{ℤ, pos}
 use lib.ListN.{drop, getD, length}
 use Rattle.numbers.specs.Limit.{clampZ}
-use Rattle.bits.specs.Bits.{bitsFrom}
+use Rattle.bits.specs.Bits.{Bits, bitsFrom}
 use Rattle.exact_transform.specs.Exact.{Near, exact}
 use Rattle.ranges.specs.Range.{highest}
 use Rattle.exact_transform.specs.Transform.{whole}
@@ -17,7 +17,7 @@ use Rattle.sentences.specs.Macroblock.{GoodMacroblock, Parts, macroblockBits}
 use Rattle.assembly.specs.declared.context.MacroblockTextureContext.{MacroblockTextureContext}
 use Rattle.macroblock.specs.Six.{blockAt}
 
--- the bits from the start to the end of the data begin with the sentence
+-- the bits from the start to the end of the data begin with a sentence for the pattern
 abbrev pub BeginsAt : List ℕ → ℕ → Bool → Bool → List Bool → List Parts → Type 0
 BeginsAt d at dcCoded rev pattern s = Begins (macroblockBits pattern) (GoodMacroblock dcCoded rev pattern) (bitsFrom d at) s
 
@@ -30,15 +30,15 @@ pub record Sample (x : MacroblockTextureContext) (f : List (List ℤ)) (after : 
   pub limited : getD after (placeOf i y u) (pos 0) ≡ clampZ (whole (x .«idct_rounding») f y u) (pos 0) (highest (x .«bits_per_pixel»))
   pub near : Near (whole (x .«idct_rounding») f y u) (exact f y u)
 
--- `values` gives the six blocks' values of a sentence; `Accepted` says that the call was answered without a number, `Told n s` that it reported n bits, the position n bits on, and what it reports of the sentence s; `before` and `after` are the lent samples
-pub record Demand3 (d : List ℕ) (at : ℕ) (dcCoded rev : Bool) (pattern : List Bool) (x : MacroblockTextureContext) (values : List Parts → List (List (List ℤ))) (Accepted : Type 0) (Told : ℕ → List Parts → Type 0) (before after : List ℤ) : Type 0 where
-  -- accepted exactly when the bits begin with a sentence for the pattern
-  pub exactly : Accepted ↔ ((s : List Parts) × BeginsAt d at dcCoded rev pattern s)
+-- of a grammar whose sentences are spelled by `bits` and good by `Good`: `values` gives the six blocks' values of a sentence; `Accepted` says that the call was answered without a number, `Told n s` that it reported n bits, the position n bits on, and what it reports of the sentence s; `before` and `after` are the lent samples
+pub record Demand3 {S : Type 0} (bits : S → Bits) (Good : S → Type 0) (d : List ℕ) (at : ℕ) (x : MacroblockTextureContext) (values : S → List (List (List ℤ))) (Accepted : Type 0) (Told : ℕ → S → Type 0) (before after : List ℤ) : Type 0 where
+  -- accepted exactly when the bits begin with a sentence
+  pub exactly : Accepted ↔ ((s : S) × Begins bits Good (bitsFrom d at) s)
   -- never with two
-  pub never-two : (s t : List Parts) → BeginsAt d at dcCoded rev pattern s → BeginsAt d at dcCoded rev pattern t → s ≡ t
+  pub never-two : (s t : S) → Begins bits Good (bitsFrom d at) s → Begins bits Good (bitsFrom d at) t → s ≡ t
   -- the length reported is the sentence's, and the position moves on by it; what is reported of the sentence is of this one
-  pub long : (s : List Parts) → BeginsAt d at dcCoded rev pattern s → Told (length (macroblockBits pattern s)) s
+  pub long : (s : S) → Begins bits Good (bitsFrom d at) s → Told (length (bits s)) s
   -- each of the 384 samples
-  pub samples : (s : List Parts) → BeginsAt d at dcCoded rev pattern s → (i y u : ℕ) → i < 6 → y < 8 → u < 8 → Sample x (blockAt (values s) i) after i y u
+  pub samples : (s : S) → Begins bits Good (bitsFrom d at) s → (i y u : ℕ) → i < 6 → y < 8 → u < 8 → Sample x (blockAt (values s) i) after i y u
   -- a longer slice keeps its rest
-  pub rest : (s : List Parts) → BeginsAt d at dcCoded rev pattern s → drop macroblockSamples after ≡ drop macroblockSamples before
+  pub rest : (s : S) → Begins bits Good (bitsFrom d at) s → drop macroblockSamples after ≡ drop macroblockSamples before

@@ -1,10 +1,10 @@
 -- What the answers of a macroblock say in document 01's numbers, and what is due of one read alone. Definitions only.
-use mathlib.Core.Bool.{Bool, not}
-use mathlib.Core.List.{List, [], _∷_}
+use mathlib.Core.Bool.{Bool}
+use mathlib.Core.List.{List, _∷_}
 use Prim.Native.Nat.{ℕ, _-_}
 use lib.Dec.{leb}
 use lib.ListN.{length}
-use Rattle.numbers.specs.Outcome.{Outcome, accepted, checked, done, refused}
+use Rattle.numbers.specs.Outcome.{Outcome, accepted, checked, refused}
 use Rattle.bits.specs.Cursor.{inData}
 use Rattle.coefficients.specs.Level.{predictorsFine}
 use Rattle.prediction.specs.declared.predictor.BlockPredictors.{BlockPredictors}
@@ -17,22 +17,15 @@ use Rattle.assembly.specs.Answer.{figureOf, numberOf}
 use Rattle.assembly.specs.Values.{contextFine}
 use Rattle.assembly.specs.declared.context.MacroblockTextureContext.{MacroblockTextureContext}
 use Rattle.macroblock.specs.Answer.{sentenceOf}
-use Rattle.macroblock.specs.Header.{isIntra}
+use Rattle.headers.specs.Outcomes.{headerNumbers}
 use Rattle.macroblock.specs.declared.decode.MacroblockDecoded.{MacroblockDecoded}
 use Rattle.macroblock.specs.declared.decode.MacroblockDecoded.the-variants.{Decoded, Refused}
-use Rattle.macroblock.specs.declared.header.MacroblockHeader.{MacroblockHeader}
+use Rattle.headers.specs.declared.header.MacroblockHeader.{MacroblockHeader}
 
 -- the number of bits taken, the position after them and the number of events of each spelling
 abbrev pub macroblockOutcome : MacroblockDecoded → Outcome (ℕ × (ℕ × Spellings))
 macroblockOutcome (Decoded n c k) = accepted (n, (c .«bit_pos», k))
 macroblockOutcome (Refused e) = refused (numberOf e) (figureOf e)
-
--- 9, then 10
-abbrev pub headerNumbers : MacroblockHeader → List (Bool × ℕ)
-headerNumbers h = (not (h .«not_coded»), 9) ∷ (isIntra (h .«mb_type»), 10) ∷ []
-
-abbrev pub headerDue : MacroblockHeader → Outcome (Unit {0})
-headerDue h = checked (headerNumbers h) done
 
 -- how many bits a sentence that begins at `at` takes, by the position after it, that position, and its events of each spelling
 abbrev pub bitsSaid : ℕ → List Parts → ℕ → ℕ × (ℕ × Spellings)

@@ -1,16 +1,16 @@
 // A macroblock out of bits into 384 samples.
 ghost use mathlib.Core.Path.{_≡_};
 ghost use lib.ListN.{length};
-ghost use Rattle.macroblock.specs.Answer.{macroblockAnswer, samplesOut, samplesTold, sentenceOf, stateOf, told};
+ghost use Rattle.macroblock.specs.Answer.{macroblockAnswer, roomOf, samplesOut, samplesTold, sentenceOf, stateOf, told};
 ghost use Rattle.macroblock.specs.Alone.{DemandAlone, StoppedAlone};
 ghost use Rattle.macroblock.specs.Outcomes.{macroblockDue, macroblockOutcome};
 ghost use Rattle.assembly.specs.declared.error.Checked.the-variants.{Fine};
-use crate::header::MacroblockHeader;
 use bits::Cursor;
 use block::BlockAssemblyError;
 use block::Checked;
 use block::MacroblockTextureContext;
 use coefficients::BlockPredictors;
+use headers::MacroblockHeader;
 use texture::EventsRead;
 use texture::Spellings;
 
@@ -18,6 +18,29 @@ use texture::Spellings;
 pub enum MacroblockDecoded {
     Decoded(usize, Cursor, Spellings),
     Refused(BlockAssemblyError),
+}
+
+// The state without a header: 11, 12, 13, 14.
+pub(crate) fn check_room(
+    data: &[u8],
+    c: Cursor,
+    ctx: MacroblockTextureContext,
+    predictors: BlockPredictors,
+    w: [[u8; 8]; 8],
+    room: usize,
+) -> Checked
+    ensures { λ r. ⌜ r ≡ roomOf (now («data» .entry)) (c .«bit_pos») ctx predictors w room ⌝ }
+{
+    let checked = block::check(data, c, ctx, predictors, w);
+    match checked {
+        Checked::Bad(e) => Checked::Bad(e),
+        Checked::Fine => {
+            if room < samples::SAMPLES {
+                return Checked::Bad(BlockAssemblyError::TooShort);
+            }
+            Checked::Fine
+        }
+    }
 }
 
 // The state, before any bit: 11, 12, 13, 14, 9, 10.
@@ -32,20 +55,15 @@ fn check_state(
 ) -> Checked
     ensures { λ r. ⌜ r ≡ stateOf (now («data» .entry)) (c .«bit_pos») header ctx predictors w room ⌝ }
 {
-    let checked = block::check(data, c, ctx, predictors, w);
+    let checked = check_room(data, c, ctx, predictors, w, room);
     match checked {
         Checked::Bad(e) => Checked::Bad(e),
-        Checked::Fine => {
-            if room < samples::SAMPLES {
-                return Checked::Bad(BlockAssemblyError::TooShort);
-            }
-            crate::header::check_header(header)
-        }
+        Checked::Fine => headers::check_header(header),
     }
 }
 
 // Once the state is checked: all bits first, then the samples.
-fn decode_checked(
+pub(crate) fn decode_checked(
     data: &[u8],
     c: Cursor,
     header: MacroblockHeader,

@@ -13,7 +13,9 @@ use Rattle.bits.specs.declared.cursor.Cursor.{Cursor}
 use Rattle.fields.specs.Answer.{after}
 use Rattle.events.specs.declared.spelling.Spellings.{Spellings}
 use Rattle.sentences.proofs.CountLaws.{countsIn}
-use Rattle.sentences.specs.Macroblock.{Parts}
+use Rattle.sentences.proofs.Sentences.{macroblock-sentences}
+use Rattle.sentences.specs.Macroblock.{GoodMacroblock, Parts, macroblockBits}
+use Rattle.sentences.specs.MacroblockReader.{readMacroblock}
 use Rattle.fields.specs.Reader.{Res, no, ok}
 use Rattle.fields.specs.Stopped.{Stops}
 use Rattle.assembly.proofs.OutcomeLaws.{answered, read-by}
@@ -24,7 +26,7 @@ use Rattle.assembly.specs.declared.error.Checked.{Checked}
 use Rattle.assembly.specs.declared.error.Checked.the-variants.{Bad, Fine}
 use Rattle.macroblock.proofs.DemandLaws.{Call, demand, read-of, stopped-of}
 use Rattle.macroblock.specs.Answer.{keptBy, sentenceOf}
-use Rattle.macroblock.specs.Header.{patternBy}
+use Rattle.headers.specs.Fields.{patternBy}
 use Rattle.record.proofs.RecordLaws.{read-back}
 use Rattle.record.specs.Record.{knownOf, recordAt, storedAt}
 use Rattle.picture_state.proofs.RingLaws.{earlier-kept, offset-on, slot-in}
@@ -86,7 +88,7 @@ module _ (p : Picture) (x : Input) (store : List ℤ) where
         let m : c .«bit_pos» - x .start ≡ n = let z = ap (λ (y : Cursor). y .«bit_pos») k in omega arith in
         λ i. Decoded (m i) (k i) counts (onward p)
 
-    call : Call (x .bytes) (x .start) dcCoded rev (patternBy (x .header)) (contextHere p x) (valuesHere (x .header) dcCoded (contextHere p x) (x .matrix) (aroundHere p x store)) (Accepted r) (Told p (x .start) r) (x .samples) out
+    call : Call (readMacroblock dcCoded rev (patternBy (x .header))) (x .bytes) (x .start) (contextHere p x) (valuesHere (x .header) dcCoded (contextHere p x) (x .matrix) (aroundHere p x store)) (Accepted r) (Told p (x .start) r) (x .samples) out
     unfolding sentenceOf
     call = record {
       accepts = λ s b k. subst⁻¹ Accepted (e ∙ ap (answerTold p (x .bytes) (x .start)) k) tt;
@@ -126,7 +128,7 @@ module _ (p : Picture) (x : Input) (store : List ℤ) where
 
     promise : Promise p x store r out st
     promise = record {
-      macroblock = demand (x .bytes) (x .start) dcCoded rev (patternBy (x .header)) (contextHere p x) (valuesHere (x .header) dcCoded (contextHere p x) (x .matrix) (aroundHere p x store)) (Accepted r) (Told p (x .start) r) (x .samples) out
+      macroblock = demand (readMacroblock dcCoded rev (patternBy (x .header))) (x .bytes) (x .start) (macroblockBits (patternBy (x .header))) (GoodMacroblock dcCoded rev (patternBy (x .header))) (macroblock-sentences dcCoded rev (patternBy (x .header))) (contextHere p x) (valuesHere (x .header) dcCoded (contextHere p x) (x .matrix) (aroundHere p x store)) (Accepted r) (Told p (x .start) r) (x .samples) out
           (in-data-yes (length (x .bytes)) (x .start) (fine .inside) .1) (depth-fine (contextHere p x) (x .matrix) (fine .context))
           (λ s i l. turn-fine (contextHere p x) (x .matrix) (aroundHere p x store) (rowsOf dcCoded (patternBy (x .header)) s) i l) (fine .roomy) call;
       own = own-is;

@@ -19,7 +19,7 @@ use Rattle.block_reader.specs.Rows.{blocksAnswer, rowsAfter}
 use Rattle.assembly.specs.declared.error.BlockAssemblyError.the-variants.{Texture}
 use Rattle.assembly.specs.declared.error.Checked.the-variants.{Fine}
 use Rattle.macroblock.specs.Answer.{sentenceOf}
-use Rattle.macroblock.specs.Header.{patternBy}
+use Rattle.headers.specs.Fields.{patternBy}
 use Rattle.macroblock.specs.Six.{samplesOfSix}
 use Rattle.neighbours.specs.Neighbours.{aroundBy}
 use Rattle.record.specs.Record.{storedAt}

@@ -15,9 +15,9 @@ use Rattle.assembly.specs.declared.error.BlockAssemblyError.the-variants.{Textu
 use Rattle.assembly.specs.declared.error.Checked.{Checked}
 use Rattle.assembly.specs.declared.error.Checked.the-variants.{Bad, Fine}
 use Rattle.macroblock.specs.Answer.{keptBy, sentenceOf}
-use Rattle.macroblock.specs.Header.{patternBy}
+use Rattle.headers.specs.Fields.{patternBy}
 use Rattle.macroblock.specs.Six.{samplesOfSix}
-use Rattle.macroblock.specs.declared.header.MacroblockHeader.{MacroblockHeader}
+use Rattle.headers.specs.declared.header.MacroblockHeader.{MacroblockHeader}
 use Rattle.neighbours.specs.Neighbours.{Around}
 use Rattle.record.specs.Record.{storedAt}
 use Rattle.picture_state.specs.Picture.{contextOf, onward}

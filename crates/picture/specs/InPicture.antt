@@ -7,12 +7,12 @@ use lib.IntN.{ℤ}
 use Rattle.bits.specs.Cursor.{cursorAt}
 use Rattle.events.specs.Spellings.{spellingsOf}
 use Rattle.fields.specs.Stopped.{stopped}
-use Rattle.sentences.specs.Macroblock.{Parts, eventsIn}
+use Rattle.sentences.specs.Macroblock.{GoodMacroblock, Parts, eventsIn, macroblockBits}
 use Rattle.block_reader.specs.Rows.{rowsOf}
 use Rattle.assembly.specs.Answer.{numberOf}
 use Rattle.assembly.specs.declared.error.Checked.the-variants.{Fine}
 use Rattle.macroblock.specs.Demand.{BeginsAt, BreaksOffAt, Demand3}
-use Rattle.macroblock.specs.Header.{patternBy}
+use Rattle.headers.specs.Fields.{patternBy}
 use Rattle.record.specs.Record.{knownOf, recordAt}
 use Rattle.record.specs.declared.record.Side.{Side}
 use Rattle.picture.specs.Call.{Input, aroundHere, contextHere, stateHere, valuesHere}
@@ -46,7 +46,7 @@ module _ (p : Picture) (x : Input) (before : List ℤ) where
   kept s i = keptAs (contextHere p x) (x .matrix) (aroundHere p x before) (rowsOf (x .context .«use_intra_dc_vlc») (patternBy (x .header)) s) i
 
   pub record Promise (r : PictureDecoded) (samples store : List ℤ) : Type 0 where
-    pub macroblock : Demand3 (x .bytes) (x .start) (x .context .«use_intra_dc_vlc») (x .context .«reversible_vlc») (patternBy (x .header)) (contextHere p x)
+    pub macroblock : Demand3 (macroblockBits (patternBy (x .header))) (GoodMacroblock (x .context .«use_intra_dc_vlc») (x .context .«reversible_vlc») (patternBy (x .header))) (x .bytes) (x .start) (contextHere p x)
         (valuesHere (x .header) (x .context .«use_intra_dc_vlc») (contextHere p x) (x .matrix) (aroundHere p x before)) (Accepted r) (Told p (x .start) r) (x .samples) samples
     -- each later macroblock that looks at this one, 1 to width + 1 further on, then finds in the store what was worked out here
     pub own : (s : List Parts) → Begun s → (on : ℕ) → 1 ≤ on → on ≤ p .width + 1 → (i : ℕ) → i < 6

@@ -7,7 +7,7 @@ ghost use Rattle.picture.specs.Answered.{Answered};
 ghost use Rattle.picture.specs.Call.{given, stateHere};
 use bits::Cursor;
 use block::BlockAssemblyError;
-use macroblock::MacroblockHeader;
+use headers::MacroblockHeader;
 use picture_state::Due;
 use picture_state::MacroblockContext;
 use picture_state::Picture;
@@ -23,7 +23,7 @@ pub enum PictureDecoded {
 }
 
 // Once the state is checked: all bits first, then the samples, then the record.
-fn decode_due(
+pub(crate) fn decode_due(
     p: Picture,
     data: &[u8],
     c: Cursor,

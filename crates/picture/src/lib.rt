@@ -5,9 +5,12 @@
 // of width. A picture and a store that no opening made are answered too. No public function has a `requires`.
 mod call;
 mod reconstruct;
+mod whole;
 
 pub use call::PictureDecoded;
 pub use call::decode_macroblock;
 pub use picture_state::MacroblockContext;
 pub use picture_state::Picture;
 pub use picture_state::PictureOpened;
+pub use whole::PictureWholeDecoded;
+pub use whole::decode_macroblock_with_header;

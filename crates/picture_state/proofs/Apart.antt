@@ -8,7 +8,7 @@ use Rattle.assembly.proofs.Apart.{Told, after-told, answers-apart, failed, fine
 use Rattle.assembly.specs.declared.context.MacroblockTextureContext.{MacroblockTextureContext}
 use Rattle.assembly.specs.declared.error.BlockAssemblyError.the-variants.{Context, OutOfRange}
 use Rattle.assembly.specs.declared.error.Checked.the-variants.{Bad}
-use Rattle.macroblock.specs.declared.header.MacroblockHeader.{MacroblockHeader}
+use Rattle.headers.specs.declared.header.MacroblockHeader.{MacroblockHeader}
 use Rattle.neighbours.specs.Neighbours.{Around}
 use Rattle.picture_state.specs.Outcomes.{openedOutcome, stateOutcome}
 use Rattle.picture_state.specs.Picture.{openOf, pictureOf, sizeFine}

@@ -22,8 +22,8 @@ use Rattle.assembly.specs.declared.error.BlockAssemblyError.{BlockAssemblyError
 use Rattle.assembly.specs.declared.error.BlockAssemblyError.the-variants.{Complete, Context, OutOfRange, Predictor, TooShort}
 use Rattle.assembly.specs.declared.error.Checked.{Checked}
 use Rattle.assembly.specs.declared.error.Checked.the-variants.{Bad, Fine}
-use Rattle.macroblock.specs.Header.{headerCheck}
-use Rattle.macroblock.specs.declared.header.MacroblockHeader.{MacroblockHeader}
+use Rattle.headers.specs.Fields.{headerCheck}
+use Rattle.headers.specs.declared.header.MacroblockHeader.{MacroblockHeader}
 use Rattle.neighbours.proofs.TakenLaws.{place-passes}
 use Rattle.neighbours.specs.Neighbours.{Around, aroundBy, neighboursFine}
 use Rattle.record.specs.Record.{blank}

@@ -10,8 +10,8 @@ use Rattle.ranges.specs.Range.{depthFine}
 use Rattle.bits.specs.Cursor.{inData}
 use Rattle.assembly.specs.Answer.{figureOf, numberOf}
 use Rattle.assembly.specs.Values.{contextFine}
-use Rattle.macroblock.specs.Outcomes.{headerNumbers}
-use Rattle.macroblock.specs.declared.header.MacroblockHeader.{MacroblockHeader}
+use Rattle.headers.specs.Outcomes.{headerNumbers}
+use Rattle.headers.specs.declared.header.MacroblockHeader.{MacroblockHeader}
 use Rattle.neighbours.specs.Neighbours.{neighboursFine}
 use Rattle.record.specs.Record.{blank}
 use Rattle.picture_state.specs.Picture.{contextOf, pictureOf, sizeFine}
@@ -42,9 +42,10 @@ abbrev pub stateOutcome : StateChecked → Outcome Due
 stateOutcome (Ready d) = accepted d
 stateOutcome (Refused e) = refused (numberOf e) (figureOf e)
 
-module _ (p : Picture) (d : List ℕ) (at : ℕ) (h : MacroblockHeader) (m : MacroblockContext) (w : List (List ℕ)) (room : ℕ) (store : List ℤ) where
-  abbrev pub stateNumbers : List (Bool × ℕ)
-  stateNumbers =
+module _ (p : Picture) (d : List ℕ) (at : ℕ) (m : MacroblockContext) (w : List (List ℕ)) (room : ℕ) (store : List ℤ) where
+  -- without a header: 11, 12, 14, 15, 13, then what follows
+  abbrev pub numbersBefore : List (Bool × ℕ) → List (Bool × ℕ)
+  numbersBefore more =
       (sizeFine (p .width) (p .height), 11)
       ∷ (inData (length d) at, 11)
       ∷ (contextFine (contextOf p m) w, 12)
@@ -52,7 +53,14 @@ module _ (p : Picture) (d : List ℕ) (at : ℕ) (h : MacroblockHeader) (m : Mac
       ∷ (leb (storeFor (p .width)) (length store), 14)
       ∷ (ltb (p .accepted) (p .width * p .height), 15)
       ∷ (neighboursFine (p .«bits_per_pixel») (m .«quantiser_scale») (aroundDue p (m .«quantiser_scale») store) (blank (m .«quantiser_scale»)), 13)
-      ∷ headerNumbers h
+      ∷ more
+
+  abbrev pub stateBeforeDue : Outcome Due
+  stateBeforeDue = checked (numbersBefore []) (accepted (dueOf p (contextOf p m)))
+
+module _ (p : Picture) (d : List ℕ) (at : ℕ) (h : MacroblockHeader) (m : MacroblockContext) (w : List (List ℕ)) (room : ℕ) (store : List ℤ) where
+  abbrev pub stateNumbers : List (Bool × ℕ)
+  stateNumbers = numbersBefore p d at m w room store (headerNumbers h)
 
   abbrev pub stateDue : Outcome Due
   stateDue = checked stateNumbers (accepted (dueOf p (contextOf p m)))

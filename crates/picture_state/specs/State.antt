@@ -12,8 +12,8 @@ use Rattle.assembly.specs.declared.error.BlockAssemblyError.{BlockAssemblyError
 use Rattle.assembly.specs.declared.error.BlockAssemblyError.the-variants.{Complete, Context, OutOfRange, Predictor, TooShort}
 use Rattle.assembly.specs.declared.error.Checked.{Checked}
 use Rattle.assembly.specs.declared.error.Checked.the-variants.{Bad, Fine}
-use Rattle.macroblock.specs.Header.{headerTests}
-use Rattle.macroblock.specs.declared.header.MacroblockHeader.{MacroblockHeader}
+use Rattle.headers.specs.Fields.{headerTests}
+use Rattle.headers.specs.declared.header.MacroblockHeader.{MacroblockHeader}
 use Rattle.neighbours.specs.Neighbours.{Around, neighboursFine}
 use Rattle.record.specs.Record.{blank}
 use Rattle.picture_state.specs.Picture.{sizeFine}
@@ -25,7 +25,11 @@ use Rattle.picture_state.specs.declared.state.Due.{Due}
 use Rattle.picture_state.specs.declared.state.StateChecked.{StateChecked}
 use Rattle.picture_state.specs.declared.state.StateChecked.the-variants.{Ready, Refused}
 
--- the stored neighbours that the six blocks take, and the header
+-- the stored neighbours that the six blocks take
+abbrev pub neighbourTests : Picture → MacroblockTextureContext → Around → List (Bool × BlockAssemblyError)
+neighbourTests p x ar = (neighboursFine (p .«bits_per_pixel») (x .«quantiser_scale») ar (blank (x .«quantiser_scale»)), Predictor) ∷ []
+
+-- and the header
 abbrev pub laterTests : Picture → MacroblockHeader → MacroblockTextureContext → Around → List (Bool × BlockAssemblyError)
 laterTests p h x ar = (neighboursFine (p .«bits_per_pixel») (x .«quantiser_scale») ar (blank (x .«quantiser_scale»)), Predictor) ∷ headerTests h
 
@@ -40,6 +44,10 @@ module _ (p : Picture) (d : List ℕ) (at : ℕ) where
       ∷ (leb (storeFor (p .width)) stored, TooShort)
       ∷ (ltb (p .accepted) (p .width * p .height), Complete)
       ∷ []
+
+  -- without a header: 11, 12, 14, 15, 13
+  unfoldable pub stateBefore : MacroblockTextureContext → List (List ℕ) → ℕ → ℕ → Around → Checked
+  stateBefore x w room stored ar = firstBad (firstTests x w room stored ++ neighbourTests p x ar)
 
   unfoldable pub stateBy : MacroblockHeader → MacroblockTextureContext → List (List ℕ) → ℕ → ℕ → Around → Checked
   stateBy h x w room stored ar = firstBad (firstTests x w room stored ++ laterTests p h x ar)

@@ -12,4 +12,5 @@ pub use picture::Picture;
 pub use picture::PictureOpened;
 pub use state::Due;
 pub use state::StateChecked;
+pub use state::check_before_header;
 pub use state::check_state;

@@ -5,8 +5,8 @@ ghost use lib.ListN.{length};
 ghost use Rattle.assembly.specs.Answer.{firstBad};
 ghost use Rattle.picture_state.specs.Picture.{contextOf};
 ghost use Rattle.picture_state.specs.Ring.{aroundDue};
-ghost use Rattle.picture_state.specs.Outcomes.{stateDue, stateOutcome};
-ghost use Rattle.picture_state.specs.State.{checkedBy, firstTests, laterTests, stateBy};
+ghost use Rattle.picture_state.specs.Outcomes.{stateBeforeDue, stateDue, stateOutcome};
+ghost use Rattle.picture_state.specs.State.{checkedBy, firstTests, neighbourTests, stateBefore, stateBy};
 use crate::picture::MacroblockContext;
 use crate::picture::Picture;
 use bits::BitCount;
@@ -14,7 +14,7 @@ use bits::Cursor;
 use block::BlockAssemblyError;
 use block::Checked;
 use block::MacroblockTextureContext;
-use macroblock::MacroblockHeader;
+use headers::MacroblockHeader;
 use neighbours::Place;
 
 // The macroblock that is due: its context, the records around it, and where its own is kept.
@@ -66,35 +66,45 @@ fn check_first(
     }
 }
 
-// 13, 9, 10, of a picture that can be: then the macroblock is due.
-fn check_later(
-    p: Picture,
-    header: MacroblockHeader,
-    ctx: MacroblockTextureContext,
-    store: &[i32],
-) -> StateChecked
+// 13, of a picture that can be: then the macroblock is due.
+fn check_neighbours(p: Picture, ctx: MacroblockTextureContext, store: &[i32]) -> StateChecked
     requires { ⌜ (1 ≤ p .width) × (p .width ≤ 45) × (p .accepted ≤ 1620) ⌝ }
-    ensures { λ r. ⌜ r ≡ checkedBy p ctx (firstBad (laterTests p header ctx (aroundDue p (ctx .«quantiser_scale») (now (store .entry))))) ⌝ }
+    ensures { λ r. ⌜ r ≡ checkedBy p ctx (firstBad (neighbourTests p ctx (aroundDue p (ctx .«quantiser_scale») (now (store .entry))))) ⌝ }
 {
     let place = crate::ring::place_of(p, ctx.quantiser_scale);
     if !needed::stored_fine(store, place) {
         return StateChecked::Refused(BlockAssemblyError::Predictor);
     }
-    let last = macroblock::check_header(header);
-    match last {
+    let own = crate::ring::offset_of(p.width, p.accepted, 0);
+    StateChecked::Ready(Due {
+        context: ctx,
+        place,
+        own,
+    })
+}
+
+// Those that ask no header: 11, 12, 14, 15, 13, for `room` lent samples.
+pub fn check_before_header(
+    p: Picture,
+    data: &[u8],
+    c: Cursor,
+    m: MacroblockContext,
+    w: [[u8; 8]; 8],
+    room: usize,
+    store: &[i32],
+) -> StateChecked
+    ensures { λ r. ⌜ r ≡ checkedBy p (contextOf p m) (stateBefore p (now («data» .entry)) (c .«bit_pos») (contextOf p m) w room (length (now (store .entry))) (aroundDue p (m .«quantiser_scale») (now (store .entry)))) ⌝ }
+    ensures outcome { λ r. ⌜ stateOutcome r ≡ stateBeforeDue p (now («data» .entry)) (c .«bit_pos») m w room (now (store .entry)) ⌝ }
+{
+    let ctx = crate::picture::texture_context(p, m);
+    let first = check_first(p, data, c, ctx, w, room, store.len());
+    match first {
         Checked::Bad(e) => StateChecked::Refused(e),
-        Checked::Fine => {
-            let own = crate::ring::offset_of(p.width, p.accepted, 0);
-            StateChecked::Ready(Due {
-                context: ctx,
-                place,
-                own,
-            })
-        }
+        Checked::Fine => check_neighbours(p, ctx, store),
     }
 }
 
-// All of them, for `room` lent samples.
+// All of them: the header's 9 and 10 come last.
 pub fn check_state(
     p: Picture,
     data: &[u8],
@@ -108,10 +118,15 @@ pub fn check_state(
     ensures { λ r. ⌜ r ≡ checkedBy p (contextOf p m) (stateBy p (now («data» .entry)) (c .«bit_pos») header (contextOf p m) w room (length (now (store .entry))) (aroundDue p (m .«quantiser_scale») (now (store .entry)))) ⌝ }
     ensures outcome { λ r. ⌜ stateOutcome r ≡ stateDue p (now («data» .entry)) (c .«bit_pos») header m w room (now (store .entry)) ⌝ }
 {
-    let ctx = crate::picture::texture_context(p, m);
-    let first = check_first(p, data, c, ctx, w, room, store.len());
-    match first {
-        Checked::Bad(e) => StateChecked::Refused(e),
-        Checked::Fine => check_later(p, header, ctx, store),
+    let before = check_before_header(p, data, c, m, w, room, store);
+    match before {
+        StateChecked::Refused(e) => StateChecked::Refused(e),
+        StateChecked::Ready(due) => {
+            let last = headers::check_header(header);
+            match last {
+                Checked::Bad(e) => StateChecked::Refused(e),
+                Checked::Fine => StateChecked::Ready(due),
+            }
+        }
     }
 }

@@ -10,9 +10,9 @@ use Rattle.assembly.specs.Matrix.{defaultIntra}
 use Rattle.forms.specs.Forms.{Form, formOf, malformed, mb, picture}
 use Rattle.forms.specs.declared.kind.Kind.{Kind}
 use Rattle.forms.specs.declared.kind.Kind.the-variants.{Inter, Inter4V, InterQ, Intra, IntraQ, Missing, Skipped}
-use Rattle.macroblock.specs.declared.header.DerivedMbType.{DerivedMbType}
-use Rattle.macroblock.specs.declared.header.DerivedMbType.the-variants.{Inter as TypeInter, Inter4V as TypeInter4V, InterQ as TypeInterQ, Intra as TypeIntra, IntraQ as TypeIntraQ, Missing as NoType}
-use Rattle.macroblock.specs.declared.header.MacroblockHeader.{MacroblockHeader}
+use Rattle.headers.specs.declared.header.DerivedMbType.{DerivedMbType}
+use Rattle.headers.specs.declared.header.DerivedMbType.the-variants.{Inter as TypeInter, Inter4V as TypeInter4V, InterQ as TypeInterQ, Intra as TypeIntra, IntraQ as TypeIntraQ, Missing as NoType}
+use Rattle.headers.specs.declared.header.MacroblockHeader.{MacroblockHeader}
 use Rattle.picture.specs.Call.{Input, answerOut, given, samplesOut, storeOut}
 use Rattle.picture_state.specs.Picture.{openOf, pictureOf}
 use Rattle.picture.specs.declared.call.PictureDecoded.{PictureDecoded}

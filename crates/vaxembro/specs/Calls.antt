@@ -11,7 +11,7 @@ use Rattle.prediction.specs.declared.predictor.BlockPredictors.{BlockPredictors
 use Rattle.macroblock.specs.Answer.{macroblockAnswer, samplesOut as samplesAlone}
 use Rattle.macroblock.specs.declared.decode.MacroblockDecoded.{MacroblockDecoded}
 use Rattle.macroblock.specs.declared.decode.MacroblockDecoded.the-variants.{Refused as RefusedAlone}
-use Rattle.macroblock.specs.declared.header.MacroblockHeader.{MacroblockHeader}
+use Rattle.headers.specs.declared.header.MacroblockHeader.{MacroblockHeader}
 use Rattle.picture.specs.Call.{Input, answerOut, given, samplesOut, storeOut}
 use Rattle.picture_state.specs.Outcomes.{openedOutcome}
 use Rattle.picture_state.specs.Picture.{openOf}

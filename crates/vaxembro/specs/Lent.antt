@@ -10,9 +10,9 @@ use Rattle.rounding.specs.declared.HalfIntegerRounding.{HalfIntegerRounding}
 use Rattle.rounding.specs.declared.HalfIntegerRounding.the-variants.{AwayFromZero, ToEven}
 use Rattle.prediction.specs.declared.predictor.BlockPredictors.{BlockPredictors}
 use Rattle.assembly.specs.declared.context.MacroblockTextureContext.{MacroblockTextureContext}
-use Rattle.macroblock.specs.declared.header.DerivedMbType.{DerivedMbType}
-use Rattle.macroblock.specs.declared.header.DerivedMbType.the-variants.{Inter, Inter4V, InterQ, Intra, IntraQ, Missing}
-use Rattle.macroblock.specs.declared.header.MacroblockHeader.{MacroblockHeader}
+use Rattle.headers.specs.declared.header.DerivedMbType.{DerivedMbType}
+use Rattle.headers.specs.declared.header.DerivedMbType.the-variants.{Inter, Inter4V, InterQ, Intra, IntraQ, Missing}
+use Rattle.headers.specs.declared.header.MacroblockHeader.{MacroblockHeader}
 use Rattle.record.specs.Record.{quantiserOf, sevenFrom}
 use Rattle.picture_state.specs.declared.picture.MacroblockContext.{MacroblockContext}
 use Rattle.picture_state.specs.declared.picture.Picture.{Picture}

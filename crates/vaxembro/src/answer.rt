@@ -46,7 +46,7 @@ pub(crate) fn refused(e: BlockAssemblyError, at: usize) -> Told
     }
 }
 
-fn accepted(bits: usize, position: usize, spellings: Spellings) -> Told
+pub(crate) fn accepted(bits: usize, position: usize, spellings: Spellings) -> Told
     ensures { λ r. ⌜ r ≡ acceptedAs bits position spellings ⌝ }
 {
     Told {

@@ -3,8 +3,10 @@
 // A slice is a pointer and a length there. Each function ends, allocates nothing and asks nothing of its caller.
 mod alone;
 mod answer;
+mod fields;
 mod lent;
 mod pictures;
+mod whole;
 
 pub use alone::vaxembro_decode_intra_macroblock;
 pub use answer::vaxembro_bits;
@@ -14,3 +16,6 @@ pub use answer::vaxembro_position;
 pub use answer::vaxembro_spelling;
 pub use pictures::vaxembro_decode_macroblock;
 pub use pictures::vaxembro_open;
+pub use whole::vaxembro_decode_intra_macroblock_with_header;
+pub use whole::vaxembro_decode_macroblock_with_header;
+pub use whole::vaxembro_parse_macroblock_header;

@@ -1,15 +1,13 @@
--- `macroblock::decode::check_state` meets its contract: the tests of a block, then 14, 9 and 10. Assumes nothing.
-use mathlib.Core.Bool.{false, true}
+-- `macroblock::decode::check_state` meets its contract: the tests without a header, then 9 and 10. Assumes nothing.
 use mathlib.Core.Path.{sym, _∙_}
 use borrow.Author.Needs.{needs}
-use borrow.Author.Tests.{le-leb, lt-leb}
 use denote.Ref.{now}
 use Rattle.macroblock.proofs.StateLaws.{state-after, state-bad}
 use Rattle.macroblock.proofs.decode.check_state.Statement.{statement}
 use Rattle.macroblock.proofs.decode.check_state.Tie as tie
 
-check-requires : tie.Need-check-requires
-check-requires c κs = search needs
+check-room-requires : tie.Need-check-room-requires
+check-room-requires c κs = search needs
 
 enum-known-checked : tie.Need-enum-known-checked
 enum-known-checked c = search needs
@@ -17,33 +15,20 @@ enum-known-checked c = search needs
 enum-told : tie.Need-enum-told
 enum-told c = search needs
 
-returns : tie.Need-returns
-returns c =
-    let a = c .before .before .before .before .before .args in
-    sym (state-after (now (a .«data»)) (a .c .«bit_pos») (a .header) (a .ctx) (a .predictors) (a .w) (a .room) false (sym (c .before .before .before .check .ensures .0) ∙ c .before .enum-told .given .1) (lt-leb 384 (a .room) (c .if1 .taken)))
-
 check-header-requires : tie.Need-check-header-requires
 check-header-requires c κs = search needs
 
+returns : tie.Need-returns
+returns c =
+    let a = c .before .before .before .before .before .args in
+    sym (state-bad (now (a .«data»)) (a .c .«bit_pos») (a .header) (a .ctx) (a .predictors) (a .w) (a .room) (sym (c .before .before .before .check-room .ensures) ∙ c .before .checked .given .1))
+
 returns-2 : tie.Need-returns-2
 returns-2 c =
-    let a = c .before .before .before .before .before .args in
-    sym (state-bad (now (a .«data»)) (a .c .«bit_pos») (a .header) (a .ctx) (a .predictors) (a .w) (a .room) (sym (c .before .before .before .check .ensures .0) ∙ c .before .checked .given .1))
-
-returns-3 : tie.Need-returns-3
-returns-3 c =
-    let a = c .before .before .before .before .before .before .args in
+    let k = c .before in
+    let a = k .before .before .before .before .args in
     c .check-header .ensures .0
-    ∙ sym (state-after (now (a .«data»)) (a .c .«bit_pos») (a .header) (a .ctx) (a .predictors) (a .w) (a .room) true (sym (c .before .before .before .before .check .ensures .0) ∙ c .before .before .enum-told .given .1) (le-leb 384 (a .room) (c .before .if1 .left)))
+    ∙ sym (state-after (now (a .«data»)) (a .c .«bit_pos») (a .header) (a .ctx) (a .predictors) (a .w) (a .room) (sym (k .before .before .check-room .ensures) ∙ k .enum-told .given .1))
 
 pub check-state-spec : {M : Type 1} → statement M
-check-state-spec =
-    tie.close
-    (tie.spec
-    check-requires
-    enum-known-checked
-    enum-told
-    returns
-    check-header-requires
-    returns-2
-    returns-3)
+check-state-spec = tie.close (tie.spec check-room-requires enum-known-checked enum-told check-header-requires returns returns-2)

@@ -17,7 +17,7 @@ use Rattle.block.proofs.RowLaws.{SixRead, six-read, six-refused}
 use Rattle.block_reader.specs.Rows.{blocksAnswer, rowsAfter}
 use Rattle.macroblock.proofs.StateLaws.{StateFine, state-fine}
 use Rattle.macroblock.specs.Answer.{samplesTold, sentenceOf, told}
-use Rattle.macroblock.specs.Header.{patternBy}
+use Rattle.headers.specs.Fields.{patternBy}
 use Rattle.macroblock.specs.Six.{samplesOfSix, valuesOfSix}
 use Rattle.macroblock.specs.declared.decode.MacroblockDecoded.the-variants.{Decoded}
 use Rattle.macroblock.proofs.decode.decode_checked.Statement.{statement}

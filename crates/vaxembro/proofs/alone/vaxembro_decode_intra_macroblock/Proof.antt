@@ -10,7 +10,7 @@ use Rattle.prediction.specs.declared.predictor.BlockPredictors.{BlockPredictors
 use Rattle.assembly.specs.declared.context.MacroblockTextureContext.{MacroblockTextureContext}
 use Rattle.macroblock.specs.Answer.{macroblockAnswer, samplesOut}
 use Rattle.macroblock.specs.declared.decode.MacroblockDecoded.{MacroblockDecoded}
-use Rattle.macroblock.specs.declared.header.MacroblockHeader.{MacroblockHeader}
+use Rattle.headers.specs.declared.header.MacroblockHeader.{MacroblockHeader}
 use Rattle.vaxembro.specs.Answer.{answerAfter, toldAlone}
 use Rattle.vaxembro.specs.Calls.{leftAlone, leftOver}
 use Rattle.vaxembro.specs.declared.answer.Told.{Told}

@@ -5,7 +5,7 @@ use Prim.Native.Nat.{ℕ}
 use borrow.Author.Needs.{needs}
 use denote.Ref.{now}
 use lib.IntN.{ℤ}
-use Rattle.macroblock.specs.declared.header.MacroblockHeader.{MacroblockHeader}
+use Rattle.headers.specs.declared.header.MacroblockHeader.{MacroblockHeader}
 use Rattle.picture.specs.Call.{Input, answerOut, given, samplesOut, storeOut}
 use Rattle.picture.specs.declared.call.PictureDecoded.{PictureDecoded}
 use Rattle.picture_state.specs.declared.picture.MacroblockContext.{MacroblockContext}
