@@ -192,6 +192,30 @@ taken-fine depth q ar new own e s i h =
     (with-another FineB depth q ar new own (bSource i) (bBlock i) (t .b-fine) (as-b (known-fine own s (bBlock i) (b-below i))))
     (with-another FineC depth q ar new own (cSource i) (cBlock i) (t .c-fine) (as-c (known-fine own s (cBlock i) (c-below i))))
 
+-- nor does it matter which quantiser, of those that are fine, a missing neighbour has
+side-at : (P : Side → Type 0) (depth q r : ℕ) (o : Option (List ℤ)) (b : ℕ) → P (missingOf depth r) → P (sided depth q o b) → P (sided depth r o b)
+side-at P depth q r none b x y = x
+side-at P depth q r (some l) b x y = y
+
+with-quantiser : (P : Side → Type 0) (depth q r : ℕ) (ar : Around) (old new : List ℤ) (s : Source) (b : ℕ) → P (missingOf depth r) → P (knownOf new b) → P (sideOf depth q ar old s b) → P (sideOf depth r ar new s b)
+with-quantiser P depth q r ar old new Own b x y z = y
+with-quantiser P depth q r ar old new Left b x y z = side-at P depth q r (ar .left) b x z
+with-quantiser P depth q r ar old new AboveLeft b x y z = side-at P depth q r (ar .aboveLeft) b x z
+with-quantiser P depth q r ar old new Above b x y z = side-at P depth q r (ar .above) b x z
+
+pub any-quantiser : (depth q r : ℕ) (ar : Around) → quantiserFine r ≡ true → neighboursFine depth q ar (blank q) ≡ true → neighboursFine depth r ar (blank r) ≡ true
+unfolding neighboursFine predictors
+any-quantiser depth q r ar f e =
+    let m = missing-fine depth r f in
+    let k : (b : ℕ) → b < 6 → SideFine (knownOf (blank r) b) = known-fine (blank r) (blank-sound r f) in
+    all-of-six (λ (i : ℕ). predictorsFine (predictors depth r ar (blank r) i))
+    (λ (i : ℕ) (h : i < 6).
+    let t = each-fine depth q ar (blank q) e i h in
+    join
+    (with-quantiser FineA depth q r ar (blank q) (blank r) (aSource i) (aBlock i) (as-a m) (as-a (k (aBlock i) (a-below i))) (t .a-fine))
+    (with-quantiser FineB depth q r ar (blank q) (blank r) (bSource i) (bBlock i) (as-b m) (as-b (k (bBlock i) (b-below i))) (t .b-fine))
+    (with-quantiser FineC depth q r ar (blank q) (blank r) (cSource i) (cBlock i) (as-c m) (as-c (k (cBlock i) (c-below i))) (t .c-fine)))
+
 -- the records around, where they are not missing, are sound
 pub record AroundSound (ar : Around) : Type 0 where
   pub left : (r : List ℤ) → ar .left ≡ some r → Sound r

@@ -5,3 +5,5 @@ pub mod Call
 pub mod InPicture
 pub mod Outcomes
 pub mod Answered
+pub mod Whole
+pub mod WholeAnswered

@@ -8,7 +8,7 @@ use native.Mathlib.Omega.{arith}
 use lib.Dec.{leb, ltb}
 use lib.IntN.{ℤ}
 use lib.ListN.{length}
-use borrow.Author.Tests.{leb-true, ltb-true}
+use borrow.Author.Tests.{le-leb, leb-true, lt-ltb, ltb-true}
 use Rattle.bits.specs.Cursor.{inData}
 use Rattle.numbers.proofs.OutcomeLaws.{two-tests}
 use Rattle.numbers.proofs.Tests.{both-true}
@@ -22,7 +22,7 @@ use Rattle.assembly.specs.declared.error.BlockAssemblyError.{BlockAssemblyError
 use Rattle.assembly.specs.declared.error.BlockAssemblyError.the-variants.{Complete, Context, OutOfRange, Predictor, TooShort}
 use Rattle.assembly.specs.declared.error.Checked.{Checked}
 use Rattle.assembly.specs.declared.error.Checked.the-variants.{Bad, Fine}
-use Rattle.headers.specs.Fields.{headerCheck}
+use Rattle.headers.specs.Fields.{headerCheck, headerTests}
 use Rattle.headers.specs.declared.header.MacroblockHeader.{MacroblockHeader}
 use Rattle.neighbours.proofs.TakenLaws.{place-passes}
 use Rattle.neighbours.specs.Neighbours.{Around, aroundBy, neighboursFine}
@@ -30,12 +30,12 @@ use Rattle.record.specs.Record.{blank}
 use Rattle.neighbours.specs.Taken.{placeLies}
 use Rattle.places.specs.declared.place.Place.{Place}
 use Rattle.picture_state.proofs.RingLaws.{slot-in}
-use Rattle.picture_state.specs.Outcomes.{openDue, openedOutcome, stateDue, stateOutcome}
+use Rattle.picture_state.specs.Outcomes.{openDue, openedOutcome, stateBeforeDue, stateDue, stateOutcome}
 use Rattle.picture_state.specs.Picture.{contextOf, openOf, pictureOf, sizeFine}
 use Rattle.picture_state.specs.Ring.{aroundDue, offset, placeOf}
 use Rattle.samples.specs.Samples.{macroblockSamples}
 use Rattle.picture_state.specs.Sizes.{storeFor}
-use Rattle.picture_state.specs.State.{checkedBy, dueOf, firstTests, laterTests, stateBy}
+use Rattle.picture_state.specs.State.{checkedBy, dueOf, firstTests, laterTests, neighbourTests, stateBefore, stateBy}
 use Rattle.picture_state.specs.declared.picture.MacroblockContext.{MacroblockContext}
 use Rattle.picture_state.specs.declared.picture.Picture.{Picture}
 use Rattle.picture_state.specs.declared.picture.PictureOpened.the-variants.{Opened, Refused as Unopened}
@@ -96,16 +96,45 @@ module _ (p : Picture) (d : List ℕ) (at : ℕ) (x : MacroblockTextureContext) 
         due = ltb-true (p .accepted) (p .width * p .height) (t .1 .1 .1 .1 .1 .0);
       }
 
-  -- ---- then 13, 9, 10
+  -- ---- then 13
+
+  module _ (ar : Around) where
+    pub before-bad : {e : BlockAssemblyError} → firstBad (firstTests p d at x w room stored) ≡ Bad e → stateBefore p d at x w room stored ar ≡ Bad e
+    unfolding stateBefore
+    before-bad q = bad-first (firstTests p d at x w room stored) (neighbourTests p x ar) q
+
+    pub before-after : firstBad (firstTests p d at x w room stored) ≡ Fine → stateBefore p d at x w room stored ar ≡ firstBad (neighbourTests p x ar)
+    unfolding stateBefore
+    before-after q = fine-first (firstTests p d at x w room stored) (neighbourTests p x ar) q
+
+    pub before-first : stateBefore p d at x w room stored ar ≡ Fine → FirstFine
+    unfolding stateBefore
+    before-first q = first-fine (first-of (firstTests p d at x w room stored) (neighbourTests p x ar) q)
+
+    pub before-neighbours : stateBefore p d at x w room stored ar ≡ Fine → neighboursFine (p .«bits_per_pixel») (x .«quantiser_scale») ar (blank (x .«quantiser_scale»)) ≡ true
+    unfolding stateBefore
+    before-neighbours q = all-pass (firstTests p d at x w room stored ++ neighbourTests p x ar) q .1 .1 .1 .1 .1 .1 .0
+
+    -- all of these pass
+    pub before-fine : sizeFine (p .width) (p .height) ≡ true → FirstFine → neighboursFine (p .«bits_per_pixel») (x .«quantiser_scale») ar (blank (x .«quantiser_scale»)) ≡ true → stateBefore p d at x w room stored ar ≡ Fine
+    before-fine s f n =
+        before-after (first-by true true true true true true s (f .inside) (f .context) (le-leb macroblockSamples room (f .roomy)) (le-leb (storeFor (p .width)) stored (f .long)) (lt-ltb (p .accepted) (p .width * p .height) (f .due)))
+        ∙ ap (λ (t : Bool). cond t Fine (Bad Predictor)) n
+
+    pub before-size : stateBefore p d at x w room stored ar ≡ Fine → sizeFine (p .width) (p .height) ≡ true
+    unfolding stateBefore
+    before-size q = all-pass (firstTests p d at x w room stored ++ neighbourTests p x ar) q .0
+
+  -- ---- then 9, 10
 
   module _ (h : MacroblockHeader) (ar : Around) where
-    pub state-bad : {e : BlockAssemblyError} → firstBad (firstTests p d at x w room stored) ≡ Bad e → stateBy p d at h x w room stored ar ≡ Bad e
-    unfolding stateBy
-    state-bad q = bad-first (firstTests p d at x w room stored) (laterTests p h x ar) q
+    pub state-bad : {e : BlockAssemblyError} → stateBefore p d at x w room stored ar ≡ Bad e → stateBy p d at h x w room stored ar ≡ Bad e
+    unfolding stateBefore stateBy
+    state-bad q = bad-first (firstTests p d at x w room stored ++ neighbourTests p x ar) (headerTests h) q
 
-    pub state-after : firstBad (firstTests p d at x w room stored) ≡ Fine → stateBy p d at h x w room stored ar ≡ firstBad (laterTests p h x ar)
-    unfolding stateBy
-    state-after q = fine-first (firstTests p d at x w room stored) (laterTests p h x ar) q
+    pub state-after : stateBefore p d at x w room stored ar ≡ Fine → stateBy p d at h x w room stored ar ≡ headerCheck h
+    unfolding stateBefore stateBy
+    state-after q = fine-first (firstTests p d at x w room stored ++ neighbourTests p x ar) (headerTests h) q
 
     pub state-first : stateBy p d at h x w room stored ar ≡ Fine → FirstFine
     unfolding stateBy
@@ -115,13 +144,13 @@ module _ (p : Picture) (d : List ℕ) (at : ℕ) (x : MacroblockTextureContext) 
     unfolding stateBy
     state-neighbours q = all-pass (firstTests p d at x w room stored ++ laterTests p h x ar) q .1 .1 .1 .1 .1 .1 .0
 
--- 13 by the place that the code makes, then 9 and 10
-pub later-by : (p : Picture) (h : MacroblockHeader) (x : MacroblockTextureContext) (store : List ℤ) (place : Place) (r : Bool) → place ≡ placeOf p (x .«quantiser_scale»)
+-- 13 by the place that the code makes
+pub neighbours-by : (p : Picture) (x : MacroblockTextureContext) (store : List ℤ) (place : Place) (r : Bool) → place ≡ placeOf p (x .«quantiser_scale»)
     → neighboursFine (place .«bits_per_pixel») (place .«quantiser_scale») (aroundBy place store) (blank (place .«quantiser_scale»)) ≡ r
-    → firstBad (laterTests p h x (aroundDue p (x .«quantiser_scale») store)) ≡ cond r (headerCheck h) (Bad Predictor)
+    → firstBad (neighbourTests p x (aroundDue p (x .«quantiser_scale») store)) ≡ cond r Fine (Bad Predictor)
 unfolding aroundDue
-later-by p h x store place r e k =
-    ap (λ (b : Bool). cond b (headerCheck h) (Bad Predictor))
+neighbours-by p x store place r e k =
+    ap (λ (b : Bool). cond b Fine (Bad Predictor))
     (sym (ap (λ (y : Place). neighboursFine (y .«bits_per_pixel») (y .«quantiser_scale») (aroundBy y store) (blank (y .«quantiser_scale»))) e) ∙ k)
 
 -- what is due, by what the code makes
@@ -142,7 +171,19 @@ pub checked-refused : (p : Picture) (x : MacroblockTextureContext) (k : Checked)
 checked-refused p x Fine e = absurd (let z : _≡_ {A = ℕ} 0 1 = cc in omega arith)
 checked-refused p x (Bad a) {b} e = let z : a ≡ b = cc in ap Bad z
 
+-- the header's checks after those that passed
+pub checked-after : (p : Picture) (x : MacroblockTextureContext) (k : Checked) (due : Due) → due ≡ dueOf p x → k ≡ Fine → Ready due ≡ checkedBy p x k
+checked-after p x k due e f = ap Ready e ∙ sym (ap (checkedBy p x) f)
+
 -- the checks by number
+pub before-due : (p : Picture) (d : List ℕ) (at : ℕ) (m : MacroblockContext) (w : List (List ℕ)) (room : ℕ) (store : List ℤ)
+    → stateOutcome (checkedBy p (contextOf p m) (stateBefore p d at (contextOf p m) w room (length store) (aroundDue p (m .«quantiser_scale») store))) ≡ stateBeforeDue p d at m w room store
+unfolding stateBefore
+before-due p d at m w room store =
+    answered stateOutcome (checkedBy p (contextOf p m)) (λ e. refl)
+    (firstTests p d at (contextOf p m) w room (length store) ++ neighbourTests p (contextOf p m) (aroundDue p (m .«quantiser_scale») store))
+    (refl, (refl, (refl, (refl, (refl, (refl, (refl, tt)))))))
+
 pub state-due : (p : Picture) (d : List ℕ) (at : ℕ) (h : MacroblockHeader) (m : MacroblockContext) (w : List (List ℕ)) (room : ℕ) (store : List ℤ)
     → stateOutcome (checkedBy p (contextOf p m) (stateBy p d at h (contextOf p m) w room (length store) (aroundDue p (m .«quantiser_scale») store))) ≡ stateDue p d at h m w room store
 unfolding stateBy

@@ -118,8 +118,8 @@ pub fn check_state(
     ensures { λ r. ⌜ r ≡ checkedBy p (contextOf p m) (stateBy p (now («data» .entry)) (c .«bit_pos») header (contextOf p m) w room (length (now (store .entry))) (aroundDue p (m .«quantiser_scale») (now (store .entry)))) ⌝ }
     ensures outcome { λ r. ⌜ stateOutcome r ≡ stateDue p (now («data» .entry)) (c .«bit_pos») header m w room (now (store .entry)) ⌝ }
 {
-    let before = check_before_header(p, data, c, m, w, room, store);
-    match before {
+    let asked = check_before_header(p, data, c, m, w, room, store);
+    match asked {
         StateChecked::Refused(e) => StateChecked::Refused(e),
         StateChecked::Ready(due) => {
             let last = headers::check_header(header);
