@@ -2,3 +2,4 @@
 pub mod Lent
 pub mod Answer
 pub mod Calls
+pub mod Fields

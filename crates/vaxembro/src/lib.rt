@@ -3,7 +3,7 @@
 // A slice is a pointer and a length there. Each function ends, allocates nothing and asks nothing of its caller.
 mod alone;
 mod answer;
-mod fields;
+mod header;
 mod lent;
 mod pictures;
 mod whole;

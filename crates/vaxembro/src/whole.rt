@@ -18,14 +18,14 @@ pub extern "C" fn vaxembro_parse_macroblock_header(
 ) -> u32
     ensures { λ r. ⌜ leftHeader r (now (header .exit)) (now (answer .exit)) ≡ leftOfHeader (lentHeader (now («data» .entry)) at «quantiser_scale» (now (header .entry)) (now (answer .entry))) ⌝ }
 {
-    if !crate::answer::long_enough(crate::fields::HEADER, header.len(), 64, answer.len()) {
+    if !crate::answer::long_enough(crate::header::HEADER, header.len(), 64, answer.len()) {
         let short = crate::answer::refused(BlockAssemblyError::TooShort, at);
         return crate::answer::tell(answer, short);
     }
     let c = Cursor { bit_pos: at };
     let r = headers::parse_macroblock_header(data, c, quantiser_scale);
-    crate::fields::put_read(header, r);
-    let t = crate::fields::told_of_header(r, at);
+    crate::header::put_read(header, r);
+    let t = crate::header::told_of_header(r, at);
     crate::answer::tell(answer, t)
 }
 
@@ -49,7 +49,7 @@ pub extern "C" fn vaxembro_decode_intra_macroblock_with_header(
         let short = crate::answer::refused(BlockAssemblyError::TooShort, at);
         return crate::answer::tell(answer, short);
     }
-    if header.len() < crate::fields::HEADER {
+    if header.len() < crate::header::HEADER {
         let short = crate::answer::refused(BlockAssemblyError::TooShort, at);
         return crate::answer::tell(answer, short);
     }
@@ -60,8 +60,8 @@ pub extern "C" fn vaxembro_decode_intra_macroblock_with_header(
     let w = crate::lent::matrix_of(matrix);
     let c = Cursor { bit_pos: at };
     let d = macroblock::decode_intra_macroblock_with_header(data, c, dc_coded, rev, ctx, near, w, samples);
-    crate::fields::put_whole(header, d);
-    let t = crate::fields::told_whole(d, at);
+    crate::header::put_whole(header, d);
+    let t = crate::header::told_whole(d, at);
     crate::answer::tell(answer, t)
 }
 
@@ -99,7 +99,7 @@ pub extern "C" fn vaxembro_decode_macroblock_with_header(
         let short = crate::answer::refused(BlockAssemblyError::TooShort, at);
         return crate::answer::tell(answer, short);
     }
-    if header.len() < crate::fields::HEADER {
+    if header.len() < crate::header::HEADER {
         let short = crate::answer::refused(BlockAssemblyError::TooShort, at);
         return crate::answer::tell(answer, short);
     }
@@ -109,7 +109,7 @@ pub extern "C" fn vaxembro_decode_macroblock_with_header(
     let c = Cursor { bit_pos: at };
     let d = picture::decode_macroblock_with_header(p, data, c, m, w, samples, store);
     onward(state, d);
-    crate::fields::put_whole_in(header, d);
-    let t = crate::fields::told_whole_in(d, at);
+    crate::header::put_whole_in(header, d);
+    let t = crate::header::told_whole_in(d, at);
     crate::answer::tell(answer, t)
 }

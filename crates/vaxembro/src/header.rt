@@ -55,12 +55,18 @@ fn put_fields(header: &mut [i32], f: HeaderFields)
 {
     let h = f.header;
     let kind = h.mb_type;
-    header[0] = type_number(kind);
-    header[1] = h.cbpc as i32;
-    header[2] = bit_of(h.ac_pred_flag);
-    header[3] = h.cbpy as i32;
-    header[4] = f.dquant_delta;
-    header[5] = scale_of(f.quantiser_scale);
+    let mb_type = type_number(kind);
+    let cbpc = h.cbpc as i32;
+    let ac_pred_flag = bit_of(h.ac_pred_flag);
+    let cbpy = h.cbpy as i32;
+    let dquant_delta = f.dquant_delta;
+    let quantiser_scale = scale_of(f.quantiser_scale);
+    header[0] = mb_type;
+    header[1] = cbpc;
+    header[2] = ac_pred_flag;
+    header[3] = cbpy;
+    header[4] = dquant_delta;
+    header[5] = quantiser_scale;
 }
 
 // The fields of a header that was read; a refusal leaves the lent numbers.
