@@ -1,7 +1,7 @@
 -- A call on the picture and the store that an ideal picture stands for is told what the ideal is told, and leaves what the ideal then stands for. Assumes nothing.
 use mathlib.Core.Bool.{Bool, cond, false, true}
 use mathlib.Core.List.{List, [], _++_, _∷_}
-use mathlib.Core.Path.{_≡_, ap, ap₂, refl, subst, sym, _∙_}
+use mathlib.Core.Path.{_≡_, ap, ap₂, refl, subst, subst₂, sym, _∙_}
 use Prim.Native.Nat.{ℕ, _*_, _-_, _≤_}
 use native.Mathlib.Omega.{arith}
 use lib.Dec.{leb, ltb}
@@ -20,7 +20,9 @@ use Rattle.assembly.specs.declared.error.BlockAssemblyError.the-variants.{Compl
 use Rattle.assembly.specs.declared.error.Checked.{Checked}
 use Rattle.assembly.specs.declared.error.Checked.the-variants.{Bad, Fine}
 use Rattle.macroblock.specs.Answer.{keptBy}
-use Rattle.headers.specs.Fields.{headerCheck}
+use Rattle.headers.specs.Fields.{fieldsOf, headerCheck, recordBy}
+use Rattle.headers.specs.Header.{Header, headerBits}
+use Rattle.headers.specs.declared.parse.HeaderFields.{HeaderFields}
 use Rattle.macroblock.specs.Six.{samplesOfSix}
 use Rattle.record.proofs.RecordLaws.{stored-length}
 use Rattle.neighbours.proofs.SoundLaws.{around-fine, blank-sound}
@@ -28,19 +30,24 @@ use Rattle.neighbours.specs.Neighbours.{Around, neighboursFine}
 use Rattle.record.specs.Record.{blank, storedAt}
 use Rattle.picture_state.proofs.RingLaws.{offset-is, slot}
 use Rattle.picture_state.proofs.StateLaws.{sized}
-use Rattle.picture.specs.Call.{Input, answerBy, answerOut, answerTold, answerWith, aroundHere, contextHere, recordHere, samplesOut, samplesTold, samplesWith, sentenceHere, stateHere, storeOut, storeTold, storeWith}
-use Rattle.picture_state.specs.Picture.{onward, pictureOf, sizeFine}
-use Rattle.picture_state.specs.Ring.{offset}
-use Rattle.picture_state.specs.State.{stateBy}
+use Rattle.picture.specs.Call.{Input, answerBy, answerOut, answerTold, answerWith, aroundHere, contextHere, given, recordHere, samplesOut, samplesTold, samplesWith, sentenceHere, stateHere, storeOut, storeTold, storeWith}
+use Rattle.picture.proofs.WholeLaws.{whole-not, with-header-is}
+use Rattle.picture.specs.Whole as W
+use Rattle.picture.specs.Whole.{Bare, stateBare}
+use Rattle.picture_state.specs.Picture.{contextOf, onward, pictureOf, sizeFine}
+use Rattle.picture_state.specs.Ring.{aroundDue, offset}
+use Rattle.picture_state.specs.State.{stateBefore, stateBy}
 use Rattle.picture.specs.declared.call.PictureDecoded.{PictureDecoded}
+use Rattle.picture.specs.declared.call.PictureDecoded.the-variants.{Decoded, Refused}
+use Rattle.picture.specs.declared.whole.PictureWholeDecoded.{PictureWholeDecoded}
 use Rattle.picture_state.specs.declared.picture.Picture.{Picture}
 use Rattle.history.proofs.Blocks.{Agrees, Gives, agrees-sound, record-gives, values-same}
 use Rattle.history.proofs.Longer.{longer}
 use Rattle.history.proofs.Places.{Kept, around-agrees, kept-more}
-use Rattle.history.specs.History.{State, next, pictureAfter, told}
-use Rattle.history.specs.Ideal.{Ideal, addedTo, aroundIn, ideal, idealState, idealTests, onwardFrom, pictureNow, rowsHere, samplesIdeal}
+use Rattle.history.specs.History.{State, next, pictureAfter, pictureAfterWhole, told}
+use Rattle.history.specs.Ideal.{Ideal, addedTo, aroundIn, bareState, headerHere, ideal, idealState, idealTests, onwardBare, onwardFrom, pictureNow, rowsHere, samplesIdeal, toldBare}
 use Rattle.history.specs.Remembered.{Remembered, remembered}
-use Rattle.history.specs.Step.{decoded, macroblock}
+use Rattle.history.specs.Step.{decoded, handed, inBits, wholeDecoded}
 
 -- a state and the ideal picture that it stands for, on a store of `room` numbers
 pub record Stands (room : ℕ) (s : State) (i : Ideal) : Type 0 where
@@ -74,7 +81,7 @@ module _ (i : Ideal) (s : List ℤ) (size : sizeFine (i .width) (i .height) ≡ 
   -- ---- the checks
 
   -- refusal 13 does not arise
-  neighbours : contextFine context (x .matrix) ≡ true → leb (192 * i .width) (length s) ≡ true → neighboursFine (i .depth) q ar (blank q) ≡ true
+  pub neighbours : contextFine context (x .matrix) ≡ true → leb (192 * i .width) (length s) ≡ true → neighboursFine (i .depth) q ar (blank q) ≡ true
   neighbours c l =
       let f = quantiser-fine context (x .matrix) c in
       around-fine (i .depth) q ar (blank q) f (agrees-sound (agrees (leb-true (192 * i .width) (length s) l))) (blank-sound q f)
@@ -122,15 +129,15 @@ module _ (i : Ideal) (s : List ℤ) (size : sizeFine (i .width) (i .height) ≡ 
       let g = passed f in
       ap (λ (v : List (List (List ℤ))). samplesAfter (samplesOfSix context v) (x .samples)) (values-same context (x .matrix) ar (aroundIn i) (rowsHere (length s) i x t) (g .fine) (g .agree))
 
-  answer-is : answerOut p x s ≡ answerWith p x (idealState (length s) i x)
+  pub answer-is : answerOut p x s ≡ answerWith p x (idealState (length s) i x)
   unfolding answerOut
   answer-is = ap (answerWith p x) state-is
 
-  samples-is : samplesOut p x s ≡ keptBy (idealState (length s) i x) (samplesIdeal (length s) i x (sentenceHere p x)) (x .samples)
+  pub samples-is : samplesOut p x s ≡ keptBy (idealState (length s) i x) (samplesIdeal (length s) i x (sentenceHere p x)) (x .samples)
   unfolding samplesOut
   samples-is = ap (λ (st : Checked). samplesWith p x st ar) state-is ∙ samples-by (idealState (length s) i x) (sentenceHere p x) refl
 
-  pub told-is : told (record { picture = p; store = s }) (macroblock x) ≡ ideal (length s) i x
+  pub told-is : told (record { picture = p; store = s }) (handed x) ≡ ideal (length s) i x
   unfolding ideal
   told-is = ap₂ decoded answer-is samples-is
 
@@ -156,7 +163,7 @@ module _ (i : Ideal) (s : List ℤ) (size : sizeFine (i .width) (i .height) ≡ 
             (kept-more (i .accepted) m (recorded t) g (i .width) s wide l (kept l));
       }
 
-  stays : Stands (length s) (record { picture = p; store = s }) i
+  pub stays : Stands (length s) (record { picture = p; store = s }) i
   stays = record { picture = refl; size = size; long = refl; kept = kept }
 
   abbrev storeBy : Checked → Res (List Parts) → List ℤ
@@ -174,10 +181,98 @@ module _ (i : Ideal) (s : List ℤ) (size : sizeFine (i .width) (i .height) ≡ 
   unfolding storeOut
   store-is = ap (λ (st : Checked). storeWith p x st ar s) state-is
 
-  pub stands-on : Stands (length s) (next (record { picture = p; store = s }) (macroblock x)) (onwardFrom (length s) i x)
+  pub stands-on : Stands (length s) (next (record { picture = p; store = s }) (handed x)) (onwardFrom (length s) i x)
   unfolding onwardFrom
   stands-on =
       let j = onwardFrom (length s) i x in
       subst (λ (a : PictureDecoded). Stands (length s) (record { picture = pictureAfter p a; store = storeOut p x s }) j) (sym answer-is)
       (subst (λ (t : List ℤ). Stands (length s) (record { picture = pictureAfter p (answerWith p x (idealState (length s) i x)); store = t }) j) (sym store-is)
       (by-state (idealState (length s) i x) (sentenceHere p x) refl))
+
+-- ---- a call whose header is in its bits
+
+module _ (i : Ideal) (s : List ℤ) (size : sizeFine (i .width) (i .height) ≡ true) (kept : 192 * i .width ≤ length s → Kept (i .width) s (i .accepted)) (x : Bare) where
+  abbrev now : Picture
+  now = pictureNow i
+
+  abbrev scale : ℕ
+  scale = x .context .«quantiser_scale»
+
+  -- with a header that is handed in its place
+  abbrev some : Input
+  some = given (x .bytes) (x .start) (recordBy 0 0 0) (x .context) (x .matrix) (x .samples)
+
+  abbrev fullBare : Bool → Bool → Bool → Bool → Bool → Bool → Bool → Checked
+  fullBare a b c e f g t =
+      cond a (cond b (cond c (cond e (cond f (cond g (cond t Fine (Bad Predictor)) (Bad Complete)) (Bad TooShort)) (Bad TooShort)) (Bad Context)) (Bad OutOfRange)) (Bad OutOfRange)
+
+  passesBare : (b c e f g t : Bool) → (c ≡ true → f ≡ true → t ≡ true) → fullBare true b c e f g t ≡ fullBare true b c e f g true
+  passesBare b true e true g t k = ap (fullBare true b true e true g) (k refl refl)
+  passesBare b true e false g t k = refl
+  passesBare b false e f g t k = refl
+
+  bare-is : stateBare now x s ≡ bareState (length s) i x
+  unfolding stateBefore bareState
+  bare-is =
+      let b = inData (length (x .bytes)) (x .start) in
+      let c = contextFine (contextOf now (x .context)) (x .matrix) in
+      let e = leb 384 (length (x .samples)) in
+      let f = leb (192 * i .width) (length s) in
+      let g = ltb (length (i .accepted)) (i .width * i .height) in
+      let t = neighboursFine (i .depth) scale (aroundDue now scale s) (blank scale) in
+      ap (λ (a : Bool). fullBare a b c e f g t) size ∙ passesBare b c e f g t (neighbours i s size kept some)
+
+  -- by the state and the header
+  module _ (st : Checked) (f : bareState (length s) i x ≡ st) where
+    state-then : stateBare now x s ≡ st
+    state-then = bare-is ∙ f
+
+    answer-by : W.answerOut now x s ≡ W.wholeBy now x st (W.wholeTold now x (W.wholeHere now x))
+    unfolding W.answerOut
+    answer-by = ap (λ (k : Checked). W.wholeBy now x k (W.wholeTold now x (W.wholeHere now x))) state-then
+
+    samples-then : W.samplesOut now x s ≡ keptBy st (W.samplesWhole now x s (W.wholeHere now x)) (x .samples)
+    unfolding W.samplesOut
+    samples-then = ap (λ (k : Checked). keptBy k (W.samplesWhole now x s (W.wholeHere now x)) (x .samples)) state-then
+
+    store-then : W.storeOut now x s ≡ keptBy st (W.storeWhole now x s (W.wholeHere now x)) s
+    unfolding W.storeOut
+    store-then = ap (λ (k : Checked). keptBy k (W.storeWhole now x s (W.wholeHere now x)) s) state-then
+
+  told-by : (st : Checked) (y : Res Header) → bareState (length s) i x ≡ st → headerHere (length s) i x ≡ y
+      → wholeDecoded (W.answerOut now x s) (W.samplesOut now x s) ≡ toldBare (length s) i x st y
+  told-by (Bad e) y f g = ap₂ wholeDecoded (answer-by (Bad e) f) (samples-then (Bad e) f)
+  told-by Fine (no e) f g =
+      let z = whole-not now x g in
+      ap₂ wholeDecoded (answer-by Fine f ∙ ap (W.wholeTold now x) z) (samples-then Fine f ∙ ap (W.samplesWhole now x s) z)
+  told-by Fine (ok h r) f g =
+      let w = with-header-is now x s (state-then Fine f) h r g in
+      ap₂ wholeDecoded (w .answer ∙ ap (W.withHeader (length (headerBits h)) (fieldsOf scale h)) (answer-is i s size kept (W.behind x h))) (w .samples ∙ samples-is i s size kept (W.behind x h))
+
+  pub told-bare : told (record { picture = now; store = s }) (inBits x) ≡ toldBare (length s) i x (bareState (length s) i x) (headerHere (length s) i x)
+  told-bare = told-by (bareState (length s) i x) (headerHere (length s) i x) refl refl
+
+  -- what it leaves
+
+  same-picture : (n : ℕ) (fs : HeaderFields) (a : PictureDecoded) → pictureAfterWhole now (W.withHeader n fs a) ≡ pictureAfter now a
+  same-picture n fs (Decoded m c k q) = refl
+  same-picture n fs (Refused e) = refl
+
+  abbrev left : PictureWholeDecoded → List ℤ → State
+  left a t = record { picture = pictureAfterWhole now a; store = t }
+
+  by-header : (st : Checked) (y : Res Header) → bareState (length s) i x ≡ st → headerHere (length s) i x ≡ y
+      → Stands (length s) (left (W.answerOut now x s) (W.storeOut now x s)) (onwardBare (length s) i x st y)
+  by-header (Bad e) y f g = subst₂ (λ (a : PictureWholeDecoded) (t : List ℤ). Stands (length s) (left a t) i) (sym (answer-by (Bad e) f)) (sym (store-then (Bad e) f)) (stays i s size kept some)
+  by-header Fine (no e) f g =
+      let z = whole-not now x g in
+      subst₂ (λ (a : PictureWholeDecoded) (t : List ℤ). Stands (length s) (left a t) i) (sym (answer-by Fine f ∙ ap (W.wholeTold now x) z)) (sym (store-then Fine f ∙ ap (W.storeWhole now x s) z)) (stays i s size kept some)
+  by-header Fine (ok h r) f g =
+      let w = with-header-is now x s (state-then Fine f) h r g in
+      let n = length (headerBits h) in
+      subst₂ (λ (a : Picture) (t : List ℤ). Stands (length s) (record { picture = a; store = t }) (onwardFrom (length s) i (W.behind x h)))
+      (sym (ap (pictureAfterWhole now) (w .answer) ∙ same-picture n (fieldsOf scale h) (answerOut now (W.behind x h) s))) (sym (w .kept))
+      (stands-on i s size kept (W.behind x h))
+
+  pub stands-bare : Stands (length s) (next (record { picture = now; store = s }) (inBits x)) (onwardBare (length s) i x (bareState (length s) i x) (headerHere (length s) i x))
+  stands-bare = by-header (bareState (length s) i x) (headerHere (length s) i x) refl refl

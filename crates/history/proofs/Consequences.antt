@@ -27,12 +27,18 @@ use Rattle.assembly.specs.declared.error.Checked.{Checked}
 use Rattle.assembly.specs.declared.error.Checked.the-variants.{Bad, Fine}
 use Rattle.macroblock.specs.Answer.{keptBy, told as toldAlone}
 use Rattle.headers.specs.Fields.{headerCheck}
+use Rattle.headers.specs.Header.{Header}
 use Rattle.macroblock.specs.Six.{blockAt, valuesOfSix}
 use Rattle.macroblock.specs.declared.decode.MacroblockDecoded.{MacroblockDecoded}
 use Rattle.macroblock.specs.declared.decode.MacroblockDecoded.the-variants.{Decoded as AloneDecoded, Refused as AloneRefused}
 use Rattle.neighbours.specs.Neighbours.{Around, found, predictors}
 use Rattle.record.specs.Record.{recordAt}
 use Rattle.picture.specs.Call.{Input, answerBy, answerOut, answerTold, answerWith, aroundHere, contextHere, samplesOut, samplesTold, sentenceHere, stateHere, storeOut, storeTold}
+use Rattle.macroblock.specs.Whole.{Whole}
+use Rattle.picture.specs.Whole as W
+use Rattle.picture.specs.Whole.{Bare}
+use Rattle.picture.specs.declared.whole.PictureWholeDecoded.{PictureWholeDecoded}
+use Rattle.picture.specs.declared.whole.PictureWholeDecoded.the-variants.{Decoded as WholeDecoded, Refused as WholeRefused}
 use Rattle.picture_state.specs.Picture.{onward, openOf, pictureOf}
 use Rattle.picture_state.specs.Ring.{aroundDue, offset}
 use Rattle.picture.specs.Serial.{recordUpTo, valuesInTurn}
@@ -43,10 +49,10 @@ use Rattle.picture_state.specs.declared.picture.PictureOpened.{PictureOpened}
 use Rattle.picture_state.specs.declared.picture.PictureOpened.the-variants.{Opened, Refused as Unopened}
 use Rattle.history.proofs.Longer.{longer}
 use Rattle.history.proofs.Runs.{history}
-use Rattle.history.specs.History.{State, next, pictureAfter, pictureOpened, told}
-use Rattle.history.specs.Ideal.{Ideal, addedTo, blankIdeal, ideal, idealNext, idealState, idealTests, idealTold, onwardFrom, pictureNow, reopened, samplesIdeal}
+use Rattle.history.specs.History.{State, next, pictureAfter, pictureAfterWhole, pictureOpened, told}
+use Rattle.history.specs.Ideal.{Ideal, addedTo, bareState, blankIdeal, headerHere, ideal, idealNext, idealState, idealTests, idealTold, onwardBare, onwardFrom, pictureNow, reopened, samplesIdeal}
 use Rattle.history.specs.Remembered.{Remembered}
-use Rattle.history.specs.Step.{Step, Told, afterAll, decoded, macroblock, opened, opening, toldAll}
+use Rattle.history.specs.Step.{Step, Told, afterAll, decoded, handed, inBits, opened, opening, toldAll, wholeDecoded}
 
 -- ---- a refused step leaves no trace
 
@@ -71,25 +77,48 @@ module _ (p : Picture) (x : Input) (s : List ℤ) {e : BlockAssemblyError} (q : 
   unfolding answerOut storeOut
   store-kept = untouched (stateHere p x s) (sentenceHere p x) q .1
 
+-- the same of a call whose header is in its bits
+module _ (p : Picture) (x : Bare) (s : List ℤ) {e : BlockAssemblyError} (q : W.answerOut p x s ≡ WholeRefused e) where
+  untouched-whole : (st : Checked) (y : Res Whole) → W.wholeBy p x st (W.wholeTold p x y) ≡ WholeRefused e
+      → (keptBy st (W.samplesWhole p x s y) (x .samples) ≡ x .samples) × (keptBy st (W.storeWhole p x s y) s ≡ s)
+  untouched-whole (Bad n) y k = (refl, refl)
+  untouched-whole Fine (no n) k = (refl, refl)
+  untouched-whole Fine (ok t r) k = absurd (let z : _≡_ {A = ℕ} 0 1 = cc in omega arith)
+
+  pub whole-samples-kept : W.samplesOut p x s ≡ x .samples
+  unfolding W.answerOut W.samplesOut
+  whole-samples-kept = untouched-whole (W.stateBare p x s) (W.wholeHere p x) q .0
+
+  pub whole-store-kept : W.storeOut p x s ≡ s
+  unfolding W.answerOut W.storeOut
+  whole-store-kept = untouched-whole (W.stateBare p x s) (W.wholeHere p x) q .1
+
 -- told a number
 abbrev pub Refusal : Told → Type 0
 Refusal (opened (Opened p)) = ⊥
 Refusal (opened (Unopened e)) = Unit {0}
 Refusal (decoded (Decoded n c k p) samples) = ⊥
 Refusal (decoded (Refused e) samples) = Unit {0}
+Refusal (wholeDecoded (WholeDecoded n c k p f) samples) = ⊥
+Refusal (wholeDecoded (WholeRefused e) samples) = Unit {0}
 
 module _ (s : State) where
   same-opened : (o : PictureOpened) → Refusal (opened o) → pictureOpened (s .picture) o ≡ s .picture
   same-opened (Opened p) k = absurd k
   same-opened (Unopened e) k = refl
 
-  same-decoded : (x : Input) (a : PictureDecoded) (t : List ℤ) → answerOut (s .picture) x (s .store) ≡ a → Refusal (decoded a t) → next s (macroblock x) ≡ s
+  same-decoded : (x : Input) (a : PictureDecoded) (t : List ℤ) → answerOut (s .picture) x (s .store) ≡ a → Refusal (decoded a t) → next s (handed x) ≡ s
   same-decoded x (Decoded n c m p) t e k = absurd k
   same-decoded x (Refused n) t e k = λ i. record { picture = pictureAfter (s .picture) (e i); store = store-kept (s .picture) x (s .store) e i }
 
+  same-whole : (x : Bare) (a : PictureWholeDecoded) (t : List ℤ) → W.answerOut (s .picture) x (s .store) ≡ a → Refusal (wholeDecoded a t) → next s (inBits x) ≡ s
+  same-whole x (WholeDecoded n c m p f) t e k = absurd k
+  same-whole x (WholeRefused n) t e k = λ i. record { picture = pictureAfterWhole (s .picture) (e i); store = whole-store-kept (s .picture) x (s .store) e i }
+
   pub state-kept : (x : Step) → Refusal (told s x) → next s x ≡ s
   state-kept (opening w h depth method) k = λ i. record { picture = same-opened (openOf w h depth method) k i; store = s .store }
-  state-kept (macroblock x) k = same-decoded x (answerOut (s .picture) x (s .store)) (samplesOut (s .picture) x (s .store)) refl k
+  state-kept (handed x) k = same-decoded x (answerOut (s .picture) x (s .store)) (samplesOut (s .picture) x (s .store)) refl k
+  state-kept (inBits x) k = same-whole x (W.answerOut (s .picture) x (s .store)) (W.samplesOut (s .picture) x (s .store)) refl k
 
 -- a run after a run
 told-on : (ys xs : List Step) (s : State) → toldAll told next s (ys ++ xs) ≡ toldAll told next s ys ++ toldAll told next (afterAll told next s ys) xs
@@ -162,13 +191,19 @@ module _ (room : ℕ) where
       go Fine (no e) f = l
       go Fine (ok t r) f = one-more _ (f refl)
 
+  at-most-bare : (i : Ideal) (x : Bare) (st : Checked) (y : Res Header) → AtMost i → AtMost (onwardBare room i x st y)
+  at-most-bare i x (Bad e) y l = l
+  at-most-bare i x Fine (no e) l = l
+  at-most-bare i x Fine (ok h r) l = at-most-call i (W.behind x h) l
+
   at-most-opened : (i : Ideal) (w h depth : ℕ) (method : Bool) (o : PictureOpened) → AtMost i → AtMost (reopened i w h depth method o)
   at-most-opened i w h depth method (Opened p) l = omega arith
   at-most-opened i w h depth method (Unopened e) l = l
 
   at-most-next : (i : Ideal) (x : Step) → AtMost i → AtMost (idealNext room i x)
   at-most-next i (opening w h depth method) l = at-most-opened i w h depth method (openOf w h depth method) l
-  at-most-next i (macroblock x) l = at-most-call i x l
+  at-most-next i (handed x) l = at-most-call i x l
+  at-most-next i (inBits x) l = at-most-bare i x (bareState room i x) (headerHere room i x) l
 
   at-most-after : (xs : List Step) (i : Ideal) → AtMost i → AtMost (afterAll (idealTold room) (idealNext room) i xs)
   unfolding afterAll

@@ -13,11 +13,11 @@ use Rattle.picture_state.specs.Picture.{openOf, pictureOf, sizeFine}
 use Rattle.picture_state.specs.declared.picture.Picture.{Picture}
 use Rattle.picture_state.specs.declared.picture.PictureOpened.{PictureOpened}
 use Rattle.picture_state.specs.declared.picture.PictureOpened.the-variants.{Opened, Refused as Unopened}
-use Rattle.history.proofs.Calls.{Stands, stands-on, told-is}
+use Rattle.history.proofs.Calls.{Stands, stands-bare, stands-on, told-bare, told-is}
 use Rattle.history.proofs.Places.{Kept}
 use Rattle.history.specs.History.{History, State, next, pictureOpened, told}
 use Rattle.history.specs.Ideal.{Ideal, blankIdeal, ideal, idealNext, idealTold, onwardFrom, reopened}
-use Rattle.history.specs.Step.{Step, Told, afterAll, macroblock, opening, toldAll}
+use Rattle.history.specs.Step.{Step, Told, afterAll, handed, inBits, opening, toldAll}
 
 -- ---- an opening
 
@@ -46,17 +46,25 @@ module _ (room : ℕ) (s : State) (i : Ideal) (H : Stands room s i) where
 
   told-same : (x : Step) → told s x ≡ idealTold room i x
   told-same (opening w h depth method) = refl
-  told-same (macroblock x) =
-      ap (λ (y : Picture). told (record { picture = y; store = s .store }) (macroblock x)) (H .picture)
+  told-same (handed x) =
+      ap (λ (y : Picture). told (record { picture = y; store = s .store }) (handed x)) (H .picture)
       ∙ told-is i (s .store) (H .size) kept-here x
       ∙ ap (λ (r : ℕ). ideal r i x) (H .long)
+  told-same (inBits x) =
+      ap (λ (y : Picture). told (record { picture = y; store = s .store }) (inBits x)) (H .picture)
+      ∙ told-bare i (s .store) (H .size) kept-here x
+      ∙ ap (λ (r : ℕ). idealTold r i (inBits x)) (H .long)
 
   stands-next : (x : Step) → Stands room (next s x) (idealNext room i x)
   stands-next (opening w h depth method) = stands-opened w h depth method (openOf w h depth method) refl
-  stands-next (macroblock x) =
-      subst (λ (r : ℕ). Stands r (next s (macroblock x)) (onwardFrom r i x)) (H .long)
-      (subst (λ (y : Picture). Stands (length (s .store)) (next (record { picture = y; store = s .store }) (macroblock x)) (onwardFrom (length (s .store)) i x)) (sym (H .picture))
+  stands-next (handed x) =
+      subst (λ (r : ℕ). Stands r (next s (handed x)) (onwardFrom r i x)) (H .long)
+      (subst (λ (y : Picture). Stands (length (s .store)) (next (record { picture = y; store = s .store }) (handed x)) (onwardFrom (length (s .store)) i x)) (sym (H .picture))
       (stands-on i (s .store) (H .size) kept-here x))
+  stands-next (inBits x) =
+      subst (λ (r : ℕ). Stands r (next s (inBits x)) (idealNext r i (inBits x))) (H .long)
+      (subst (λ (y : Picture). Stands (length (s .store)) (next (record { picture = y; store = s .store }) (inBits x)) (idealNext (length (s .store)) i (inBits x))) (sym (H .picture))
+      (stands-bare i (s .store) (H .size) kept-here x))
 
 -- ---- a run, from any state that stands for an ideal picture
 

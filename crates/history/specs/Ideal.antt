@@ -5,6 +5,7 @@ use Prim.Native.Nat.{ℕ, _%_, _*_, _+_, _-_, _/_}
 use lib.Dec.{leb, ltb}
 use lib.IntN.{ℤ}
 use lib.ListN.{getD, length}
+use Rattle.bits.specs.Bits.{bitsFrom}
 use Rattle.bits.specs.Cursor.{inData}
 use Rattle.samples.specs.Samples.{macroblockSamples, samplesAfter}
 use Rattle.sentences.specs.Macroblock.{Parts}
@@ -13,21 +14,26 @@ use Rattle.assembly.specs.Answer.{firstBad}
 use Rattle.block_reader.specs.Rows.{rowsOf}
 use Rattle.assembly.specs.Values.{contextFine}
 use Rattle.assembly.specs.declared.error.BlockAssemblyError.{BlockAssemblyError}
-use Rattle.assembly.specs.declared.error.BlockAssemblyError.the-variants.{Complete, Context, OutOfRange, TooShort}
+use Rattle.assembly.specs.declared.error.BlockAssemblyError.the-variants.{Complete, Context, OutOfRange, Texture, TooShort}
 use Rattle.assembly.specs.declared.error.Checked.{Checked}
 use Rattle.assembly.specs.declared.error.Checked.the-variants.{Bad, Fine}
 use Rattle.macroblock.specs.Answer.{keptBy}
-use Rattle.headers.specs.Fields.{headerTests, patternBy}
+use Rattle.headers.specs.Fields.{fieldsOf, headerTests, patternBy}
+use Rattle.headers.specs.Header.{Header, headerBits}
+use Rattle.headers.specs.HeaderReader.{readHeader}
 use Rattle.macroblock.specs.Six.{samplesOfSix}
 use Rattle.neighbours.specs.Neighbours.{found}
 use Rattle.picture.specs.Call.{Input, answerWith, contextHere, sentenceHere}
+use Rattle.picture.specs.Whole.{Bare, behind, withHeader}
+use Rattle.picture.specs.declared.call.PictureDecoded.{PictureDecoded}
+use Rattle.picture.specs.declared.whole.PictureWholeDecoded.the-variants.{Refused as WholeRefused}
 use Rattle.picture_state.specs.Sizes.{storeFor}
-use Rattle.picture_state.specs.Picture.{openOf, pictureOf}
+use Rattle.picture_state.specs.Picture.{contextOf, openOf, pictureOf}
 use Rattle.picture_state.specs.declared.picture.Picture.{Picture}
 use Rattle.picture_state.specs.declared.picture.PictureOpened.{PictureOpened}
 use Rattle.picture_state.specs.declared.picture.PictureOpened.the-variants.{Opened, Refused as Unopened}
 use Rattle.history.specs.Remembered.{Neighbourhood, Remembered, remembered, valuesOfAll}
-use Rattle.history.specs.Step.{Step, Told, decoded, macroblock, opened, opening}
+use Rattle.history.specs.Step.{Step, Told, decoded, handed, inBits, opened, opening, wholeDecoded}
 
 -- size, depth and method as opened, and what was accepted since
 pub record Ideal : Type 0 where
@@ -86,8 +92,14 @@ module _ (room : ℕ) (i : Ideal) (x : Input) where
   samplesIdeal (no e) = x .samples
 
   -- what it is told, and what its samples hold
+  abbrev pub answerIdeal : PictureDecoded
+  answerIdeal = answerWith (pictureNow i) x idealState
+
+  abbrev pub samplesThen : List ℤ
+  samplesThen = keptBy idealState (samplesIdeal (sentenceHere (pictureNow i) x)) (x .samples)
+
   unfoldable pub ideal : Told
-  ideal = decoded (answerWith (pictureNow i) x idealState) (keptBy idealState (samplesIdeal (sentenceHere (pictureNow i) x)) (x .samples))
+  ideal = decoded answerIdeal samplesThen
 
   -- what was accepted after it
   abbrev pub addedTo : Checked → Res (List Parts) → List Remembered
@@ -97,6 +109,36 @@ module _ (room : ℕ) (i : Ideal) (x : Input) where
 
   unfoldable pub onwardFrom : Ideal
   onwardFrom = record { width = i .width; height = i .height; depth = i .depth; method = i .method; accepted = addedTo idealState (sentenceHere (pictureNow i) x) }
+
+-- ---- a call whose header is in its bits: the tests that ask no header, the header, then the call behind it
+
+module _ (room : ℕ) (i : Ideal) (x : Bare) where
+  -- 11, 12, 14, 15
+  abbrev pub bareTests : List (Bool × BlockAssemblyError)
+  bareTests =
+      (inData (length (x .bytes)) (x .start), OutOfRange)
+      ∷ (contextFine (contextOf (pictureNow i) (x .context)) (x .matrix), Context)
+      ∷ (leb macroblockSamples (length (x .samples)), TooShort)
+      ∷ (leb (storeFor (i .width)) room, TooShort)
+      ∷ (ltb (length (i .accepted)) (i .width * i .height), Complete)
+      ∷ []
+
+  unfoldable pub bareState : Checked
+  bareState = firstBad bareTests
+
+  abbrev pub headerHere : Res Header
+  headerHere = readHeader (bitsFrom (x .bytes) (x .start))
+
+  abbrev pub toldBare : Checked → Res Header → Told
+  toldBare (Bad e) y = wholeDecoded (WholeRefused e) (x .samples)
+  toldBare Fine (no e) = wholeDecoded (WholeRefused (Texture e)) (x .samples)
+  toldBare Fine (ok h r) =
+      wholeDecoded (withHeader (length (headerBits h)) (fieldsOf (x .context .«quantiser_scale») h) (answerIdeal room i (behind x h))) (samplesThen room i (behind x h))
+
+  abbrev pub onwardBare : Checked → Res Header → Ideal
+  onwardBare (Bad e) y = i
+  onwardBare Fine (no e) = i
+  onwardBare Fine (ok h r) = onwardFrom room i (behind x h)
 
 -- ---- a step
 
@@ -108,8 +150,10 @@ reopened i w h depth method (Unopened e) = i
 module _ (room : ℕ) where
   abbrev pub idealTold : Ideal → Step → Told
   idealTold i (opening w h depth method) = opened (openOf w h depth method)
-  idealTold i (macroblock x) = ideal room i x
+  idealTold i (handed x) = ideal room i x
+  idealTold i (inBits x) = toldBare room i x (bareState room i x) (headerHere room i x)
 
   abbrev pub idealNext : Ideal → Step → Ideal
   idealNext i (opening w h depth method) = reopened i w h depth method (openOf w h depth method)
-  idealNext i (macroblock x) = onwardFrom room i x
+  idealNext i (handed x) = onwardFrom room i x
+  idealNext i (inBits x) = onwardBare room i x (bareState room i x) (headerHere room i x)

@@ -33,10 +33,10 @@ use Rattle.picture_state.specs.State.{dueOf}
 use Rattle.picture_state.specs.declared.picture.MacroblockContext.{MacroblockContext}
 use Rattle.picture_state.specs.declared.picture.Picture.{Picture}
 use Rattle.picture_state.specs.declared.state.Due.{Due}
-use Rattle.picture.proofs.WholeLaws.{Behind, ends, start-inside, state-behind, whole-answered, whole-not, with-header-is, withHeader}
+use Rattle.picture.proofs.WholeLaws.{Behind, ends, start-inside, state-behind, whole-answered, whole-not, with-header-is}
 use Rattle.picture.specs.Answered.{Answered}
 use Rattle.picture.specs.Call as C
-use Rattle.picture.specs.Whole.{Bare, answerOut, behind, callWith, dueWith, samplesOut, samplesWhole, stateBare, storeOut, storeWhole, wholeBy, wholeHere, wholeTold}
+use Rattle.picture.specs.Whole.{Bare, answerOut, behind, callWith, dueWith, samplesOut, samplesWhole, stateBare, storeOut, storeWhole, wholeBy, wholeHere, wholeTold, withHeader}
 use Rattle.picture.specs.WholeAnswered.{WholeAnswered}
 use Rattle.picture.specs.declared.call.PictureDecoded.{PictureDecoded}
 use Rattle.picture.specs.declared.call.PictureDecoded.the-variants.{Decoded as BlocksDecoded, Refused as BlocksRefused}

@@ -56,17 +56,10 @@ use Rattle.picture.proofs.CallLaws.{samplesRead, storeRead, whole}
 use Rattle.picture.proofs.SerialLaws.{turn-fine}
 use Rattle.picture.specs.Call as C
 use Rattle.picture.specs.InPicture as I
-use Rattle.picture.specs.Whole.{Bare, answerOut, behind, samplesOut, samplesWhole, stateBare, storeOut, storeWhole, wholeBy, wholeHere, wholeTold, wholeValues}
+use Rattle.picture.specs.Whole.{Bare, answerOut, behind, samplesOut, samplesWhole, stateBare, storeOut, storeWhole, wholeBy, wholeHere, wholeTold, wholeValues, withHeader}
 use Rattle.picture.specs.WholeAnswered.{Accepted, Begun, Broken, GoodHere, Promise, Stopped, Told, WholeAnswered, wholeDue, wholeOutcome, wholeSaid}
-use Rattle.picture.specs.declared.call.PictureDecoded.{PictureDecoded}
-use Rattle.picture.specs.declared.call.PictureDecoded.the-variants.{Decoded as BlocksDecoded, Refused as BlocksRefused}
 use Rattle.picture.specs.declared.whole.PictureWholeDecoded.{PictureWholeDecoded}
 use Rattle.picture.specs.declared.whole.PictureWholeDecoded.the-variants.{Decoded, Refused}
-
--- the answer of a call behind a header of n bits, with the header in front
-abbrev pub withHeader : ℕ → HeaderFields → PictureDecoded → PictureWholeDecoded
-withHeader n f (BlocksDecoded bits c k p) = Decoded (n + bits) c k p f
-withHeader n f (BlocksRefused e) = Refused e
 
 module _ (p : Picture) (x : Bare) where
   abbrev dcCoded : Bool

@@ -30,6 +30,8 @@ use Rattle.picture_state.specs.declared.picture.MacroblockContext.{MacroblockCo
 use Rattle.picture_state.specs.declared.picture.Picture.{Picture}
 use Rattle.picture_state.specs.declared.state.Due.{Due}
 use Rattle.picture.specs.Call.{Input, aroundHere, contextHere, recordHere, valuesHere}
+use Rattle.picture.specs.declared.call.PictureDecoded.{PictureDecoded}
+use Rattle.picture.specs.declared.call.PictureDecoded.the-variants.{Decoded as BlocksDecoded, Refused as BlocksRefused}
 use Rattle.picture.specs.declared.whole.PictureWholeDecoded.{PictureWholeDecoded}
 use Rattle.picture.specs.declared.whole.PictureWholeDecoded.the-variants.{Decoded, Refused}
 
@@ -85,6 +87,11 @@ behind x h =
       matrix = x .matrix;
       samples = x .samples;
     }
+
+-- the answer of the call behind a header of n bits, with the header in front
+abbrev pub withHeader : ℕ → HeaderFields → PictureDecoded → PictureWholeDecoded
+withHeader n f (BlocksDecoded bits c k p) = Decoded (n + bits) c k p f
+withHeader n f (BlocksRefused e) = Refused e
 
 module _ (p : Picture) (x : Bare) where
   abbrev pub wholeHere : Res Whole
