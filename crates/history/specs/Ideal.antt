@@ -24,7 +24,7 @@ use Rattle.headers.specs.HeaderReader.{readHeader}
 use Rattle.macroblock.specs.Six.{samplesOfSix}
 use Rattle.neighbours.specs.Neighbours.{found}
 use Rattle.picture.specs.Call.{Input, answerWith, contextHere, sentenceHere}
-use Rattle.picture.specs.Whole.{Bare, behind, withHeader}
+use Rattle.picture.specs.Whole.{Bare, bare, behind, withHeader}
 use Rattle.picture.specs.declared.call.PictureDecoded.{PictureDecoded}
 use Rattle.picture.specs.declared.whole.PictureWholeDecoded.the-variants.{Refused as WholeRefused}
 use Rattle.picture_state.specs.Sizes.{storeFor}
@@ -69,16 +69,20 @@ aroundIn i = aroundAt i (length (i .accepted) % i .width) (length (i .accepted) 
 
 -- ---- a call, on a store of `room` numbers
 
+-- without a header: 11, 12, 14, 15
+abbrev pub bareTests : ℕ → Ideal → Bare → List (Bool × BlockAssemblyError)
+bareTests room i x =
+    (inData (length (x .bytes)) (x .start), OutOfRange)
+    ∷ (contextFine (contextOf (pictureNow i) (x .context)) (x .matrix), Context)
+    ∷ (leb macroblockSamples (length (x .samples)), TooShort)
+    ∷ (leb (storeFor (i .width)) room, TooShort)
+    ∷ (ltb (length (i .accepted)) (i .width * i .height), Complete)
+    ∷ []
+
 module _ (room : ℕ) (i : Ideal) (x : Input) where
-  -- 11, 12, 14, 15, 9, 10
+  -- and then 9, 10
   abbrev pub idealTests : List (Bool × BlockAssemblyError)
-  idealTests =
-      (inData (length (x .bytes)) (x .start), OutOfRange)
-      ∷ (contextFine (contextHere (pictureNow i) x) (x .matrix), Context)
-      ∷ (leb macroblockSamples (length (x .samples)), TooShort)
-      ∷ (leb (storeFor (i .width)) room, TooShort)
-      ∷ (ltb (length (i .accepted)) (i .width * i .height), Complete)
-      ∷ headerTests (x .header)
+  idealTests = bareTests room i (bare (x .bytes) (x .start) (x .context) (x .matrix) (x .samples)) ++ headerTests (x .header)
 
   unfoldable pub idealState : Checked
   idealState = firstBad idealTests
@@ -113,18 +117,8 @@ module _ (room : ℕ) (i : Ideal) (x : Input) where
 -- ---- a call whose header is in its bits: the tests that ask no header, the header, then the call behind it
 
 module _ (room : ℕ) (i : Ideal) (x : Bare) where
-  -- 11, 12, 14, 15
-  abbrev pub bareTests : List (Bool × BlockAssemblyError)
-  bareTests =
-      (inData (length (x .bytes)) (x .start), OutOfRange)
-      ∷ (contextFine (contextOf (pictureNow i) (x .context)) (x .matrix), Context)
-      ∷ (leb macroblockSamples (length (x .samples)), TooShort)
-      ∷ (leb (storeFor (i .width)) room, TooShort)
-      ∷ (ltb (length (i .accepted)) (i .width * i .height), Complete)
-      ∷ []
-
   unfoldable pub bareState : Checked
-  bareState = firstBad bareTests
+  bareState = firstBad (bareTests room i x)
 
   abbrev pub headerHere : Res Header
   headerHere = readHeader (bitsFrom (x .bytes) (x .start))

@@ -19,7 +19,9 @@ use Rattle.samples.specs.Samples.{samplesAfter}
 use Rattle.fields.specs.Answer.{after}
 use Rattle.events.specs.declared.spelling.Spellings.{Spellings}
 use Rattle.sentences.proofs.CountLaws.{countsIn}
-use Rattle.fields.specs.Reader.{Res, no, ok}
+use Rattle.sentences.proofs.Sentences.{macroblock-sentences}
+use Rattle.sentences.specs.Macroblock.{Parts}
+use Rattle.fields.specs.Reader.{Res, bind, no, ok}
 use Rattle.fields.specs.Stopped.{Stops}
 use Rattle.assembly.proofs.ContextLaws.{depth-fine, quantiser-fine}
 use Rattle.assembly.proofs.OutcomeLaws.{answered, read-by}
@@ -35,6 +37,7 @@ use Rattle.headers.proofs.AnswerLaws.{HeaderIs, header-is, header-not, header-r
 use Rattle.headers.proofs.HeaderLaws.{context-fine, header-checked}
 use Rattle.headers.specs.Answer.{headerAnswer, headerTold}
 use Rattle.headers.specs.Fields.{contextWith, fieldsOf, headerOf, patternIn}
+use Rattle.headers.specs.Header.{Header, headerBits}
 use Rattle.headers.specs.HeaderReader.{readHeader}
 use Rattle.headers.specs.declared.parse.HeaderFields.{HeaderFields}
 use Rattle.headers.specs.declared.parse.HeaderRead.{HeaderRead}
@@ -42,11 +45,12 @@ use Rattle.headers.specs.declared.parse.HeaderRead.the-variants.{Read, Refused 
 use Rattle.macroblock.proofs.DemandLaws.{Call, demand}
 use Rattle.macroblock.proofs.SixLaws.{values-six-fine}
 use Rattle.macroblock.proofs.StateLaws.{StateFine, room-fine, state-after}
-use Rattle.macroblock.proofs.WholeLaws.{behind-decoded, behind-forward, behind-refused, behind-samples, whole-cut-sentence, whole-not, whole-sentences}
-use Rattle.macroblock.specs.Answer.{keptBy, roomOf, samplesTold, sentenceOf, stateOf, told}
+use Rattle.macroblock.proofs.WholeLaws.{behind-decoded, behind-forward, behind-refused, behind-samples, whole-behind, whole-cut-sentence, whole-not, whole-sentences}
+use Rattle.macroblock.specs.Answer as A
+use Rattle.macroblock.specs.Answer.{keptBy, macroblockAnswer, roomOf, samplesTold, sentenceOf, stateOf, told}
 use Rattle.macroblock.specs.Six.{samplesOfSix}
 use Rattle.macroblock.specs.Whole.{GoodWhole, Whole, wholeBits}
-use Rattle.macroblock.specs.WholeAnswer.{Accepted, Stopped, Told, WholeAnswered, contextIn, roomHere, samplesOut, samplesWhole, valuesWhole, wholeAnswer, wholeBy, wholeDue, wholeOf, wholeOutcome, wholeSaid, wholeTold}
+use Rattle.macroblock.specs.WholeAnswer.{Accepted, Stopped, Told, WholeAnswered, contextIn, roomHere, samplesOut, samplesWhole, valuesWhole, wholeAnswer, wholeBy, wholeDue, wholeOf, wholeOutcome, wholeSaid, wholeTold, withHeader}
 use Rattle.macroblock.specs.WholeReader.{readWhole}
 use Rattle.macroblock.specs.declared.decode.MacroblockDecoded.{MacroblockDecoded}
 use Rattle.macroblock.specs.declared.decode.MacroblockDecoded.the-variants.{Decoded as BlocksDecoded, Refused as BlocksRefused}
@@ -195,3 +199,43 @@ module _ (d : List ℕ) (at : ℕ) (dcCoded rev : Bool) (x : MacroblockTextureCo
       (a
       ∙ ap (λ (z : MacroblockTextureContext). samplesTold (fs .header) dcCoded z p w (sentenceOf d (next .«bit_pos») (fs .header) dcCoded rev) old) g
       ∙ ap (λ (z : HeaderFields). samplesTold (z .header) dcCoded (contextWith z x) p w (sentenceOf d (next .«bit_pos») (z .header) dcCoded rev) old) (is .says))
+
+-- ---- where the header is read, answer and samples are those of the macroblock behind it, with the header's bits more
+
+module _ (d : List ℕ) (at : ℕ) (dcCoded rev : Bool) (x : MacroblockTextureContext) (p : BlockPredictors) (w : List (List ℕ)) (old : List ℤ) (f : roomOf d at x p w (length old) ≡ Fine)
+    (fs : HeaderFields) (next : Cursor) (k : HeaderIs d at (x .«quantiser_scale») fs next) where
+  abbrev h : Header
+  h = k .header
+
+  abbrev n : ℕ
+  n = length (headerBits h)
+
+  abbrev blocks : Res (List Parts)
+  blocks = sentenceOf d (next .«bit_pos») (headerOf h) dcCoded rev
+
+  pub record Behind : Type 0 where
+    pub answer : wholeAnswer d at dcCoded rev x p w old ≡ withHeader n fs (macroblockAnswer d (next .«bit_pos») (headerOf h) dcCoded rev (contextIn x h) p w old)
+    pub samples : samplesOut d at dcCoded rev x p w old ≡ A.samplesOut d (next .«bit_pos») (headerOf h) dcCoded rev (contextIn x h) p w old
+
+  there : stateOf d (next .«bit_pos») (headerOf h) (contextIn x h) p w (length old) ≡ Fine
+  there = state-behind d at x p w (length old) f k
+
+  front : (y : Res (List Parts)) → blocks ≡ y → wholeTold d at (x .«quantiser_scale») (bind y (λ s r. ok (h, s) r)) ≡ withHeader n fs (told d (next .«bit_pos») y)
+  unfolding sentenceOf
+  front (ok s u) e =
+      let a = ap (λ (c : Cursor). c .«bit_pos») (macroblock-sentences dcCoded rev (patternIn h) .position d (next .«bit_pos») (k .inside) s u e) in
+      let b = ap (λ (c : Cursor). c .«bit_pos») (k .place) in
+      let j : after d u .«bit_pos» - at ≡ n + (after d u .«bit_pos» - next .«bit_pos») = omega arith in
+      ap₂ (λ (i : ℕ) (z : HeaderFields). Decoded i (after d u) (countsIn s) z) j (sym (k .says))
+  front (no m) e = refl
+
+  pub with-header-is : Behind
+  unfolding wholeAnswer samplesOut macroblockAnswer A.samplesOut
+  with-header-is =
+      let b = whole-behind dcCoded rev d at (x .«quantiser_scale») fs next k in record {
+        answer = ap (λ (c : Checked). wholeBy c (wholeTold d at (x .«quantiser_scale») (wholeOf d at dcCoded rev))) f ∙ ap (wholeTold d at (x .«quantiser_scale»)) b ∙ front blocks refl
+            ∙ sym (ap (λ (c : Checked). withHeader n fs (A.answerBy c (told d (next .«bit_pos») blocks))) there);
+        samples = ap (λ (c : Checked). keptBy c (samplesWhole dcCoded x p w (wholeOf d at dcCoded rev) old) old) f
+            ∙ sym (behind-samples dcCoded rev d at (x .«quantiser_scale») fs next k x refl p w old _ refl)
+            ∙ sym (ap (λ (c : Checked). keptBy c (samplesTold (headerOf h) dcCoded (contextIn x h) p w blocks old) old) there);
+      }

@@ -34,6 +34,8 @@ use Rattle.macroblock.specs.Demand.{Demand3}
 use Rattle.macroblock.specs.Six.{samplesOfSix}
 use Rattle.macroblock.specs.Whole.{GoodWhole, Whole, wholeBits}
 use Rattle.macroblock.specs.WholeReader.{readWhole}
+use Rattle.macroblock.specs.declared.decode.MacroblockDecoded.{MacroblockDecoded}
+use Rattle.macroblock.specs.declared.decode.MacroblockDecoded.the-variants.{Decoded as BlocksDecoded, Refused as BlocksRefused}
 use Rattle.macroblock.specs.declared.whole.WholeDecoded.{WholeDecoded}
 use Rattle.macroblock.specs.declared.whole.WholeDecoded.the-variants.{Decoded, Refused}
 
@@ -58,6 +60,11 @@ wholeTold d at q (no e) = Refused (Texture e)
 abbrev pub samplesWhole : Bool → MacroblockTextureContext → BlockPredictors → List (List ℕ) → Res Whole → List ℤ → List ℤ
 samplesWhole dcCoded x p w (ok m r) old = samplesAfter (samplesOfSix (contextIn x (m .0)) (valuesWhole dcCoded x p w m)) old
 samplesWhole dcCoded x p w (no e) old = old
+
+-- the answer of the macroblock behind a header of n bits, with the header in front
+abbrev pub withHeader : ℕ → HeaderFields → MacroblockDecoded → WholeDecoded
+withHeader n f (BlocksDecoded bits c k) = Decoded (n + bits) c k f
+withHeader n f (BlocksRefused e) = Refused e
 
 -- ---- of the call
 
