@@ -7,6 +7,7 @@ use lib.Dec.{leb}
 use Rattle.numbers.proofs.Tests.{both-true}
 use Rattle.vaxembro.specs.Answer.{answerLength}
 use Rattle.vaxembro.specs.Calls.{allLong}
+use Rattle.vaxembro.specs.Fields.{headerLength}
 
 -- what is picked where memory is long enough, and where it is not
 pub long-is : {A : Type 0} {b : Bool} {x z : A} (y : A) → b ≡ true → z ≡ x → z ≡ cond b x y
@@ -36,3 +37,10 @@ first-long least n w a e = leb-true least n (both-true (leb least n) (leb 64 w &
 pub matrix-long : (least n w a : ℕ) → allLong least n w a ≡ true → 64 ≤ w
 unfolding allLong
 matrix-long least n w a e = leb-true 64 w (both-true (leb 64 w) (leb answerLength a) (both-true (leb least n) (leb 64 w && leb answerLength a) e .1) .0)
+
+-- where the header's numbers are asked for too: the others are too few, or these are
+pub rest-short : {b : Bool} (h : ℕ) → b ≡ false → (b && leb headerLength h) ≡ false
+rest-short h e = rw e
+
+pub header-short : {b : Bool} (h : ℕ) → b ≡ true → h < headerLength → (b && leb headerLength h) ≡ false
+header-short h e l = rw (e, lt-leb headerLength h l)
