@@ -1,6 +1,6 @@
 // Prints each row of the code tables as the search finds it: the table's name, the code's bits, and
 // what it says. For a table of coefficients that is last, run, level and, of the plain codes, LMAX and
-// RMAX; for a table of DC sizes the size.
+// RMAX; for a table of DC sizes the size; for mcbpc the type of macroblock and cbpc; for cbpy its pattern.
 use codes::DcComponent;
 use codes::TcoefTable;
 use libc::STDOUT_FILENO;
@@ -110,6 +110,48 @@ fn dc_size(name: &[u8], component: DcComponent) {
     }
 }
 
+// Table B.6: 3 is intra, 4 intra with a quantiser change.
+fn type_and_cbpc(row: u32) {
+    if row == 8 {
+        text(b" stuffing");
+        return;
+    }
+    number(3 + row / 4 % 2);
+    number(row % 4);
+}
+
+fn mcbpc(name: &[u8]) {
+    let codes = codes::mcbpc_codes();
+    let lens = codes::mcbpc_lens();
+    for i in 0..9 {
+        let code = codes[i];
+        let len = lens[i];
+        let row = codes::find_row(&codes, &lens, 9, window(code, len), 16);
+        if row < 9 {
+            text(name);
+            code_bits(code, len);
+            type_and_cbpc(row as u32);
+            newline();
+        }
+    }
+}
+
+fn cbpy(name: &[u8]) {
+    let codes = codes::cbpy_codes();
+    let lens = codes::cbpy_lens();
+    for i in 0..16 {
+        let code = codes[i];
+        let len = lens[i];
+        let row = codes::find_row(&codes, &lens, 16, window(code, len), 16);
+        if row < 16 {
+            text(name);
+            code_bits(code, len);
+            number(row as u32);
+            newline();
+        }
+    }
+}
+
 fn main() {
     tcoef(b"intra", TcoefTable::Intra);
     tcoef(b"inter", TcoefTable::Inter);
@@ -117,4 +159,6 @@ fn main() {
     rvlc(b"rvlc-inter", TcoefTable::Inter);
     dc_size(b"luminance", DcComponent::Luminance);
     dc_size(b"chrominance", DcComponent::Chrominance);
+    mcbpc(b"mcbpc");
+    cbpy(b"cbpy");
 }

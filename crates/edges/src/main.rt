@@ -1,4 +1,7 @@
-// Runs the edges that documents 01 and 02 name for bits and codes through the public functions, one a line.
+// Runs the edges that documents 01 and 02 name for bits and codes through the public functions, one a line;
+// then those of a macroblock's header.
+mod header;
+
 use bits::Cursor;
 use codes::DcComponent;
 use codes::TcoefTable;
@@ -10,16 +13,16 @@ use texture::Spelling;
 use texture::Spellings;
 use texture::TextureParseError;
 
-fn text(s: &[u8]) {
+pub(crate) fn text(s: &[u8]) {
     io::write_all(STDOUT_FILENO, s);
 }
 
-fn number(n: u64) {
+pub(crate) fn number(n: u64) {
     text(b" ");
     io::print_decimal(STDOUT_FILENO, n);
 }
 
-fn signed(n: i32) {
+pub(crate) fn signed(n: i32) {
     text(b" ");
     if n < 0 {
         text(b"-");
@@ -27,7 +30,7 @@ fn signed(n: i32) {
     io::print_decimal(STDOUT_FILENO, numbers::abs(n) as u64);
 }
 
-fn flag(set: bool) {
+pub(crate) fn flag(set: bool) {
     if set {
         number(1);
     } else {
@@ -41,11 +44,11 @@ fn refused(e: TextureParseError) {
     number(e.figure() as u64);
 }
 
-fn at_bit(at: usize) -> Cursor {
+pub(crate) fn at_bit(at: usize) -> Cursor {
     Cursor { bit_pos: at }
 }
 
-fn named(kind: &[u8], name: &[u8]) {
+pub(crate) fn named(kind: &[u8], name: &[u8]) {
     text(kind);
     text(b": ");
     text(name);
@@ -627,4 +630,5 @@ fn main() {
     reversible_list_ends();
     reversible_landings();
     spellings_in_lists();
+    header::all();
 }

@@ -2,8 +2,8 @@
 //
 // A line is signed decimal numbers parted by one space, the first its kind; those that are missing are 0. Flags are 0 or 1, a
 // component and a table 1 for chrominance and inter, a type is its place in Table B.1, 0 the missing one. `AT` is the start and
-// `BYTE ..` the data. Printed is `0` and what was accepted, or the refusal's number and figure; after a refusal of kinds 3, 4, 5, 7
-// and 8 also whether the lent memory is as before.
+// `BYTE ..` the data. Printed is `0` and what was accepted, or the refusal's number and figure; after a refusal of kinds 3, 4, 5, 7,
+// 8, 10 and 11 also whether the lent memory is as before.
 //
 //     1 COMPONENT AT BYTE ..                          size, difference, position
 //     2 REVERSIBLE TABLE AT BYTE ..                   last, run, level, position
@@ -15,14 +15,23 @@
 //                                                     bits, position, accepted, the samples lent
 //     8 DEPTH TO_EVEN VALUE (64)                      64 samples
 //
+// Of a header in the bits, with the quantiser before it; its own flag stands for AC_PRED:
+//
+//     9 QUANTISER AT BYTE ..                          position, FIELDS
+//     10 DC_CODED REVERSIBLE ROOM SETTING AT BYTE ..  bits, position, FIELDS, the samples lent
+//     11 DC_CODED REVERSIBLE ROOM STORED QUANTISER AC_PRED ALTERNATE EXEMPT TO_EVEN MATRIX AT BYTE ..
+//                                                     bits, position, accepted, FIELDS, the samples lent
+//
 //     SETTING: QUANTISER DEPTH METHOD AC_PRED ALTERNATE EXEMPT TO_EVEN A B C QUANTISER_A QUANTISER_C HAS_A HAS_C COLUMN (7) ROW (7)
 //     MATRIX. HEADER: NOT_CODED TYPE CBPC AC_PRED CBPY. MATRIX: 0, the default one; or 1 and 64 numbers. METHOD: 1 for method 1.
+//     FIELDS: HEADER, what dquant changes the quantiser by, the quantiser after it.
 mod feed;
 mod line;
 mod pixels;
 mod say;
 mod setting;
 mod symbols;
+mod whole;
 
 use feed::Reading;
 use libc::STDIN_FILENO;
@@ -40,6 +49,9 @@ fn answer(p: Picture, line: &[i32], store: &mut [i32]) -> Picture {
         6 => return pixels::opening(p, line),
         7 => return pixels::in_picture(p, line, store),
         8 => pixels::transform(line),
+        9 => whole::header(line),
+        10 => whole::macroblock(line),
+        11 => return whole::in_picture(p, line, store),
         _ => say::none(),
     }
     p

@@ -149,7 +149,7 @@ fn next(
         data,
         crate::symbols::cursor(line, at),
         crate::setting::header(line),
-        crate::setting::context_in_picture(line),
+        crate::setting::context_in_picture(line, 6),
         crate::setting::matrix(line, 15),
         samples,
         store,

@@ -1,4 +1,6 @@
 // What is printed, and lent memory before and after a call.
+use headers::DerivedMbType;
+use headers::HeaderFields;
 use libc::STDOUT_FILENO;
 
 // In lent memory before a call: a number that no call gives.
@@ -82,6 +84,31 @@ pub(crate) fn transformed() {
 pub(crate) fn refused(n: u32, figure: u32) {
     first(n);
     number(figure as u64);
+}
+
+// A type's place in Table B.1, 0 the missing one.
+fn place(t: DerivedMbType) -> u64 {
+    match t {
+        DerivedMbType::Missing => 0,
+        DerivedMbType::Inter => 1,
+        DerivedMbType::InterQ => 2,
+        DerivedMbType::Inter4V => 3,
+        DerivedMbType::Intra => 4,
+        DerivedMbType::IntraQ => 5,
+    }
+}
+
+// What is read of a header in bits.
+pub(crate) fn fields(f: HeaderFields) {
+    let header = f.header;
+    let mb_type = header.mb_type;
+    flag(header.not_coded);
+    number(place(mb_type));
+    number(header.cbpc as u64);
+    flag(header.ac_pred_flag);
+    number(header.cbpy as u64);
+    signed(f.dquant_delta);
+    number(f.quantiser_scale as u64);
 }
 
 // Of a kind that there is not.

@@ -27,17 +27,17 @@ pub(crate) fn context(line: &[i32], base: usize) -> MacroblockTextureContext {
     }
 }
 
-// Of kind 7.
-pub(crate) fn context_in_picture(line: &[i32]) -> MacroblockContext {
-    let idct_rounding = rule(crate::line::flag(line, 14, 0));
+// Nine numbers of kinds 7 and 11, from DC_CODED on.
+pub(crate) fn context_in_picture(line: &[i32], base: usize) -> MacroblockContext {
+    let idct_rounding = rule(crate::line::flag(line, base, 8));
     MacroblockContext {
-        quantiser_scale: crate::line::unsigned(line, 10, 0),
-        ac_pred_flag: crate::line::flag(line, 11, 0),
-        alternate_vertical_scan: crate::line::flag(line, 12, 0),
-        intra_mismatch_exempt: crate::line::flag(line, 13, 0),
+        quantiser_scale: crate::line::unsigned(line, base, 4),
+        ac_pred_flag: crate::line::flag(line, base, 5),
+        alternate_vertical_scan: crate::line::flag(line, base, 6),
+        intra_mismatch_exempt: crate::line::flag(line, base, 7),
         idct_rounding,
-        use_intra_dc_vlc: crate::line::flag(line, 6, 0),
-        reversible_vlc: crate::line::flag(line, 7, 0),
+        use_intra_dc_vlc: crate::line::flag(line, base, 0),
+        reversible_vlc: crate::line::flag(line, base, 1),
     }
 }
 

@@ -144,6 +144,10 @@ pub(crate) fn told_whole_in(d: PictureWholeDecoded, at: usize) -> Told
 {
     match d {
         PictureWholeDecoded::Refused(e) => crate::answer::refused(e, at),
-        PictureWholeDecoded::Decoded(bits, next, k, _, _) => crate::answer::accepted(bits, next.bit_pos, k),
+        PictureWholeDecoded::Decoded(bits, next, k, _, _) => crate::answer::accepted(
+            bits,
+            next.bit_pos,
+            k,
+        ),
     }
 }

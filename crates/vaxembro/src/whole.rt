@@ -59,7 +59,16 @@ pub extern "C" fn vaxembro_decode_intra_macroblock_with_header(
     let near = crate::lent::neighbours_of(neighbours);
     let w = crate::lent::matrix_of(matrix);
     let c = Cursor { bit_pos: at };
-    let d = macroblock::decode_intra_macroblock_with_header(data, c, dc_coded, rev, ctx, near, w, samples);
+    let d = macroblock::decode_intra_macroblock_with_header(
+        data,
+        c,
+        dc_coded,
+        rev,
+        ctx,
+        near,
+        w,
+        samples,
+    );
     crate::header::put_whole(header, d);
     let t = crate::header::told_whole(d, at);
     crate::answer::tell(answer, t)

@@ -39,9 +39,10 @@ returns c =
     let r = k .before .before .before in
     let x = r .before .before in
     let s = x .before .before .before in
-    let a = s .args in
-    (then-refused (now (a .«data»)) (a .c .«bit_pos») (a .use-intra-dc-vlc) (a .reversible-vlc) (a .ctx) (a .predictors) (a .w) (now (a .samples)) (s .pre .0) (a .fields) (a .next) (s .pre .1) _ (x .context-with .ensures) _ (r .decode-checked .ensures .0) (k .d .given .1),
-    then-samples (now (a .«data»)) (a .c .«bit_pos») (a .use-intra-dc-vlc) (a .reversible-vlc) (a .ctx) (a .predictors) (a .w) (now (a .samples)) (s .pre .0) (a .fields) (a .next) (s .pre .1) _ (x .context-with .ensures) _ (r .decode-checked .ensures .1))
+    let a = s .args in (
+      then-refused (now (a .«data»)) (a .c .«bit_pos») (a .use-intra-dc-vlc) (a .reversible-vlc) (a .ctx) (a .predictors) (a .w) (now (a .samples)) (s .pre .0) (a .fields) (a .next) (s .pre .1) _ (x .context-with .ensures) _ (r .decode-checked .ensures .0) (k .d .given .1),
+      then-samples (now (a .«data»)) (a .c .«bit_pos») (a .use-intra-dc-vlc) (a .reversible-vlc) (a .ctx) (a .predictors) (a .w) (now (a .samples)) (s .pre .0) (a .fields) (a .next) (s .pre .1) _ (x .context-with .ensures) _ (r .decode-checked .ensures .1),
+    )
 
 same-length-2 : tie.Need-same-length-2
 same-length-2 c = search needs
@@ -52,9 +53,10 @@ returns-2 c =
     let r = k .before .before .before in
     let x = r .before .before in
     let s = x .before .before .before in
-    let a = s .args in
-    (then-decoded (now (a .«data»)) (a .c .«bit_pos») (a .use-intra-dc-vlc) (a .reversible-vlc) (a .ctx) (a .predictors) (a .w) (now (a .samples)) (s .pre .0) (a .fields) (a .next) (s .pre .1) _ (x .context-with .ensures) _ (r .decode-checked .ensures .0) (k .d2 .given .1),
-    then-samples (now (a .«data»)) (a .c .«bit_pos») (a .use-intra-dc-vlc) (a .reversible-vlc) (a .ctx) (a .predictors) (a .w) (now (a .samples)) (s .pre .0) (a .fields) (a .next) (s .pre .1) _ (x .context-with .ensures) _ (r .decode-checked .ensures .1))
+    let a = s .args in (
+      then-decoded (now (a .«data»)) (a .c .«bit_pos») (a .use-intra-dc-vlc) (a .reversible-vlc) (a .ctx) (a .predictors) (a .w) (now (a .samples)) (s .pre .0) (a .fields) (a .next) (s .pre .1) _ (x .context-with .ensures) _ (r .decode-checked .ensures .0) (k .d2 .given .1),
+      then-samples (now (a .«data»)) (a .c .«bit_pos») (a .use-intra-dc-vlc) (a .reversible-vlc) (a .ctx) (a .predictors) (a .w) (now (a .samples)) (s .pre .0) (a .fields) (a .next) (s .pre .1) _ (x .context-with .ensures) _ (r .decode-checked .ensures .1),
+    )
 
 pub decode-after-spec : {M : Type 1} → statement M
 decode-after-spec = tie.close (tie.spec context-with-requires decode-checked-requires enum-known-d enum-known-d-2 sub-bits same-length returns same-length-2 returns-2)

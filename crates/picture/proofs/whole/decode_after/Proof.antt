@@ -21,9 +21,10 @@ decode-due-requires c κs =
     let d = c .before .before in
     let x = d .before in
     let s = x .before .before .before in
-    let a = s .args in
-    (due-fine (a .p) (brought s) (now (a .store)) (s .pre .0) (a .fields) (a .next) (s .pre .2) _ (x .context-with .ensures),
-    due-is (a .p) (brought s) (now (a .store)) (s .pre .0) (a .fields) (a .next) (s .pre .2) _ (x .context-with .ensures) (a .due) _ (s .pre .1) (d .due-with .ensures))
+    let a = s .args in (
+      due-fine (a .p) (brought s) (now (a .store)) (s .pre .0) (a .fields) (a .next) (s .pre .2) _ (x .context-with .ensures),
+      due-is (a .p) (brought s) (now (a .store)) (s .pre .0) (a .fields) (a .next) (s .pre .2) _ (x .context-with .ensures) (a .due) _ (s .pre .1) (d .due-with .ensures),
+    )
 
 enum-known-d : tie.Need-enum-known-d
 enum-known-d c = search needs
