@@ -48,7 +48,7 @@ installed() {
     mkdir "$prefix"
     (cd "$work" && "$here/install.sh" prefix && "$here/install.sh" ./prefix/)
     "$here/install.sh" "$work/not/there/yet"
-    printf './%s\n' include/vaxembro.h lib/libvaxembro.a lib/libvaxembro.so lib/libvaxembro.so.0.3 lib/pkgconfig/vaxembro.pc >"$work/due"
+    printf './%s\n' include/vaxembro.h lib/libvaxembro.a lib/libvaxembro.so lib/libvaxembro.so.0.4 lib/pkgconfig/vaxembro.pc >"$work/due"
     for folder in "$prefix" "$work/not/there/yet"; do
         files "$folder" | diff "$work/due" -
         grep -qx "prefix=$folder" "$folder/lib/pkgconfig/vaxembro.pc" || fail "the prefix of $folder"
@@ -82,7 +82,7 @@ c() {
         ${CC:-cc} -std=c99 $strict -Wconversion -o "$work/$name-shared" "$here/c/$name.c" $(flags)
     done
     ${CXX:-c++} -std=c++11 $strict -o "$work/example-cpp" -x c++ "$here/c/example.c" -x none $(flags)
-    readelf -d "$work/example-shared" | grep -q 'NEEDED.*\[libvaxembro\.so\.0\.3\]' || fail 'not linked to the shared library'
+    readelf -d "$work/example-shared" | grep -q 'NEEDED.*\[libvaxembro\.so\.0\.4\]' || fail 'not linked to the shared library'
     prints "$work/example-static" "$worked"
     "$work/test-static"
     (
@@ -150,7 +150,7 @@ rattle() {
         on && within && /^(    |$)/ { print substr($0, 5) >("listing" n ".rt") }
         /^[^ ]/ { within = 0 }
     ' "$top/README.md"
-    [ "$(grep -c '^mod ' lib.rt)" -eq 2 ] || fail 'two listings in Rattle'
+    [ "$(grep -c '^mod ' lib.rt)" -eq 3 ] || fail 'three listings in Rattle'
     cd "$work"
     quietly rt check listing
     grep 'listing proved' "$work/say"

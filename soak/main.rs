@@ -1,6 +1,7 @@
 // A great many mixed calls of the C interface in one process. Each must give what is due, document 01's number first; a refused one must
-// leave state, samples and store as they were; memory use must stay; and at the end a picture must come out as it did at first.
-use calls::{ANSWER, Answer, Call, Outcome, refused};
+// leave state, samples, store and header as they were; an accepted one with its header in the bits must leave what one with the same header
+// handed in leaves; memory use must stay; and at the end a picture must come out as it did at first.
+use calls::{ANSWER, Answer, Call, HEADER, LentHeader, Outcome, refused};
 use common::dice::Dice;
 use std::io::Read;
 use std::time::Instant;
@@ -14,13 +15,14 @@ mod common {
     pub mod dice;
     pub mod sentence;
 }
+mod headers;
 mod texture;
 
 // How far memory use may lie above that of the first calls, which the system tells only roughly.
 const SLACK_KB: usize = 256;
 
 // The numbers by which a call may be refused.
-const NUMBERS: [usize; 16] = [1, 2, 3, 4, 5, 6, 7, 8, 9, 10, 11, 12, 13, 14, 15, 17];
+const NUMBERS: [usize; 17] = [1, 2, 3, 4, 5, 6, 7, 8, 9, 10, 11, 12, 13, 14, 15, 16, 17];
 
 // An answer before each call.
 const UNTOLD: Answer = [991, 992, 993, 994, 995, 996, 997, 998, 999, 1000, 1001];
@@ -31,12 +33,14 @@ struct Lent {
     state: [u32; 6],
     samples: [i32; 388],
     store: Vec<i32>,
+    header: LentHeader,
 }
 
-// A picture that calls are made in, and a copy of its memory.
+// A picture that calls are made in, a copy of its memory, and memory for a call beside it.
 struct Slot {
     lent: Lent,
     kept: Lent,
+    beside: Lent,
     // a picture or a store that no opening made: it is never opened anew
     elsewhere: bool,
     answer: Answer,
@@ -48,10 +52,12 @@ impl Slot {
             state: [77; 6],
             samples: [-1; 388],
             store: vec![stored; 192 * width + 4],
+            header: [-1; HEADER + 2],
         };
         lent.state[..5].copy_from_slice(&state);
         Slot {
             kept: lent.clone(),
+            beside: lent.clone(),
             lent,
             elsewhere,
             answer: UNTOLD,
@@ -63,10 +69,10 @@ impl Slot {
         accepted >= width * height
     }
 
-    // Document 01's number by the state: 11, 12, 14, 15, 13, 9, 10.
+    // Document 01's number by the state: 11, 12, 14, 15, 13, and of a header that is handed in 9, 10.
     fn due(&self, call: &Call) -> Outcome {
         let [width, height, depth, method, accepted, _] = self.kept.state;
-        if call.state_len < 5 || call.matrix_len < 64 || call.answer_len < ANSWER {
+        if call.state_len < 5 || call.too_short() {
             return refused(14);
         }
         if !(1..=45).contains(&width) || !(1..=36).contains(&height) || !call.data_fine() {
@@ -92,9 +98,18 @@ impl Slot {
         let due = self.due(call);
         self.answer = UNTOLD;
         let lent = &mut self.lent;
-        let given = call.make_in_picture(&mut lent.state, &mut lent.samples, &mut lent.store, &mut self.answer);
+        let given = call.make_in_picture(
+            &mut lent.state,
+            &mut lent.samples,
+            &mut lent.store,
+            &mut lent.header,
+            &mut self.answer,
+        );
         self.answered("in a picture", call, given, due);
         if given == 0 {
+            if let Some(after) = &call.after {
+                self.as_handed_in(call, after);
+            }
             self.kept.state[4] += 1;
             self.accepted(call, self.kept.state[2]);
         }
@@ -102,10 +117,44 @@ impl Slot {
         given
     }
 
+    // The same call with its header handed in leaves the same, over the memory as it was before.
+    fn as_handed_in(&mut self, call: &Call, after: &Call) {
+        let (lent, beside, kept) = (&self.lent, &mut self.beside, &self.kept);
+        (beside.state, beside.samples) = (kept.state, kept.samples);
+        beside.store.copy_from_slice(&kept.store);
+        let mut answer = UNTOLD;
+        let given = after.make_in_picture(
+            &mut beside.state,
+            &mut beside.samples,
+            &mut beside.store,
+            &mut beside.header,
+            &mut answer,
+        );
+        answer[2] += call.header.bits;
+        let same = beside.state == lent.state && beside.samples == lent.samples && beside.store == lent.store;
+        if given != 0 || !same || answer != self.answer {
+            differs("beside the header handed in", call);
+        }
+    }
+
+    fn header(&mut self, call: &Call) -> u32 {
+        let due = call.header_due();
+        self.answer = UNTOLD;
+        let given = call.make_header(&mut self.lent.header, &mut self.answer);
+        self.answered("a header", call, given, due);
+        if given == 0 {
+            self.kept.header[..HEADER].copy_from_slice(&call.fields);
+        }
+        if self.lent.header != self.kept.header {
+            differs("the fields of a header", call);
+        }
+        given
+    }
+
     fn alone(&mut self, call: &Call) -> u32 {
         let due = call.alone_due();
         self.answer = UNTOLD;
-        let given = call.make_alone(&mut self.lent.samples, &mut self.answer);
+        let given = call.make_alone(&mut self.lent.samples, &mut self.lent.header, &mut self.answer);
         self.answered("alone", call, given, due);
         if given == 0 {
             if self.lent.samples[..384] != call.alone {
@@ -113,8 +162,8 @@ impl Slot {
             }
             self.accepted(call, call.bits_per_pixel);
         }
-        if self.lent.samples != self.kept.samples {
-            differs("samples of a refused macroblock alone", call);
+        if self.lent.samples != self.kept.samples || self.lent.header != self.kept.header {
+            differs("samples or header after a macroblock alone", call);
         }
         given
     }
@@ -138,6 +187,9 @@ impl Slot {
         let (lent, kept) = (&self.lent, &mut self.kept);
         if lent.samples[..384].iter().any(|z| !(0..1 << depth).contains(z)) {
             differs("samples out of range", call);
+        }
+        if call.with_header {
+            kept.header[..HEADER].copy_from_slice(&call.fields);
         }
         kept.samples[..384].copy_from_slice(&lent.samples[..384]);
         let most = 192 * kept.state[0].min(45) as usize;
@@ -183,15 +235,17 @@ fn differs(what: &str, call: &Call) -> ! {
     std::process::exit(1);
 }
 
-// A whole picture over this store: every answer and all samples.
+// A whole picture over this store: every answer, all samples and every header.
 fn picture(good: &[&Call], store: &mut [i32]) -> Vec<i32> {
-    let (mut state, mut samples, mut all) = ([0; 5], [0; 384], Vec::with_capacity(45 * 36 * (ANSWER + 384)));
+    let (mut state, mut samples, mut header) = ([0; 5], [0; 384], LentHeader::default());
+    let mut all = Vec::with_capacity(45 * 36 * (ANSWER + 384 + header.len()));
     assert_eq!(unsafe { ffi::vaxembro_open(45, 36, 8, 1, state.as_mut_ptr(), 5) }, 0);
     for k in 0..45 * 36 {
         let mut answer = Answer::default();
-        good[k % good.len()].make_in_picture(&mut state, &mut samples, store, &mut answer);
+        good[k % good.len()].make_in_picture(&mut state, &mut samples, store, &mut header, &mut answer);
         all.extend(answer[..ANSWER].iter().map(|&n| n as i32));
         all.extend_from_slice(&samples);
+        all.extend_from_slice(&header);
     }
     assert_eq!(state[4], 45 * 36);
     all
@@ -228,6 +282,7 @@ fn step(dice: &mut Dice, slots: &mut [Slot], pool: &[Call]) -> u32 {
         0 => slot.open(dice),
         _ if slot.complete() && !slot.elsewhere && dice.below(2) == 0 => slot.open(dice),
         1..=4 => slot.alone(call),
+        5 => slot.header(call),
         _ => slot.in_picture(call),
     }
 }
@@ -237,11 +292,13 @@ fn main() {
         .nth(1)
         .map_or(100_000_000, |n| n.parse().expect("a number of calls"));
     let mut dice = Dice(1);
-    let pool = calls::pool(&mut dice, 4096);
+    let pool = calls::pool(&mut dice, 8192);
     let lent_whole = |c: &Call| c.state_len == 5 && c.store_len == usize::MAX;
     let good: Vec<&Call> = pool.iter().filter(|c| c.alone_due().number == 0 && lent_whole(c)).collect();
     let spelled = |k: usize| good.iter().any(|c| c.bits.spellings[k] > 0);
     fine((0..5).all(spelled), "a spelling that no call has");
+    let changed = |by: i32| good.iter().any(|c| c.with_header && c.fields[4] == by);
+    fine((-2..3).all(changed), "a change of the quantiser that no call has");
     let mut slots = slots();
     let at_first = picture(&good, &mut vec![i32::MIN; 192 * 45]);
     let (mut counts, start) = ([0u64; 18], Instant::now());

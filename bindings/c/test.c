@@ -25,6 +25,11 @@ enum { BYTES = 1536, DC = VAXEMBRO_USE_INTRA_DC_VLC, RVLC = VAXEMBRO_REVERSIBLE_
 #define ESCAPE "00001 0 000000 1 00000000001 1 0000 0"
 #define LAST_ESCAPE "00001 1 000000 1 00000000001 1 0000 0"
 
+/* Difference 0 six times, no block coded. */
+#define DC_PARTS "011 011 011 011 11 11"
+
+#define STUFFING "000000001"
+
 /* What is lent: no pointer where the length is 0. */
 #define LENT(pointer, length) ((length) == 0 ? NULL : (pointer)), (length)
 
@@ -32,6 +37,16 @@ static const uint8_t default_matrix[VAXEMBRO_MATRIX] = {
     8,  17, 18, 19, 21, 23, 25, 27, 17, 18, 19, 21, 23, 25, 27, 28, 20, 21, 22, 23, 24, 26, 28, 30, 21, 22, 23, 24, 26, 28, 30, 32,
     22, 23, 24, 26, 28, 30, 32, 35, 23, 24, 26, 28, 30, 32, 35, 38, 25, 26, 28, 30, 32, 35, 38, 41, 27, 28, 30, 32, 35, 38, 41, 45,
 };
+
+/* mcbpc: intra and intra with a quantiser change, by cbpc; cbpy by its value; dquant, and what it changes the quantiser by. Each header is
+ * tried without dquant and with each. */
+static const char *const mcbpc[2][4] = {{"1", "001", "010", "011"}, {"0001", "000001", "000010", "000011"}};
+static const char *const cbpy[16] = {"0011",  "00101",  "00100", "1001", "00011", "0111", "000010", "1011",
+                                     "00010", "000011", "0101",  "1010", "0100",  "1000", "0110",   "11"};
+static const struct {
+    const char *bits;
+    int32_t change;
+} dquant[] = {{"", 0}, {"00", -1}, {"01", -2}, {"10", 1}, {"11", 2}};
 
 static const uint32_t none[SPELLINGS];
 static uint8_t too_long[MOST + 1];
@@ -62,7 +77,7 @@ struct call {
     int32_t neighbours[VAXEMBRO_NEIGHBOURS];
     size_t neighbours_len;
     uint8_t matrix[VAXEMBRO_MATRIX];
-    size_t matrix_len, samples_len, store_len, answer_len;
+    size_t matrix_len, samples_len, store_len, header_len, answer_len;
     int32_t stored;
     uint32_t spelled[SPELLINGS]; /* what is due */
 };
@@ -72,6 +87,7 @@ struct lent {
     uint32_t state[VAXEMBRO_STATE + 1];
     int32_t samples[VAXEMBRO_SAMPLES + 1];
     int32_t store[3 * VAXEMBRO_STORE + 1];
+    int32_t header[VAXEMBRO_HEADER + 2];
     size_t answer[VAXEMBRO_ANSWER + 2];
 };
 
@@ -116,7 +132,7 @@ static void worked(struct call *c)
     memset(c, 0, sizeof *c);
     memcpy(c->state, state, sizeof state);
     c->state_len = VAXEMBRO_STATE;
-    put(c, "011 011 011 011 11 11");
+    put(c, DC_PARTS);
     c->mb_type = VAXEMBRO_INTRA;
     c->quantiser_scale = 8;
     c->bits_per_pixel = 8;
@@ -127,6 +143,7 @@ static void worked(struct call *c)
     c->matrix_len = VAXEMBRO_MATRIX;
     c->samples_len = VAXEMBRO_SAMPLES;
     c->store_len = VAXEMBRO_STORE;
+    c->header_len = VAXEMBRO_HEADER;
     c->answer_len = VAXEMBRO_ANSWER;
     c->stored = -7;
 }
@@ -137,6 +154,7 @@ static void lend(const struct call *c, struct lent *l)
     memcpy(l->state, c->state, sizeof l->state);
     for (size_t k = 0; k < sizeof l->samples / sizeof *l->samples; k++) l->samples[k] = 1000000 + (int32_t)k;
     for (size_t k = 0; k < sizeof l->store / sizeof *l->store; k++) l->store[k] = c->stored;
+    for (size_t k = 0; k < sizeof l->header / sizeof *l->header; k++) l->header[k] = 800 + (int32_t)k;
     for (size_t k = 0; k < sizeof l->answer / sizeof *l->answer; k++) l->answer[k] = 900 + k;
 }
 
@@ -152,6 +170,27 @@ static uint32_t alone(const struct call *c, struct lent *l)
     return vaxembro_decode_intra_macroblock(LENT(c->data, c->data_len), c->at, c->mb_type, c->cbpy, c->cbpc, c->quantiser_scale,
                                             c->bits_per_pixel, c->flags, LENT(c->neighbours, c->neighbours_len),
                                             LENT(c->matrix, c->matrix_len), LENT(l->samples, c->samples_len),
+                                            LENT(l->answer, c->answer_len));
+}
+
+/* The same with the header in the bits, and the header by itself. */
+static uint32_t headed_in_picture(const struct call *c, struct lent *l)
+{
+    return vaxembro_decode_macroblock_with_header(
+        LENT(l->state, c->state_len), LENT(c->data, c->data_len), c->at, c->quantiser_scale, c->flags, LENT(c->matrix, c->matrix_len),
+        LENT(l->samples, c->samples_len), LENT(l->store, c->store_len), LENT(l->header, c->header_len), LENT(l->answer, c->answer_len));
+}
+
+static uint32_t headed_alone(const struct call *c, struct lent *l)
+{
+    return vaxembro_decode_intra_macroblock_with_header(
+        LENT(c->data, c->data_len), c->at, c->quantiser_scale, c->bits_per_pixel, c->flags, LENT(c->neighbours, c->neighbours_len),
+        LENT(c->matrix, c->matrix_len), LENT(l->samples, c->samples_len), LENT(l->header, c->header_len), LENT(l->answer, c->answer_len));
+}
+
+static uint32_t header_only(const struct call *c, struct lent *l)
+{
+    return vaxembro_parse_macroblock_header(LENT(c->data, c->data_len), c->at, c->quantiser_scale, LENT(l->header, c->header_len),
                                             LENT(l->answer, c->answer_len));
 }
 
@@ -174,8 +213,20 @@ static void answered(const char *what, const struct lent *l, uint32_t number, ui
     check(a[9] == 909 && a[10] == 910, "%s: written past the answer", what);
 }
 
-/* Refused: state, samples and store are as they were, and the position is the one before the call. */
-static void refused(const char *what, decode *with, const struct call *c, uint32_t number, uint32_t figure)
+/* The six numbers of a header. */
+struct fields {
+    int32_t type, cbpc, ac_pred_flag, cbpy, dquant, quantiser;
+};
+
+static void header_is(const char *what, const struct lent *l, struct fields f)
+{
+    const int32_t due[VAXEMBRO_HEADER + 2] = {f.type, f.cbpc, f.ac_pred_flag, f.cbpy, f.dquant, f.quantiser, 806, 807};
+    for (int k = 0; k < VAXEMBRO_HEADER + 2; k++)
+        check(l->header[k] == due[k], "%s: number %d of the header is %d, %d due", what, k, (int)l->header[k], (int)due[k]);
+}
+
+/* Refused: what is lent is as it was, and the position is the one before the call. */
+static void refused_by(const char *what, decode *with, const struct call *c, uint32_t number, uint32_t figure)
 {
     struct lent before, l;
     lend(c, &before);
@@ -188,7 +239,7 @@ static void refused(const char *what, decode *with, const struct call *c, uint32
 }
 
 /* The answer is too short: nothing at all is written. */
-static void unanswered(const char *what, decode *with, const struct call *c)
+static void unanswered_by(const char *what, decode *with, const struct call *c)
 {
     struct lent before, l;
     lend(c, &before);
@@ -198,8 +249,8 @@ static void unanswered(const char *what, decode *with, const struct call *c)
     check(memcmp(&l, &before, sizeof l) == 0, "%s: lent memory was written", what);
 }
 
-/* Accepted with so many bits and the events that are due; the samples are left in l. */
-static void accepted(const char *what, decode *with, const struct call *c, size_t bits, struct lent *l)
+/* Accepted with so many bits and the events that are due; what is written is left in l. */
+static void accepted_by(const char *what, decode *with, const struct call *c, size_t bits, struct lent *l)
 {
     lend(c, l);
     uint32_t given = with(c, l);
@@ -209,7 +260,116 @@ static void accepted(const char *what, decode *with, const struct call *c, size_
     check(l->store[c->store_len] == c->stored, "%s: written past the store", what);
     check(l->state[VAXEMBRO_STATE] == 77, "%s: written past the state", what);
     check(memcmp(l->state, c->state, 3 * sizeof *l->state) == 0 && (l->state[3] != 0) == (c->state[3] != 0), "%s: another picture", what);
-    check(l->state[4] == c->state[4] + (with == in_picture), "%s: %u accepted", what, (unsigned)l->state[4]);
+    check(l->state[4] == c->state[4] + (with == in_picture || with == headed_in_picture), "%s: %u accepted", what, (unsigned)l->state[4]);
+}
+
+/* A header by itself: so many bits, and nothing is written but header and answer. */
+static void parsed(const char *what, const struct call *c, size_t bits, struct fields due)
+{
+    struct lent before, l;
+    lend(c, &before);
+    lend(c, &l);
+    uint32_t given = header_only(c, &l);
+    check(given == 0, "%s: header refused by %u", what, (unsigned)given);
+    answered(what, &l, 0, 0, bits, c->at + bits, none);
+    header_is(what, &l, due);
+    memcpy(before.header, l.header, sizeof l.header);
+    memcpy(before.answer, l.answer, sizeof l.answer);
+    check(memcmp(&l, &before, sizeof l) == 0, "%s: a header wrote more", what);
+}
+
+/* The call c with a header in its bits, number k of the dquants in it. Stuffing stands before it, and flags that are not looked at are
+ * turned round. How many bits the header has; 0 where there is no such header. */
+static size_t put_header(struct call *h, const struct call *c, size_t k, struct fields *due)
+{
+    char text[80] = "";
+    int32_t q = (int32_t)c->quantiser_scale, before = q - dquant[k].change;
+    if (k > 0 && (q < 1 || q > 31 || before < 1 || before > 31)) return 0;
+    due->type = k == 0 ? VAXEMBRO_INTRA : VAXEMBRO_INTRA_Q;
+    due->cbpc = c->cbpc & 3;
+    due->ac_pred_flag = (c->flags & VAXEMBRO_AC_PRED) != 0;
+    due->cbpy = c->cbpy & 15;
+    due->dquant = dquant[k].change;
+    due->quantiser = q;
+    for (size_t s = 0; s < k % 3; s++) strcat(text, STUFFING);
+    strcat(strcat(text, mcbpc[k > 0][due->cbpc]), due->ac_pred_flag ? "1" : "0");
+    strcat(strcat(text, cbpy[due->cbpy]), dquant[k].bits);
+    *h = *c;
+    h->quantiser_scale = (uint32_t)before;
+    if (k % 2 == 1) h->flags = (c->flags | VAXEMBRO_NOT_CODED) ^ VAXEMBRO_AC_PRED;
+    memset(h->bytes, 0, sizeof h->bytes);
+    /* before `at` as in c, up to the header ones, and after it the rest of c */
+    size_t n = strlen(text), more = (n + 7) / 8 * 8, all = 8 * c->data_len + more;
+    h->at = c->at + more - n;
+    for (size_t b = 0; b < all; b++) {
+        size_t from = b < c->at ? b : b - more;
+        int one = 1;
+        if (b < c->at || b >= c->at + more) one = c->data[from / 8] >> (7 - from % 8) & 1;
+        else if (b >= h->at) one = text[b - h->at] == '1';
+        if (one) h->bytes[b / 8] |= (uint8_t)(128 >> b % 8);
+    }
+    h->data = h->bytes;
+    h->data_len = all / 8;
+    return n;
+}
+
+/* The same kind of call with the header in the bits, where there is room for it. */
+static decode *headed(decode *with, const struct call *c)
+{
+    if (c->data_len + 16 > BYTES || c->at > 8 * c->data_len) return NULL;
+    return with == in_picture ? headed_in_picture : with == alone ? headed_alone : NULL;
+}
+
+enum { DQUANTS = sizeof dquant / sizeof *dquant };
+
+/* Refused, and with a header before the bits too, which is fine by itself. */
+static void refused(const char *what, decode *with, const struct call *c, uint32_t number, uint32_t figure)
+{
+    decode *by = headed(with, c);
+    struct call h;
+    struct fields due;
+    refused_by(what, with, c, number, figure);
+    /* such a header is not in bits */
+    if (by == NULL || number == VAXEMBRO_NOT_CODED_MACROBLOCK || number == VAXEMBRO_NOT_INTRA) return;
+    for (size_t k = 0; k < DQUANTS; k++) {
+        size_t n = put_header(&h, c, k, &due);
+        if (n == 0) continue;
+        refused_by(what, by, &h, number, figure);
+        if (number <= VAXEMBRO_OVERFLOW || number == VAXEMBRO_ENDED_INSIDE_CODE) parsed(what, &h, n, due);
+    }
+}
+
+static void unanswered(const char *what, decode *with, const struct call *c)
+{
+    decode *by = headed(with, c);
+    struct call h;
+    struct fields due;
+    unanswered_by(what, with, c);
+    for (size_t k = 0; by != NULL && k < DQUANTS; k++) {
+        if (put_header(&h, c, k, &due) == 0) continue;
+        unanswered_by(what, by, &h);
+        unanswered_by(what, header_only, &h);
+    }
+}
+
+/* Accepted, and with a header before the bits too, which leaves the same samples, state and store. */
+static void accepted(const char *what, decode *with, const struct call *c, size_t bits, struct lent *l)
+{
+    decode *by = headed(with, c);
+    struct call h;
+    struct lent m;
+    struct fields due;
+    accepted_by(what, with, c, bits, l);
+    for (size_t k = 0; by != NULL && k < DQUANTS; k++) {
+        size_t n = put_header(&h, c, k, &due);
+        if (n == 0) continue;
+        accepted_by(what, by, &h, n + bits, &m);
+        header_is(what, &m, due);
+        check(memcmp(m.samples, l->samples, sizeof m.samples) == 0, "%s: other samples with a header", what);
+        check(memcmp(m.state, l->state, sizeof m.state) == 0, "%s: another state with a header", what);
+        check(memcmp(m.store, l->store, sizeof m.store) == 0, "%s: another store with a header", what);
+        parsed(what, &h, n, due);
+    }
 }
 
 /* Over the memory that an earlier call left. */
@@ -893,6 +1053,470 @@ static void bad_neighbours(void)
     refused("no neighbours", alone, &c, VAXEMBRO_TOO_SHORT, 0);
 }
 
+/* The worked case with its header: 8D B6 FC, 22 bits. */
+static void worked_with_header(struct call *c)
+{
+    worked(c);
+    put(c, "1 0 0011" DC_PARTS);
+}
+
+static void header_and_blocks(void)
+{
+    static const uint8_t data[] = {0x8D, 0xB6, 0xFC};
+    static const struct fields due = {VAXEMBRO_INTRA, 0, 0, 0, 0, 8};
+    struct call c;
+    struct lent l;
+    worked_with_header(&c);
+    check(c.data_len == 3 && memcmp(c.data, data, 3) == 0, "the worked case's bytes");
+    for (int k = 0; k < 2; k++) {
+        accepted_by("worked case with a header", k ? headed_alone : headed_in_picture, &c, 22, &l);
+        flat("worked case with a header", &l, 0, 5, 128);
+        header_is("worked case with a header", &l, due);
+    }
+    parsed("worked case's header", &c, 6, due);
+    /* stuffing before it, and other bits after it */
+    put(&c, "10110" STUFFING "1 0 0011" DC_PARTS "0101");
+    c.at = 5;
+    for (int k = 0; k < 2; k++) {
+        accepted_by("stuffing", k ? headed_alone : headed_in_picture, &c, 31, &l);
+        flat("stuffing", &l, 0, 5, 128);
+        header_is("stuffing", &l, due);
+    }
+    parsed("a header after stuffing", &c, 15, due);
+    /* 1,000 times stuffing: bit 9 n + 8 is 1 */
+    worked_with_header(&c);
+    memset(c.bytes, 0, sizeof c.bytes);
+    for (size_t n = 0; n < 1000; n++) c.bytes[(9 * n + 8) / 8] |= (uint8_t)(128 >> (9 * n + 8) % 8);
+    memcpy(c.bytes + 1125, data, sizeof data);
+    c.data_len = 1128;
+    for (int k = 0; k < 2; k++) {
+        accepted_by("stuffing 1,000 times", k ? headed_alone : headed_in_picture, &c, 9022, &l);
+        flat("stuffing 1,000 times", &l, 0, 5, 128);
+    }
+    parsed("a header after stuffing 1,000 times", &c, 9006, due);
+    c.data_len = 1125;
+    refused_by("stuffing and no bits", header_only, &c, VAXEMBRO_TRUNCATED, 0);
+    refused_by("stuffing and no bits", headed_in_picture, &c, VAXEMBRO_TRUNCATED, 0);
+    refused_by("stuffing and no bits", headed_alone, &c, VAXEMBRO_TRUNCATED, 0);
+    /* no DC codes and no block coded: the header is all */
+    worked(&c);
+    put_last(&c, "1 0 0011");
+    c.flags = 0;
+    for (int k = 0; k < 2; k++) {
+        accepted_by("only a header", k ? headed_alone : headed_in_picture, &c, 6, &l);
+        flat("only a header", &l, 0, 5, 128);
+    }
+}
+
+/* Every header, at the end of the data and before others. */
+static void every_header(void)
+{
+    struct call c;
+    char text[80];
+    for (int n = 0; n < 4 * 2 * 16 * DQUANTS; n++) {
+        int chroma = n & 3, flag = n >> 2 & 1, luma = n >> 3 & 15, k = n >> 7;
+        const struct fields due = {k == 0 ? VAXEMBRO_INTRA : VAXEMBRO_INTRA_Q, chroma, flag, luma, dquant[k].change, 8 + dquant[k].change};
+        text[0] = 0;
+        if (n % 5 == 0) strcat(text, STUFFING);
+        strcat(strcat(text, mcbpc[k > 0][chroma]), flag ? "1" : "0");
+        strcat(strcat(text, cbpy[luma]), dquant[k].bits);
+        size_t bits = strlen(text);
+        worked(&c);
+        put_last(&c, text);
+        parsed("every header", &c, bits, due);
+        put(&c, strcat(text, n % 3 ? "000000000" : "111111111"));
+        c.at = 0;
+        parsed("every header, and more", &c, bits, due);
+    }
+}
+
+/* dquant near the limits. A level of -1 is 3, 5, 9 and 11 at quantisers 1 to 4 (the first wave of 0.53, 0.88, 1.59, 1.94 beside 128). At 28
+ * to 31 the luma scaler is 40, 42, 44, 46: 26 * 40 / 8 = 130, 24 * 42 / 8 = 126, 23 * 44 / 8 = 126.5, 22 * 46 / 8 = 126.5; the chroma
+ * scaler is 22 to 25: 47 * 22 / 8 = 129.25, 45 * 23 / 8 = 129.375, 43 * 24 / 8 = 129, 41 * 25 / 8 = 128.125. */
+static void dquants(void)
+{
+    static const int32_t before[] = {1, 2, 30, 31}, after[][4] = {{1, 1, 2, 3}, {1, 1, 3, 4}, {29, 28, 31, 31}, {30, 29, 31, 31}};
+    static const int32_t waves[][8] = {{127, 128, 128, 128, 128, 128, 128, 129},
+                                       {127, 127, 128, 128, 128, 128, 129, 129},
+                                       {126, 127, 127, 128, 128, 129, 129, 130},
+                                       {126, 126, 127, 128, 128, 129, 130, 130}};
+    static const int32_t luma[] = {130, 126, 127, 127}, chroma[] = {129, 129, 129, 128};
+    struct call c;
+    struct lent l;
+    char text[80];
+    for (size_t n = 0; n < 16; n++) {
+        int32_t q = after[n / 4][n % 4];
+        const struct fields due = {VAXEMBRO_INTRA_Q, 0, 0, q < 5 ? 8 : 0, dquant[n % 4 + 1].change, q};
+        strcpy(text, "0001 0");
+        strcat(strcat(text, q < 5 ? "00010" : "0011"), dquant[n % 4 + 1].bits);
+        strcat(text, q < 5 ? "011" P3 "011 011 011 11 11" : DC_PARTS);
+        worked(&c);
+        put_events(&c, text, q < 5, 0, 0, 0, 0);
+        c.quantiser_scale = (uint32_t)before[n / 4];
+        for (int k = 0; k < 2; k++) {
+            accepted_by("dquant", k ? headed_alone : headed_in_picture, &c, q < 5 ? 33 : 27, &l);
+            header_is("dquant", &l, due);
+            if (q < 5) rows_are("dquant", &l, 0, 0, 0, waves[q - 1]);
+            flat("dquant", &l, q < 5, 3, q < 5 ? 128 : luma[q - 28]);
+            flat("dquant", &l, 4, 5, q < 5 ? 128 : chroma[q - 28]);
+        }
+        parsed("dquant", &c, q < 5 ? 12 : 11, due);
+    }
+}
+
+/* The header's ac_pred_flag counts and that of the flags does not: the values are those of `neighbours` and `ac_prediction`. */
+static void flag_of_the_header(void)
+{
+    static const int32_t luma[8] = {121, 122, 124, 127, 129, 132, 134, 135}, chroma[8] = {121, 122, 124, 126, 129, 131, 133, 134};
+    static const int32_t wave[8] = {124, 125, 126, 127, 129, 130, 131, 132};
+    static const uint32_t flags[] = {DC, DC | VAXEMBRO_AC_PRED, DC | VAXEMBRO_NOT_CODED, DC | VAXEMBRO_NOT_CODED | VAXEMBRO_AC_PRED};
+    struct call c;
+    struct lent l;
+    for (size_t k = 0; k < 4; k++) {
+        worked(&c);
+        c.flags = flags[k];
+        c.neighbours[3] = 16;
+        c.neighbours[5] = 1;
+        c.neighbours[7] = -1;
+        put(&c, "1 1 0011" DC_PARTS);
+        accepted_by("a header's flag 1", headed_alone, &c, 22, &l);
+        rows_are("a header's flag 1", &l, 0, 3, 1, luma);
+        rows_are("a header's flag 1", &l, 4, 5, 1, chroma);
+        put(&c, "1 0 0011" DC_PARTS);
+        accepted_by("a header's flag 0", headed_alone, &c, 22, &l);
+        flat("a header's flag 0", &l, 0, 5, 128);
+        put_events(&c, "1 1 00010 011 01111 011 011 011 11 11", 1, 0, 0, 0, 0);
+        accepted_by("a header's flag 1 in a picture", headed_in_picture, &c, 28, &l);
+        rows_are("a header's flag 1 in a picture", &l, 0, 1, 1, wave);
+        flat("a header's flag 1 in a picture", &l, 2, 5, 128);
+        put_events(&c, "1 0 00010 011 01111 011 011 011 11 11", 1, 0, 0, 0, 0);
+        accepted_by("a header's flag 0 in a picture", headed_in_picture, &c, 28, &l);
+        rows_are("a header's flag 0 in a picture", &l, 0, 0, 0, wave);
+        flat("a header's flag 0 in a picture", &l, 1, 5, 128);
+    }
+}
+
+/* Two macroblocks, the first with dquant 2 from 10 to 12, the second with -2 from there.
+ *
+ * At 12 both scalers give 1020, 127.5; the level -3 of block 1, scanned down, is 12 * 7 - 1 = 83, a wave of 14.67. The second takes it for
+ * its first two blocks as -3 * 12 / 10 = -3.6, -4, which is 10 * 9 - 1 = 89, a wave of 15.73, beside 57 * 18 / 8 = 128.25; from a quantiser
+ * of 10 it would be -3. Its blocks 2 and 3 take zeros of its block 0, and the chroma is 93 * 11 / 8 = 127.875. */
+static void quantiser_of_the_header(void)
+{
+    static const char bits[] = "0001 1 00011 11  011 011 0000011 11 1 000000 1 111111111101 1 011 011 11 11"
+                               "0001 1 0011 01" DC_PARTS;
+    static const int32_t first[8] = {113, 115, 119, 125, 130, 136, 140, 142}, second[8] = {113, 115, 120, 125, 131, 137, 141, 144};
+    static const struct fields to_12 = {VAXEMBRO_INTRA_Q, 0, 1, 4, 2, 12}, to_10 = {VAXEMBRO_INTRA_Q, 0, 1, 0, -2, 10};
+    struct call c, base;
+    struct lent l, m;
+    worked(&c);
+    c.state[0] = 2;
+    c.store_len = 2 * VAXEMBRO_STORE;
+    put_events(&c, bits, 0, 0, 0, 1, 0);
+    c.quantiser_scale = 10;
+    accepted_by("to 12", headed_in_picture, &c, 58, &l);
+    header_is("to 12", &l, to_12);
+    flat("to 12", &l, 0, 0, 128);
+    rows_are("to 12", &l, 1, 1, 1, first);
+    flat("to 12", &l, 2, 5, 128);
+    /* the same without headers in the bits */
+    base = c;
+    base.at = 12;
+    base.quantiser_scale = 12;
+    base.cbpy = 4;
+    base.flags = DC | VAXEMBRO_AC_PRED;
+    accepted_by("at 12", in_picture, &base, 46, &m);
+    check(memcmp(l.store, m.store, sizeof m.store) == 0, "to 12: store");
+
+    put_events(&c, bits, 0, 0, 0, 0, 0);
+    c.at = 58;
+    c.quantiser_scale = (uint32_t)l.header[5];
+    then("from 12 to 10", headed_in_picture, &c, 0, 27, &l);
+    header_is("from 12 to 10", &l, to_10);
+    check(l.state[4] == 2, "from 12 to 10: %u accepted", (unsigned)l.state[4]);
+    rows_are("from 12 to 10", &l, 0, 1, 1, second);
+    flat("from 12 to 10", &l, 2, 5, 128);
+    memset(base.spelled, 0, sizeof base.spelled);
+    base.at = 69;
+    base.quantiser_scale = 10;
+    base.cbpy = 0;
+    then("at 10 after 12", in_picture, &base, 0, 16, &m);
+    check(memcmp(l.samples, m.samples, sizeof m.samples) == 0 && memcmp(l.store, m.store, sizeof m.store) == 0,
+          "from 12 to 10: not the same");
+    then("a complete picture", headed_in_picture, &c, VAXEMBRO_COMPLETE, 0, &l);
+    header_is("a complete picture", &l, to_10);
+}
+
+/* The three calls that read a header. */
+static decode *const readers[] = {header_only, headed_in_picture, headed_alone};
+
+/* Cut before each bit: 17 after the first bit of a code, which stands in brackets here, else 1. */
+static void cut_header(const char *text)
+{
+    char bits[80] = "";
+    size_t n = 0;
+    int inside = 0;
+    struct call c;
+    for (; *text; text++) {
+        if (*text == '(' || *text == ')') inside = *text == '(';
+        if (*text != '0' && *text != '1') continue;
+        worked(&c);
+        put_last(&c, bits);
+        for (size_t k = 0; k < 3; k++) refused_by(bits, readers[k], &c, inside > 1 ? VAXEMBRO_ENDED_INSIDE_CODE : VAXEMBRO_TRUNCATED, 0);
+        inside += inside > 0;
+        bits[n++] = *text;
+    }
+    /* whole: the first DC code is missing */
+    worked(&c);
+    put_last(&c, bits);
+    refused_by(bits, headed_in_picture, &c, VAXEMBRO_TRUNCATED, 0);
+    refused_by(bits, headed_alone, &c, VAXEMBRO_TRUNCATED, 0);
+}
+
+static void cut_headers(void)
+{
+    char text[120];
+    for (int n = 0; n < 2 * 4 * 16; n++) {
+        text[0] = 0;
+        for (int k = 0; k < n % 3; k++) strcat(text, "(" STUFFING ")");
+        strcat(strcat(strcat(text, "("), mcbpc[n >> 2 & 1][n & 3]), n & 16 ? ") 0 (" : ") 1 (");
+        strcat(strcat(text, cbpy[n >> 3]), n >> 2 & 1 ? ") 10" : ")");
+        cut_header(text);
+    }
+}
+
+/* Bits with which the data ends, and where it goes on too. */
+static const struct {
+    const char *what, *bits;
+    uint32_t number;
+} no_header[] = {
+    {"0000001", "0000001", VAXEMBRO_INVALID_HEADER},
+    {"00000001", "00000001", VAXEMBRO_INVALID_HEADER},
+    {"nine zeros", "000000000", VAXEMBRO_INVALID_HEADER},
+    {"stuffing and nine zeros", STUFFING "000000000", VAXEMBRO_INVALID_HEADER},
+    {"stuffing and 0000001", STUFFING STUFFING "0000001", VAXEMBRO_INVALID_HEADER},
+    {"five zeros at cbpy", "1 0 00000", VAXEMBRO_INVALID_HEADER},
+    {"000001 at cbpy", "011 1 000001", VAXEMBRO_INVALID_HEADER},
+    {"six zeros at cbpy", "0001 1 000000", VAXEMBRO_INVALID_HEADER},
+    {"five zeros at cbpy after stuffing", STUFFING "000001 0 00000", VAXEMBRO_INVALID_HEADER},
+};
+
+/* Bits with which the data ends. */
+static const struct {
+    const char *what, *bits;
+    uint32_t number;
+} cut_off[] = {
+    {"no bits", "", VAXEMBRO_TRUNCATED},
+    {"stuffing", STUFFING, VAXEMBRO_TRUNCATED},
+    {"stuffing twice", STUFFING STUFFING, VAXEMBRO_TRUNCATED},
+    {"mcbpc", "1", VAXEMBRO_TRUNCATED},
+    {"mcbpc with a quantiser change", "0001", VAXEMBRO_TRUNCATED},
+    {"mcbpc and flag", "001 1", VAXEMBRO_TRUNCATED},
+    {"no dquant", "0001 0 11", VAXEMBRO_TRUNCATED},
+    {"half of dquant", "0001 0 11 1", VAXEMBRO_TRUNCATED},
+    {"one zero", "0", VAXEMBRO_ENDED_INSIDE_CODE},
+    {"01", "01", VAXEMBRO_ENDED_INSIDE_CODE},
+    {"five zeros", "00000", VAXEMBRO_ENDED_INSIDE_CODE},
+    {"00001", "00001", VAXEMBRO_ENDED_INSIDE_CODE},
+    {"six zeros", "000000", VAXEMBRO_ENDED_INSIDE_CODE},
+    {"seven zeros", "0000000", VAXEMBRO_ENDED_INSIDE_CODE},
+    {"eight zeros", "00000000", VAXEMBRO_ENDED_INSIDE_CODE},
+    {"stuffing and eight zeros", STUFFING "00000000", VAXEMBRO_ENDED_INSIDE_CODE},
+    {"0 at cbpy", "1 0 0", VAXEMBRO_ENDED_INSIDE_CODE},
+    {"1 at cbpy", "1 0 1", VAXEMBRO_ENDED_INSIDE_CODE},
+    {"101 at cbpy", "1 0 101", VAXEMBRO_ENDED_INSIDE_CODE},
+    {"0000 at cbpy", "1 0 0000", VAXEMBRO_ENDED_INSIDE_CODE},
+    {"00001 at cbpy", "000011 1 00001", VAXEMBRO_ENDED_INSIDE_CODE},
+};
+
+static void bad_headers(void)
+{
+    struct call c;
+    char text[80];
+    for (size_t n = 0; n < sizeof no_header / sizeof *no_header; n++)
+        for (size_t k = 0; k < 9; k++) {
+            worked(&c);
+            strcpy(text, no_header[n].bits);
+            if (k < 3) put_last(&c, text);
+            if (k >= 3) put(&c, strcat(text, k < 6 ? DC_PARTS : "000000000000000000000000"));
+            refused_by(no_header[n].what, readers[k % 3], &c, no_header[n].number, 0);
+        }
+    for (size_t n = 0; n < sizeof cut_off / sizeof *cut_off; n++)
+        for (size_t k = 0; k < 3; k++) {
+            worked(&c);
+            put_last(&c, cut_off[n].bits);
+            refused_by(cut_off[n].what, readers[k], &c, cut_off[n].number, 0);
+        }
+    worked_with_header(&c);
+    c.at = 24;
+    for (size_t k = 0; k < 3; k++) refused_by("at the end", readers[k], &c, VAXEMBRO_TRUNCATED, 0);
+}
+
+/* Before any bit of a header, which is none. */
+static void bad_state_before_a_header(void)
+{
+    static const size_t starts[] = {25, (size_t)-1};
+    static const uint32_t quantisers[] = {0, 32, 0xFFFFFFFFu};
+    struct call c;
+    for (size_t k = 0; k < 3; k++) {
+        for (size_t n = 0; n < 2; n++) {
+            worked_with_header(&c);
+            c.at = starts[n];
+            c.quantiser_scale = 0;
+            c.samples_len = c.store_len = 0;
+            refused_by("past the end", readers[k], &c, VAXEMBRO_OUT_OF_RANGE, 0);
+        }
+        worked(&c);
+        c.data = too_long;
+        c.data_len = MOST + 1;
+        c.quantiser_scale = 0;
+        refused_by("data too long", readers[k], &c, VAXEMBRO_OUT_OF_RANGE, 0);
+        c.data_len = MOST;
+        refused_by("quantiser 0", readers[k], &c, VAXEMBRO_CONTEXT, 0);
+        c.quantiser_scale = 8;
+        refused_by("the longest data", readers[k], &c, VAXEMBRO_INVALID_HEADER, 0);
+        c.at = 8 * MOST - 8;
+        refused_by("the end of the longest data", readers[k], &c, VAXEMBRO_ENDED_INSIDE_CODE, 0);
+        for (size_t n = 0; n < 3; n++) {
+            worked(&c);
+            put(&c, "0000001");
+            c.quantiser_scale = quantisers[n];
+            c.neighbours[0] = 65537;
+            c.state[4] = 1;
+            c.samples_len = c.store_len = 0;
+            refused_by("quantiser", readers[k], &c, VAXEMBRO_CONTEXT, 0);
+        }
+    }
+    /* then alone 13, 14, 16, and in a picture 14, 15, 13, 16 */
+    worked(&c);
+    put(&c, "0000001");
+    c.state[0] = 2;
+    c.state[2] = 13;
+    c.bits_per_pixel = 3;
+    c.state[4] = 2;
+    c.stored = 65537;
+    c.neighbours[0] = 65537;
+    c.samples_len = VAXEMBRO_SAMPLES - 1;
+    c.store_len = 2 * VAXEMBRO_STORE - 1;
+    refused_by("depth", headed_in_picture, &c, VAXEMBRO_CONTEXT, 0);
+    refused_by("depth", headed_alone, &c, VAXEMBRO_CONTEXT, 0);
+    c.state[2] = c.bits_per_pixel = 8;
+    refused_by("383 samples, and later faults", headed_in_picture, &c, VAXEMBRO_TOO_SHORT, 0);
+    refused_by("a neighbour, and later faults", headed_alone, &c, VAXEMBRO_PREDICTOR, 0);
+    c.samples_len = VAXEMBRO_SAMPLES;
+    c.neighbours[0] = 1024;
+    refused_by("383 numbers of store, and later faults", headed_in_picture, &c, VAXEMBRO_TOO_SHORT, 0);
+    refused_by("no header", headed_alone, &c, VAXEMBRO_INVALID_HEADER, 0);
+    c.samples_len = VAXEMBRO_SAMPLES - 1;
+    refused_by("383 samples, and no header", headed_alone, &c, VAXEMBRO_TOO_SHORT, 0);
+    c.samples_len = VAXEMBRO_SAMPLES;
+    c.store_len = 2 * VAXEMBRO_STORE;
+    refused_by("complete, and later faults", headed_in_picture, &c, VAXEMBRO_COMPLETE, 0);
+    c.state[4] = 1;
+    refused_by("a store from elsewhere, and no header", headed_in_picture, &c, VAXEMBRO_PREDICTOR, 0);
+    c.stored = 0;
+    c.state[4] = 0;
+    refused_by("no header", headed_in_picture, &c, VAXEMBRO_INVALID_HEADER, 0);
+    c.state[0] = 46;
+    refused_by("46 macroblocks", headed_in_picture, &c, VAXEMBRO_OUT_OF_RANGE, 0);
+    c.state[0] = 1;
+    c.state[3] = 1;
+    c.flags |= VAXEMBRO_QUANT_TYPE;
+    c.matrix[5] = 0;
+    refused_by("a zero in the matrix, and no header", headed_in_picture, &c, VAXEMBRO_CONTEXT, 0);
+    refused_by("a zero in the matrix, and no header", headed_alone, &c, VAXEMBRO_CONTEXT, 0);
+    refused_by("a zero in the matrix", header_only, &c, VAXEMBRO_INVALID_HEADER, 0);
+}
+
+/* The header before the blocks, and then their faults. */
+static void bad_blocks_after_a_header(void)
+{
+    static const struct {
+        const char *what, *bits;
+        uint32_t number, figure;
+    } all[] = {
+        {"no cbpy before a DC code that is none", "1 0 00000 0000000000001", VAXEMBRO_INVALID_HEADER, 0},
+        {"no DC code", "1 0 00010 0000000000001", VAXEMBRO_INVALID_DC_SIZE, 1},
+        {"a marker 0", "001 1 11 00000001 100000000 0", VAXEMBRO_MARKER_BIT_MISSING, 0},
+        {"no AC code", "0001 0 00010 00 011 0000000000011", VAXEMBRO_INVALID_TCOEF, 3},
+        {"an escape's marker 0", "000001 0 00010 01 011 0000011 11 1 000000 0", VAXEMBRO_ESCAPE_MARKER_BIT_MISSING, 0},
+        {"level 0", "000010 1 00010 10 011 0000011 11 1 000000 1 000000000000 1", VAXEMBRO_RESERVED_ESCAPE_LEVEL, 0},
+        {"run 63", "000011 1 00010 11 011 0000011 11 1 111111 1 000000000001 1", VAXEMBRO_OVERFLOW, 64},
+    };
+    struct call c;
+    for (size_t n = 0; n < sizeof all / sizeof *all; n++)
+        for (size_t k = 0; k < 2; k++) {
+            worked(&c);
+            put(&c, all[n].bits);
+            refused_by(all[n].what, k ? headed_alone : headed_in_picture, &c, all[n].number, all[n].figure);
+        }
+}
+
+/* Lent memory that is too short, before every other fault; and a header that is longer keeps its rest. */
+static void lent_for_a_header(void)
+{
+    struct call c;
+    struct lent l;
+    for (size_t k = 0; k < 3; k++) {
+        for (size_t len = 0; len < VAXEMBRO_HEADER; len++) {
+            worked_with_header(&c);
+            c.header_len = len;
+            refused_by("a short header", readers[k], &c, VAXEMBRO_TOO_SHORT, 0);
+            c.at = (size_t)-1;
+            c.quantiser_scale = 0;
+            refused_by("a short header, and later faults", readers[k], &c, VAXEMBRO_TOO_SHORT, 0);
+            c.answer_len = len;
+            unanswered_by("a short header and a short answer", readers[k], &c);
+        }
+        for (size_t len = 0; len < VAXEMBRO_ANSWER; len++) {
+            worked_with_header(&c);
+            c.answer_len = len;
+            unanswered_by("a short answer", readers[k], &c);
+        }
+        worked_with_header(&c);
+        c.header_len = VAXEMBRO_HEADER + 2;
+        c.answer_len = VAXEMBRO_ANSWER + 2;
+        lend(&c, &l);
+        uint32_t given = readers[k](&c, &l);
+        check(given == 0, "a longer header: refused by %u", (unsigned)given);
+        answered("a longer header", &l, 0, 0, k == 0 ? 6 : 22, k == 0 ? 6 : 22, none);
+        header_is("a longer header", &l, (struct fields){VAXEMBRO_INTRA, 0, 0, 0, 0, 8});
+        worked_with_header(&c);
+        c.state_len = c.store_len = c.neighbours_len = c.data_len = c.matrix_len = c.samples_len = c.header_len = 0;
+        refused_by("nothing but an answer", readers[k], &c, VAXEMBRO_TOO_SHORT, 0);
+        c.answer_len = 0;
+        unanswered_by("nothing", readers[k], &c);
+        worked_with_header(&c);
+        c.data_len = 0;
+        refused_by("no data", readers[k], &c, VAXEMBRO_TRUNCATED, 0);
+        /* what a header by itself is not lent */
+        if (k > 0) continue;
+        worked_with_header(&c);
+        c.state_len = c.store_len = c.neighbours_len = c.matrix_len = c.samples_len = 0;
+        parsed("only data, header and answer", &c, 6, (struct fields){VAXEMBRO_INTRA, 0, 0, 0, 0, 8});
+    }
+    /* the others, each one short and then none of it, with a start past the end */
+    for (size_t n = 0; n < 2; n++) {
+        worked_with_header(&c);
+        c.at = (size_t)-1;
+        c.matrix_len = n ? 0 : VAXEMBRO_MATRIX - 1;
+        refused_by("a short matrix", headed_in_picture, &c, VAXEMBRO_TOO_SHORT, 0);
+        refused_by("a short matrix", headed_alone, &c, VAXEMBRO_TOO_SHORT, 0);
+        c.matrix_len = VAXEMBRO_MATRIX;
+        c.state_len = n ? 0 : VAXEMBRO_STATE - 1;
+        c.neighbours_len = n ? 0 : VAXEMBRO_NEIGHBOURS - 1;
+        refused_by("a short state", headed_in_picture, &c, VAXEMBRO_TOO_SHORT, 0);
+        refused_by("short neighbours", headed_alone, &c, VAXEMBRO_TOO_SHORT, 0);
+        worked_with_header(&c);
+        c.samples_len = n ? 0 : VAXEMBRO_SAMPLES - 1;
+        refused_by("short samples", headed_in_picture, &c, VAXEMBRO_TOO_SHORT, 0);
+        refused_by("short samples", headed_alone, &c, VAXEMBRO_TOO_SHORT, 0);
+        worked_with_header(&c);
+        c.store_len = n ? 0 : VAXEMBRO_STORE - 1;
+        refused_by("a short store", headed_in_picture, &c, VAXEMBRO_TOO_SHORT, 0);
+    }
+}
+
 static void openings(void)
 {
     static const struct {
@@ -963,6 +1587,16 @@ int main(void)
     bad_ranges(alone);
     bad_picture();
     bad_neighbours();
+    header_and_blocks();
+    every_header();
+    dquants();
+    flag_of_the_header();
+    quantiser_of_the_header();
+    cut_headers();
+    bad_headers();
+    bad_state_before_a_header();
+    bad_blocks_after_a_header();
+    lent_for_a_header();
     openings();
     read_out();
     printf("C: %u checks, %u failed\n", checks, failures);

@@ -1,7 +1,8 @@
 // A macroblock alone.
 use crate::answer::{ANSWER, result};
 use crate::given::flags;
-use crate::{Context, Decoded, Header, Matrix, Method, Refusal, Samples, ffi};
+use crate::header::{HEADER, with_fields};
+use crate::{Context, Decoded, Header, HeaderFields, Matrix, Method, Refusal, Samples, ffi};
 
 /// What a macroblock that is decoded alone takes of A (left), B (above left) and C (above). What is out of range is refused by 13.
 #[derive(Clone, Copy, Debug, PartialEq, Eq)]
@@ -93,4 +94,50 @@ pub fn decode_intra_macroblock(
         )
     };
     result(number, &answer)
+}
+
+/// Decodes one macroblock alone as [`decode_intra_macroblock`] does, with its header in the bits, from bit `at` of the data on.
+///
+/// The context's quantiser is the one before the header; the samples are worked out with the header's `ac_pred_flag` and the quantiser
+/// after it. The bits are those of the header and of the blocks.
+///
+/// # Errors
+///
+/// The samples are as they were. By the state, in this order: 11, 12 and 13 as there. Then by the header: 1, 16 and 17. Then by the
+/// blocks: 1 to 8, and 17.
+///
+/// ```
+/// use vaxembro::{Context, Matrix, Method, Neighbours, decode_intra_macroblock_with_header};
+///
+/// // 1, 0 and 0011, and then six DC parts of difference 0
+/// let (data, mut samples) = ([0x8D, 0xB6, 0xFC], [0; 384]);
+/// let (context, outside, matrix) = (Context::new(8), Neighbours::outside(8, 8), Matrix::default());
+/// let (fields, decoded) = decode_intra_macroblock_with_header(&data, 0, context, 8, Method::Two, &outside, &matrix, &mut samples)?;
+/// assert_eq!((fields.quantiser_scale, decoded.bits), (8, 22));
+/// assert_eq!(samples, [128; 384]);
+/// # Ok::<(), vaxembro::Refusal>(())
+/// ```
+#[allow(clippy::too_many_arguments)]
+#[rustfmt::skip]
+pub fn decode_intra_macroblock_with_header(
+    data: &[u8],
+    at: usize,
+    context: Context,
+    bits_per_pixel: u32,
+    method: Method,
+    neighbours: &Neighbours,
+    matrix: &Matrix,
+    samples: &mut Samples,
+) -> Result<(HeaderFields, Decoded), Refusal> {
+    let (mut header, mut answer) = ([0; HEADER], [0; ANSWER]);
+    let (neighbours, matrix) = (neighbours.numbers(), matrix.0.as_flattened());
+    // SAFETY: each pointer and length are one slice's, and those that are written are borrowed for this call alone.
+    let number = unsafe {
+        ffi::vaxembro_decode_intra_macroblock_with_header(
+            data.as_ptr(), data.len(), at, context.quantiser_scale, bits_per_pixel, flags(Header::intra(0, 0), context, method),
+            neighbours.as_ptr(), neighbours.len(), matrix.as_ptr(), matrix.len(), samples.as_mut_ptr(), samples.len(),
+            header.as_mut_ptr(), header.len(), answer.as_mut_ptr(), answer.len(),
+        )
+    };
+    with_fields(number, &header, &answer)
 }

@@ -4,14 +4,14 @@ use crate::{Refusal, ffi};
 // How many numbers an answer has.
 pub(crate) const ANSWER: usize = 9;
 
-/// An accepted macroblock.
+/// An accepted macroblock, or its header by itself.
 #[derive(Clone, Copy, Debug, PartialEq, Eq)]
 pub struct Decoded {
-    /// How many bits were read.
+    /// How many bits were read, those of a header that is in them among them.
     pub bits: usize,
-    /// The position after them: the bit at which the next macroblock may begin.
+    /// The position after them: the bit at which the next macroblock may begin, or after a header its blocks.
     pub position: usize,
-    /// How its events were spelled.
+    /// How its events were spelled; a header has none.
     pub spellings: Spellings,
 }
 

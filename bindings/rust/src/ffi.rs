@@ -35,6 +35,39 @@ unsafe extern "C" {
         samples_len: usize, answer: *mut usize, answer_len: usize,
     ) -> u32;
 
+    /// Reads the header of a macroblock of an I-VOP: 0, or 14, 11, 12, 1, 16 or 17, and then `header` is as it was. 6 numbers of `header`:
+    /// type (4 intra, 5 intra with a quantiser change), cbpc, ac_pred_flag, cbpy, what dquant changes the quantiser by, the quantiser
+    /// after it. `quantiser_scale` is the one before it.
+    ///
+    /// # Safety
+    /// As the module says.
+    pub fn vaxembro_parse_macroblock_header(
+        data: *const u8, data_len: usize, at: usize, quantiser_scale: u32, header: *mut i32, header_len: usize, answer: *mut usize,
+        answer_len: usize,
+    ) -> u32;
+
+    /// Decodes the macroblock that is due, with its header in the bits: 0, or the number of the refusal. `quantiser_scale` is the one
+    /// before the header, and the flags 1 and 2 are not looked at; the memory is as above.
+    ///
+    /// # Safety
+    /// As the module says.
+    pub fn vaxembro_decode_macroblock_with_header(
+        state: *mut u32, state_len: usize, data: *const u8, data_len: usize, at: usize, quantiser_scale: u32, flags: u32,
+        matrix: *const u8, matrix_len: usize, samples: *mut i32, samples_len: usize, store: *mut i32, store_len: usize,
+        header: *mut i32, header_len: usize, answer: *mut usize, answer_len: usize,
+    ) -> u32;
+
+    /// Decodes one macroblock alone, with its header in the bits: 0, or the number of the refusal. Quantiser, flags and memory are as
+    /// above.
+    ///
+    /// # Safety
+    /// As the module says.
+    pub fn vaxembro_decode_intra_macroblock_with_header(
+        data: *const u8, data_len: usize, at: usize, quantiser_scale: u32, bits_per_pixel: u32, flags: u32, neighbours: *const i32,
+        neighbours_len: usize, matrix: *const u8, matrix_len: usize, samples: *mut i32, samples_len: usize, header: *mut i32,
+        header_len: usize, answer: *mut usize, answer_len: usize,
+    ) -> u32;
+
     /// The number of an answer: 0 where the call was accepted, and where the answer is too short.
     ///
     /// # Safety

@@ -18,7 +18,7 @@ pub enum MbType {
     IntraQ,
 }
 
-/// What texture takes of a macroblock's header.
+/// What texture takes of a macroblock's header, where it is handed in.
 #[derive(Clone, Copy, Debug, PartialEq, Eq)]
 pub struct Header {
     /// Where it is set the macroblock is refused by 9.
@@ -55,9 +55,9 @@ pub enum Method {
 /// The quantiser and the options of a call.
 #[derive(Clone, Copy, Debug, PartialEq, Eq)]
 pub struct Context {
-    /// 1 to 31; any other is refused by 12.
+    /// 1 to 31; any other is refused by 12. Where the header is in the bits, the quantiser before it.
     pub quantiser_scale: u32,
-    /// AC values are predicted.
+    /// AC values are predicted. Not looked at where the header is in the bits.
     pub ac_pred_flag: bool,
     /// Every block is scanned by the alternate vertical scan, whatever the prediction chooses.
     pub alternate_vertical_scan: bool,

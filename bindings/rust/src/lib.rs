@@ -2,8 +2,9 @@
 //! `libvaxembro.a`, without std and without allocation.
 //!
 //! A [`Picture`] decodes one intra macroblock after the other, each with its neighbours in the picture; [`decode_intra_macroblock`]
-//! decodes one alone. Nothing is guessed: a call gives the standard's value, or it is refused by a number ([`Refusal`]), and then
-//! picture, store and samples are as they were.
+//! decodes one alone. The header of a macroblock is handed in, or, by the calls `.._with_header`, read out of the bits before it;
+//! [`parse_macroblock_header`] reads it by itself. Nothing is guessed: a call gives the standard's value, or it is refused by a number
+//! ([`Refusal`]), and then picture, store and samples are as they were.
 //!
 //! One macroblock of a picture of 1 by 1, with six DC parts of difference 0:
 //!
@@ -26,12 +27,14 @@ mod alone;
 mod answer;
 pub mod ffi;
 mod given;
+mod header;
 mod picture;
 mod refusal;
 
-pub use alone::{Neighbours, decode_intra_macroblock};
+pub use alone::{Neighbours, decode_intra_macroblock, decode_intra_macroblock_with_header};
 pub use answer::{Decoded, Spellings};
 pub use given::{Context, Header, Matrix, MbType, Method};
+pub use header::{HeaderFields, parse_macroblock_header};
 pub use picture::{Picture, STORE};
 pub use refusal::Refusal;
 

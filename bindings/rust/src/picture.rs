@@ -1,7 +1,8 @@
 // A picture, macroblock by macroblock.
 use crate::answer::{ANSWER, result};
 use crate::given::flags;
-use crate::{Context, Decoded, Header, Matrix, Method, Refusal, Samples, ffi};
+use crate::header::{HEADER, with_fields};
+use crate::{Context, Decoded, Header, HeaderFields, Matrix, Method, Refusal, Samples, ffi};
 
 /// How many numbers of store a picture needs for each macroblock of its width.
 pub const STORE: usize = 192;
@@ -86,6 +87,54 @@ impl<'a> Picture<'a> {
             )
         };
         result(number, &answer)
+    }
+
+    /// Decodes the macroblock that is due as [`decode_macroblock`](Picture::decode_macroblock) does, with its header in the bits, from
+    /// bit `at` of the data on.
+    ///
+    /// The context's quantiser is the one before the header; samples and store are worked out with the header's `ac_pred_flag` and the
+    /// quantiser after it. The bits are those of the header and of the blocks.
+    ///
+    /// # Errors
+    ///
+    /// Picture, store and samples are as they were. By the state, in this order: 11, 12, 14 and 15 as there. Then by the header: 1, 16
+    /// and 17. Then by the blocks: 1 to 8, and 17.
+    ///
+    /// ```
+    /// use vaxembro::{Context, Matrix, Method, Picture, Refusal, STORE};
+    ///
+    /// let (mut store, mut samples, matrix) = ([0; 2 * STORE], [0; 384], Matrix::default());
+    /// let mut picture = Picture::open(2, 1, 8, Method::Two, &mut store)?;
+    /// // 0001, 0, 0011 and 10, and six DC parts of difference 0; then 1, 0 and 0011, and the same
+    /// let (data, mut at, mut quantiser) = ([0x11, 0xCD, 0xB7, 0xF1, 0xB6, 0xDF, 0x80], 0, 7);
+    /// while picture.due().is_some() {
+    ///     let context = Context::new(quantiser);
+    ///     let (fields, decoded) = picture.decode_macroblock_with_header(&data, at, context, &matrix, &mut samples)?;
+    ///     (at, quantiser) = (decoded.position, fields.quantiser_scale);
+    /// }
+    /// assert_eq!((at, quantiser), (49, 8));
+    /// # Ok::<(), Refusal>(())
+    /// ```
+    #[rustfmt::skip]
+    pub fn decode_macroblock_with_header(
+        &mut self,
+        data: &[u8],
+        at: usize,
+        context: Context,
+        matrix: &Matrix,
+        samples: &mut Samples,
+    ) -> Result<(HeaderFields, Decoded), Refusal> {
+        let (mut header, mut answer) = ([0; HEADER], [0; ANSWER]);
+        let matrix = matrix.0.as_flattened();
+        // SAFETY: each pointer and length are one slice's, and those that are written are borrowed for this call alone.
+        let number = unsafe {
+            ffi::vaxembro_decode_macroblock_with_header(
+                self.state.as_mut_ptr(), self.state.len(), data.as_ptr(), data.len(), at, context.quantiser_scale,
+                flags(Header::intra(0, 0), context, Method::Two), matrix.as_ptr(), matrix.len(), samples.as_mut_ptr(), samples.len(),
+                self.store.as_mut_ptr(), self.store.len(), header.as_mut_ptr(), header.len(), answer.as_mut_ptr(), answer.len(),
+            )
+        };
+        with_fields(number, &header, &answer)
     }
 
     /// How many macroblocks lie beside each other.

@@ -15,9 +15,10 @@ use core::fmt;
 /// | 6 | `ReservedEscapeLevel` | | an escape's level is 0 or -2048 |
 /// | 7 | `RvlcEscapeDelimiterMissing` | the four bits | the delimiter of a reversible escape is not 0000 |
 /// | 8 | `Overflow` | the landing | an event lands at place 64 or beyond; any other fault in the same list comes before it |
+/// | 16 | `InvalidHeader` | | the bits that are left neither begin with a code of a header's mcbpc or cbpy nor begin one |
 /// | 17 | `EndedInsideCode` | | all bits that are left begin a code that has more |
 ///
-/// 1 and 17 say that the data stopped, 2 to 8 that it is bad: [`Refusal::stopped`].
+/// 1 and 17 say that the data stopped, 2 to 8 and 16 that it is bad: [`Refusal::stopped`].
 ///
 /// From the state, before any bit is read; the figure is 0:
 ///
@@ -34,7 +35,7 @@ use core::fmt;
 /// docs/REFUSALS.md of the repository says it in full.
 #[derive(Clone, Copy, Debug, PartialEq, Eq)]
 pub struct Refusal {
-    /// 1 to 15, or 17.
+    /// 1 to 17.
     pub number: u32,
     /// The window of 2, 4 and 7, the number that its bits write; the landing of 8; else 0.
     pub figure: u32,
@@ -65,12 +66,13 @@ impl Refusal {
             13 => "Predictor",
             14 => "TooShort",
             15 => "Complete",
+            16 => "InvalidHeader",
             17 => "EndedInsideCode",
             _ => "Unknown",
         }
     }
 
-    /// Whether the data stopped, by 1 or 17: it may be fetched again, where 2 to 8 say that it is bad.
+    /// Whether the data stopped, by 1 or 17: it may be fetched again, where 2 to 8 and 16 say that it is bad.
     ///
     /// That is no promise that more bits would help: a list that lands past place 63, or a reserved level before its last marker, is
     /// told so too where the bits end first.

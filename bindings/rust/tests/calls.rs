@@ -1,7 +1,8 @@
 // Calls every function of the wrapper; what is due is worked out by hand from documents 01 and 02.
 use std::error::Error;
 use vaxembro::{
-    Context, Decoded, Header, Matrix, MbType, Method, Neighbours, Picture, Refusal, STORE, Samples, Spellings, decode_intra_macroblock, ffi,
+    Context, Decoded, Header, HeaderFields, Matrix, MbType, Method, Neighbours, Picture, Refusal, STORE, Samples, Spellings,
+    decode_intra_macroblock, decode_intra_macroblock_with_header, ffi, parse_macroblock_header,
 };
 
 // What a call brings.
@@ -49,6 +50,34 @@ fn reading(text: &str, cbpy: u8, cbpc: u8) -> Call {
 
 const BEFORE: Samples = [-1; 384];
 
+const STUFFING: &str = "000000001";
+
+// mcbpc without and with a quantiser change, by cbpc; cbpy by its value; dquant, and what it changes the quantiser by.
+const MCBPC: [[&str; 4]; 2] = [["1", "001", "010", "011"], ["0001", "000001", "000010", "000011"]];
+const CBPY: [&str; 16] = [
+    "0011", "00101", "00100", "1001", "00011", "0111", "000010", "1011", "00010", "000011", "0101", "1010", "0100", "1000", "0110", "11",
+];
+const DQUANT: [(&str, i32); 5] = [("", 0), ("00", -1), ("01", -2), ("10", 1), ("11", 2)];
+
+// A header's bits, with number k of the dquants, and what is read of it; `quantiser_scale` is the one after it.
+fn header(k: usize, cbpc: u8, ac_pred_flag: bool, cbpy: u8, quantiser_scale: u32) -> (String, HeaderFields) {
+    let (code, dquant) = DQUANT[k];
+    let (kind, chroma, luma) = (usize::from(k > 0), usize::from(cbpc & 3), usize::from(cbpy & 15));
+    let text = [MCBPC[kind][chroma], if ac_pred_flag { "1" } else { "0" }, CBPY[luma], code].concat();
+    let fields = HeaderFields {
+        mb_type: [MbType::Intra, MbType::IntraQ][kind],
+        cbpc: chroma as u8,
+        ac_pred_flag,
+        cbpy: luma as u8,
+        dquant,
+        quantiser_scale,
+    };
+    (text, fields)
+}
+
+// A call whose header is in the bits: the fields as well.
+type Whole = Result<(HeaderFields, Decoded), Refusal>;
+
 impl Call {
     fn with(mut self, change: impl FnOnce(&mut Call)) -> Call {
         change(&mut self);
@@ -59,17 +88,34 @@ impl Call {
         picture.decode_macroblock(&self.data, self.at, self.header, self.context, &self.matrix, samples)
     }
 
-    // As the first macroblock of a picture of 1 by 1.
-    fn in_picture(&self) -> (Result<Decoded, Refusal>, Samples) {
+    fn whole_in_this(&self, picture: &mut Picture, samples: &mut Samples) -> Whole {
+        picture.decode_macroblock_with_header(&self.data, self.at, self.context, &self.matrix, samples)
+    }
+
+    // As the first macroblock of a picture of 1 by 1; the store is told too.
+    fn first<A>(&self, make: impl FnOnce(&mut Picture, &mut Samples) -> Result<A, Refusal>) -> (Result<A, Refusal>, Samples, [i32; STORE]) {
         let (mut store, mut samples) = ([-7; STORE], BEFORE);
         let mut picture = match Picture::open(1, 1, self.bits_per_pixel, self.method, &mut store) {
             Ok(picture) => picture,
-            Err(refusal) => return (Err(refusal), samples),
+            Err(refusal) => return (Err(refusal), samples, store),
         };
-        let result = self.in_this(&mut picture, &mut samples);
+        let result = make(&mut picture, &mut samples);
         assert_eq!(picture.accepted(), u32::from(result.is_ok()));
         assert_eq!(picture.due(), if result.is_ok() { None } else { Some((0, 0)) });
         assert!(result.is_ok() || store == [-7; STORE], "the store was written");
+        (result, samples, store)
+    }
+
+    fn in_picture(&self) -> (Result<Decoded, Refusal>, Samples) {
+        let (result, samples, store) = self.first(|picture, samples| self.in_this(picture, samples));
+        self.with_headers(result, |c, due| {
+            assert_eq!(c.first(|picture, samples| c.whole_in_this(picture, samples)), (due, samples, store));
+        });
+        (result, samples)
+    }
+
+    fn whole_in_picture(&self) -> (Whole, Samples) {
+        let (result, samples, _) = self.first(|picture, samples| self.whole_in_this(picture, samples));
         (result, samples)
     }
 
@@ -87,7 +133,58 @@ impl Call {
             &c.matrix,
             &mut samples,
         );
+        c.with_headers(result, |c, due| assert_eq!(c.whole_alone(), (due, samples)));
         (result, samples)
+    }
+
+    fn whole_alone(&self) -> (Whole, Samples) {
+        let (c, mut samples) = (self, BEFORE);
+        let result = decode_intra_macroblock_with_header(
+            &c.data,
+            c.at,
+            c.context,
+            c.bits_per_pixel,
+            c.method,
+            &c.neighbours,
+            &c.matrix,
+            &mut samples,
+        );
+        (result, samples)
+    }
+
+    // The same with a header before the bits, without dquant and with each, and what is due then: the same but for the header's bits.
+    fn with_headers(&self, result: Result<Decoded, Refusal>, see: impl Fn(&Call, Whole)) {
+        let (h, q, len) = (self.header, self.context.quantiser_scale, self.data.len());
+        let intra = matches!(h.mb_type, MbType::Intra | MbType::IntraQ);
+        if h.not_coded || !intra || self.at > 8 * len || len > 4096 {
+            return;
+        }
+        let bit = |k: usize| char::from(b'0' + (self.data[k / 8] >> (7 - k % 8) & 1));
+        let (head, tail): (String, String) = ((0..self.at).map(bit).collect(), (self.at..8 * len).map(bit).collect());
+        for (k, (_, change)) in DQUANT.iter().enumerate() {
+            let before = q.wrapping_add_signed(-change);
+            if k > 0 && !((1..32).contains(&q) && (1..32).contains(&before)) {
+                continue;
+            }
+            let (text, fields) = header(k, h.cbpc, self.context.ac_pred_flag, h.cbpy, q);
+            let text = STUFFING.repeat(k % 3) + &text;
+            let (bits, fill) = (text.len(), "1".repeat((8 - text.len() % 8) % 8));
+            let call = self.clone().with(|c| {
+                c.data = bytes(&[&head, &*fill, &text, &tail].concat());
+                c.at += fill.len();
+                c.context.quantiser_scale = before;
+                c.context.ac_pred_flag ^= k % 2 == 1;
+            });
+            let position = call.at + bits;
+            see(
+                &call,
+                result.map(|d| (fields, decoded_as(position + d.bits, bits + d.bits, d.spellings))),
+            );
+            if result.err().is_none_or(|refusal| refusal.number < 9 || refusal.number == 17) {
+                let read = parse_macroblock_header(&call.data, call.at, before);
+                assert_eq!(read, Ok((fields, decoded(position, bits, NONE))));
+            }
+        }
     }
 }
 
@@ -113,12 +210,12 @@ fn counts([plain, type1, type2, type3, rvlc_escape]: [u32; 5]) -> Spellings {
     }
 }
 
+fn decoded_as(position: usize, bits: usize, spellings: Spellings) -> Decoded {
+    Decoded { bits, position, spellings }
+}
+
 fn decoded(position: usize, bits: usize, events: [u32; 5]) -> Decoded {
-    Decoded {
-        bits,
-        position,
-        spellings: counts(events),
-    }
+    decoded_as(position, bits, counts(events))
 }
 
 const NONE: [u32; 5] = [0; 5];
@@ -632,6 +729,337 @@ fn neighbours_out_of_range() {
     assert_eq!(Neighbours::outside(12, 5).fb_dc, 16384);
 }
 
+// The worked case with its header.
+const WORKED: &str = "1 0 0011 011 011 011 011 11 11";
+
+fn intra(cbpc: u8, ac_pred_flag: bool, cbpy: u8, quantiser_scale: u32) -> HeaderFields {
+    header(0, cbpc, ac_pred_flag, cbpy, quantiser_scale).1
+}
+
+// With its header in the bits, in a picture and alone.
+fn both_accept(c: &Call, position: usize, bits: usize, fields: HeaderFields, events: [u32; 5]) -> Samples {
+    let (result, samples) = c.whole_in_picture();
+    assert_eq!(result, Ok((fields, decoded(position, bits, events))));
+    assert_eq!(c.whole_alone(), (result, samples));
+    samples
+}
+
+#[test]
+fn worked_case_with_header() {
+    assert_eq!(bytes(WORKED), [0x8D, 0xB6, 0xFC]);
+    let c = reading(WORKED, 0, 0);
+    flat(&both_accept(&c, 22, 22, intra(0, false, 0, 8), NONE), 0..6, 128);
+    assert_eq!(
+        parse_macroblock_header(&c.data, 0, 8),
+        Ok((intra(0, false, 0, 8), decoded(6, 6, NONE)))
+    );
+    // stuffing before it, once and 1,000 times
+    let c = reading(&["10110", STUFFING, WORKED, "0101"].concat(), 0, 0).with(|c| c.at = 5);
+    flat(&both_accept(&c, 36, 31, intra(0, false, 0, 8), NONE), 0..6, 128);
+    let c = reading(&(STUFFING.repeat(1000) + WORKED), 0, 0);
+    flat(&both_accept(&c, 9022, 9022, intra(0, false, 0, 8), NONE), 0..6, 128);
+    // no DC codes and no block coded: the header is all
+    let mut c = ending("1 0 0011", 0, 0, false);
+    c.context.use_intra_dc_vlc = false;
+    flat(&both_accept(&c, 8, 6, intra(0, false, 0, 8), NONE), 0..6, 128);
+}
+
+#[test]
+fn every_header() {
+    for n in 0..8 * 16 * DQUANT.len() {
+        let (k, cbpy, ac_pred_flag, cbpc) = (n >> 7, (n >> 3 & 15) as u8, n >> 2 & 1 == 1, (n & 3) as u8);
+        let (text, fields) = header(k, cbpc, ac_pred_flag, cbpy, 8u32.wrapping_add_signed(DQUANT[k].1));
+        for after in ["", "000000000", "111111111"] {
+            let c = ending(&[&text, after].concat(), 0, 0, false);
+            let due = decoded(c.at + text.len(), text.len(), NONE);
+            assert_eq!(parse_macroblock_header(&c.data, c.at, 8), Ok((fields, due)));
+        }
+        assert_eq!(
+            fields.header(),
+            Header {
+                mb_type: fields.mb_type,
+                ..Header::intra(cbpy, cbpc)
+            }
+        );
+    }
+}
+
+// A level of -1 is 3, 5, 9 and 11 at quantisers 1 to 4: the first wave of 0.53, 0.88, 1.59, 1.94 beside 128. At 28 to 31 the luma scaler
+// is 40, 42, 44, 46: 26 * 40 / 8 = 130, 24 * 42 / 8 = 126, 23 * 44 / 8 = 126.5, 22 * 46 / 8 = 126.5; the chroma scaler is 22 to 25:
+// 47 * 22 / 8 = 129.25, 45 * 23 / 8 = 129.375, 43 * 24 / 8 = 129, 41 * 25 / 8 = 128.125.
+#[test]
+fn dquant_near_the_limits() {
+    let waves = [
+        [127, 128, 128, 128, 128, 128, 128, 129],
+        [127, 127, 128, 128, 128, 128, 129, 129],
+        [126, 127, 127, 128, 128, 129, 129, 130],
+        [126, 126, 127, 128, 128, 129, 130, 130],
+    ];
+    let (luma, chroma) = ([130, 126, 127, 127], [129, 129, 129, 128]);
+    for (before, after) in [(1, [1, 1, 2, 3]), (2, [1, 1, 3, 4]), (30, [29, 28, 31, 31]), (31, [30, 29, 31, 31])] {
+        for (k, q) in (1..).zip(after) {
+            let at = |c: &mut Call| c.context.quantiser_scale = before;
+            if q < 5 {
+                let (text, fields) = header(k, 0, false, 8, q);
+                let c = reading(&(text + "011 01111 011 011 011 11 11"), 0, 0).with(at);
+                let samples = both_accept(&c, 33, 33, fields, ONE_PLAIN);
+                rows_are(&samples, 0..1, waves[q as usize - 1]);
+                flat(&samples, 1..6, 128);
+            } else {
+                let (text, fields) = header(k, 0, false, 0, q);
+                let c = reading(&(text + "011 011 011 011 11 11"), 0, 0).with(at);
+                let samples = both_accept(&c, 27, 27, fields, NONE);
+                flat(&samples, 0..4, luma[q as usize - 28]);
+                flat(&samples, 4..6, chroma[q as usize - 28]);
+            }
+        }
+    }
+}
+
+// The header's flag counts and the context's does not: the values are those of `neighbours` and `ac_prediction`.
+#[test]
+fn flag_of_the_header() {
+    for flag in [false, true] {
+        let mut c = reading("1 1 0011 011 011 011 011 11 11", 0, 0);
+        c.context.ac_pred_flag = flag;
+        c.neighbours.qp_a = 16;
+        c.neighbours.a_first_column = Some([-1, 0, 0, 0, 0, 0, 0]);
+        let (result, samples) = c.whole_alone();
+        assert_eq!(result, Ok((intra(0, true, 0, 8), decoded(22, 22, NONE))));
+        columns_are(&samples, 0..4, [121, 122, 124, 127, 129, 132, 134, 135]);
+        columns_are(&samples, 4..6, [121, 122, 124, 126, 129, 131, 133, 134]);
+        c.data = bytes(WORKED);
+        flat(&c.whole_alone().1, 0..6, 128);
+        let wave = [124, 125, 126, 127, 129, 130, 131, 132];
+        c.data = bytes("1 1 00010 011 01111 011 011 011 11 11");
+        let (result, samples) = c.whole_in_picture();
+        assert_eq!(result, Ok((intra(0, true, 8, 8), decoded(28, 28, ONE_PLAIN))));
+        columns_are(&samples, 0..2, wave);
+        flat(&samples, 2..6, 128);
+        c.data = bytes("1 0 00010 011 01111 011 011 011 11 11");
+        rows_are(&c.whole_in_picture().1, 0..1, wave);
+    }
+}
+
+// The first goes from 10 to 12: both scalers give 1020, 127.5, and the level -3 of block 1, scanned down, is 12 * 7 - 1 = 83, a wave of
+// 14.67. The second goes from 12 to 10 and takes it for its first two blocks as -3 * 12 / 10 = -3.6, -4, which is 10 * 9 - 1 = 89, a wave
+// of 15.73, beside 57 * 18 / 8 = 128.25; from a quantiser of 10 it would be -3. The rest takes zeros, and the chroma is 93 * 11 / 8 =
+// 127.875.
+#[test]
+fn quantiser_of_the_header() {
+    let text = "0001 1 00011 11  011 011 0000011 11 1 000000 1 111111111101 1 011 011 11 11  0001 1 0011 01  011 011 011 011 11 11";
+    let data = bytes(text);
+    let (mut store, mut samples, matrix) = ([-7; 2 * STORE], BEFORE, Matrix::default());
+    let mut picture = Picture::open(2, 1, 8, Method::Two, &mut store).unwrap();
+    let (fields, read) = picture
+        .decode_macroblock_with_header(&data, 0, Context::new(10), &matrix, &mut samples)
+        .unwrap();
+    assert_eq!((fields, read), (header(4, 0, true, 4, 12).1, decoded(58, 58, [0, 0, 0, 1, 0])));
+    flat(&samples, 0..1, 128);
+    columns_are(&samples, 1..2, [113, 115, 119, 125, 130, 136, 140, 142]);
+    flat(&samples, 2..6, 128);
+    // refused in between: after 0001, 1 and 0, which begins cbpy; and no header
+    let cut = picture.decode_macroblock_with_header(&data[..8], 58, Context::new(12), &matrix, &mut samples);
+    assert_eq!(cut, Err(Refusal { number: 17, figure: 0 }));
+    let bad = picture.decode_macroblock_with_header(&[0, 0], 0, Context::new(12), &matrix, &mut samples);
+    assert_eq!(bad, Err(Refusal { number: 16, figure: 0 }));
+    assert_eq!(picture.due(), Some((1, 0)));
+    let context = Context::new(fields.quantiser_scale);
+    let second = picture.decode_macroblock_with_header(&data, read.position, context, &matrix, &mut samples);
+    assert_eq!(second, Ok((header(2, 0, true, 0, 10).1, decoded(85, 27, NONE))));
+    columns_are(&samples, 0..2, [113, 115, 120, 125, 131, 137, 141, 144]);
+    flat(&samples, 2..6, 128);
+    assert_eq!(picture.due(), None);
+
+    // the same with the headers handed in
+    let (mut other, mut left) = ([-7; 2 * STORE], BEFORE);
+    let mut picture = Picture::open(2, 1, 8, Method::Two, &mut other).unwrap();
+    for (at, bits, fields) in [(12, 46, fields), (69, 16, second.unwrap().0)] {
+        let mut context = Context::new(fields.quantiser_scale);
+        context.ac_pred_flag = fields.ac_pred_flag;
+        let read = picture.decode_macroblock(&data, at, fields.header(), context, &matrix, &mut left);
+        assert_eq!(read.map(|d| d.bits), Ok(bits));
+    }
+    assert!(left == samples && other == store);
+}
+
+// By all three calls that read a header.
+fn no_header(c: &Call, number: u32, name: &str) {
+    for (result, samples) in [c.whole_in_picture(), c.whole_alone()] {
+        refused((result.map(|(_, decoded)| decoded), samples), number, 0, name);
+    }
+    let read = parse_macroblock_header(&c.data, c.at, c.context.quantiser_scale);
+    assert_eq!(read, Err(Refusal { number, figure: 0 }));
+}
+
+// 17 after the first bit of a code, which stands in brackets here, else 1.
+fn header_cut_anywhere(text: &str) {
+    let (mut bits, mut inside) = (String::new(), 0);
+    for b in text.chars() {
+        match b {
+            '(' => inside = 1,
+            ')' => inside = 0,
+            '0' | '1' => {
+                let (number, name) = if inside > 1 { (17, "EndedInsideCode") } else { (1, "Truncated") };
+                no_header(&ending(&bits, 0, 0, false), number, name);
+                bits.push(b);
+                inside += u32::from(inside > 0);
+            }
+            _ => (),
+        }
+    }
+}
+
+#[test]
+fn headers_cut_anywhere() {
+    for n in 0..8 * 16 {
+        let (changes, cbpc, cbpy) = (n >> 2 & 1, n & 3, n >> 3);
+        let stuffing = format!("({STUFFING})").repeat(n % 3);
+        let dquant = ["", "01"][changes];
+        header_cut_anywhere(&format!("{stuffing}({}) {} ({}) {dquant}", MCBPC[changes][cbpc], n & 1, CBPY[cbpy]));
+    }
+}
+
+#[test]
+fn bits_that_begin_no_header() {
+    for text in ["0000001", "00000001", "000000000", "1 0 00000", "011 1 000001", "0001 1 000000"] {
+        for (before, after) in [("", ""), ("", WORKED), (STUFFING, ""), (STUFFING, "000000000")] {
+            no_header(&ending(&[before, text, after].concat(), 0, 0, false), 16, "InvalidHeader");
+        }
+    }
+    for text in ["", STUFFING, "1", "0001", "001 1", "0001 0 11", "0001 0 11 1"] {
+        no_header(&ending(text, 0, 0, false), 1, "Truncated");
+    }
+    for text in [
+        "0",
+        "01",
+        "00000",
+        "00001",
+        "000000",
+        "0000000",
+        "00000000",
+        "1 0 0",
+        "1 0 101",
+        "1 0 0000",
+        "000011 1 00001",
+    ] {
+        no_header(&ending(text, 0, 0, false), 17, "EndedInsideCode");
+        no_header(&ending(&[STUFFING, text].concat(), 0, 0, false), 17, "EndedInsideCode");
+    }
+}
+
+// The state is asked before the header, and the header before the blocks.
+#[test]
+fn state_before_the_header() {
+    let c = reading("0000001", 0, 0);
+    no_header(&c.clone().with(|c| (c.at, c.context.quantiser_scale) = (9, 0)), 11, "OutOfRange");
+    no_header(&c.clone().with(|c| c.at = usize::MAX), 11, "OutOfRange");
+    no_header(&c.clone().with(|c| c.data = vec![0; 1_048_577]), 11, "OutOfRange");
+    no_header(&c.clone().with(|c| c.data = vec![0; 1_048_576]), 16, "InvalidHeader");
+    for quantiser in [0, 32, u32::MAX] {
+        no_header(&c.clone().with(|c| c.context.quantiser_scale = quantiser), 12, "Context");
+    }
+    let whole_alone = |c: Call| {
+        let (result, samples) = c.whole_alone();
+        (result.map(|(_, decoded)| decoded), samples)
+    };
+    refused(whole_alone(c.clone().with(|c| c.bits_per_pixel = 3)), 12, 0, "Context");
+    refused(whole_alone(c.clone().with(|c| c.neighbours.fa_dc = 65537)), 13, 0, "Predictor");
+    refused(whole_alone(c.clone().with(|c| c.neighbours.qp_c = 0)), 13, 0, "Predictor");
+    refused(whole_alone(c.clone()), 16, 0, "InvalidHeader");
+    refused(whole_alone(reading("1 0 00010 0000000000001", 0, 0)), 2, 1, "InvalidDcSize");
+    refused(whole_alone(reading("1 0 00000 0000000000001", 0, 0)), 16, 0, "InvalidHeader");
+    let (mut store, mut samples) = ([-7; 2 * STORE - 1], BEFORE);
+    let mut picture = Picture::open(2, 1, 8, Method::Two, &mut store).unwrap();
+    assert_eq!(c.whole_in_this(&mut picture, &mut samples), Err(Refusal { number: 14, figure: 0 }));
+    let mut store = [-7; STORE];
+    let mut picture = Picture::open(1, 1, 8, Method::Two, &mut store).unwrap();
+    assert!(reading(WORKED, 0, 0).whole_in_this(&mut picture, &mut samples).is_ok());
+    assert_eq!(c.whole_in_this(&mut picture, &mut samples), Err(Refusal { number: 15, figure: 0 }));
+}
+
+// The C functions with DC codes, and header and answer of any length: the header by itself, in a picture and alone. What they give; where
+// they refuse, nothing is written but the answer.
+#[rustfmt::skip]
+fn raw_with_header(c: &Call, flags: u32, header: usize, answer: usize) -> [(u32, [i32; 8], [usize; 12]); 3] {
+    let (data, len, at, q, matrix) = (c.data.as_ptr(), c.data.len(), c.at, c.context.quantiser_scale, c.matrix.0.as_ptr().cast());
+    let mut neighbours = [0; 21];
+    neighbours[..5].copy_from_slice(&[1024, 1024, 1024, 8, 8]);
+    let (mut state, mut store, mut samples) = ([1, 1, 8, 0, 0], [-7; STORE], [BEFORE; 2]);
+    let mut all = [(0, [7; 8], [7; 12]); 3];
+    let [parse, picture, alone] = &mut all;
+    unsafe {
+        parse.0 = ffi::vaxembro_parse_macroblock_header(
+            data, len, at, q, parse.1.as_mut_ptr(), header, parse.2.as_mut_ptr(), answer,
+        );
+        picture.0 = ffi::vaxembro_decode_macroblock_with_header(
+            state.as_mut_ptr(), 5, data, len, at, q, flags, matrix, 64, samples[0].as_mut_ptr(), 384,
+            store.as_mut_ptr(), STORE, picture.1.as_mut_ptr(), header, picture.2.as_mut_ptr(), answer,
+        );
+        alone.0 = ffi::vaxembro_decode_intra_macroblock_with_header(
+            data, len, at, q, 8, flags, neighbours.as_ptr(), 21, matrix, 64, samples[1].as_mut_ptr(), 384,
+            alone.1.as_mut_ptr(), header, alone.2.as_mut_ptr(), answer,
+        );
+    }
+    assert!(picture.0 == 0 || (state, store, samples[0]) == ([1, 1, 8, 0, 0], [-7; STORE], BEFORE));
+    assert!(alone.0 == 0 || samples[1] == BEFORE);
+    assert!(all.iter().all(|one| one.0 == 0 || one.1 == [7; 8]));
+    all
+}
+
+#[test]
+fn headers_of_every_length() {
+    let c = reading(WORKED, 0, 0);
+    // flags of a macroblock that is not coded, and of AC prediction, are not looked at
+    for (flags, header, answer) in [(32, 6, 9), (33, 7, 10), (34, 8, 11), (35, 6, 12)] {
+        let all = raw_with_header(&c, flags, header, answer);
+        for (one, bits) in all.iter().zip([6, 22, 22]) {
+            assert_eq!(*one, (0, [4, 0, 0, 0, 0, 8, 7, 7], [0, 0, bits, bits, 0, 0, 0, 0, 0, 7, 7, 7]));
+        }
+    }
+    let bad = c.clone().with(|c| (c.at, c.context.quantiser_scale) = (usize::MAX, 0));
+    for header in 0..6 {
+        for c in [&c, &bad] {
+            for one in raw_with_header(c, 32, header, 9) {
+                assert_eq!(one.2, [14, 0, 0, c.at, 0, 0, 0, 0, 0, 7, 7, 7]);
+            }
+            for one in raw_with_header(c, 32, header, 8) {
+                assert_eq!(one, (14, [7; 8], [7; 12]));
+            }
+        }
+    }
+    for answer in 0..9 {
+        for one in raw_with_header(&c, 32, 6, answer) {
+            assert_eq!(one, (14, [7; 8], [7; 12]));
+        }
+    }
+    for one in raw_with_header(&reading("000000000", 0, 0), 32, 6, 9) {
+        assert_eq!(one, (16, [7; 8], [16, 0, 0, 0, 0, 0, 0, 0, 0, 7, 7, 7]));
+    }
+}
+
+#[test]
+fn header_lent_nothing() {
+    let (no_data, no_header, no_answer) = (std::ptr::null(), std::ptr::null_mut(), std::ptr::null_mut());
+    let (mut header, mut answer) = ([7; 6], [7; 9]);
+    unsafe {
+        assert_eq!(
+            ffi::vaxembro_parse_macroblock_header(no_data, 0, 0, 8, header.as_mut_ptr(), 6, answer.as_mut_ptr(), 9),
+            1
+        );
+        assert_eq!((header, answer), ([7; 6], [1, 0, 0, 0, 0, 0, 0, 0, 0]));
+        assert_eq!(
+            ffi::vaxembro_parse_macroblock_header(no_data, 0, 3, 8, no_header, 0, answer.as_mut_ptr(), 9),
+            14
+        );
+        assert_eq!(answer, [14, 0, 0, 3, 0, 0, 0, 0, 0]);
+        assert_eq!(
+            ffi::vaxembro_parse_macroblock_header(no_data, 0, 0, 8, no_header, 0, no_answer, 0),
+            14
+        );
+    }
+}
+
 // The C functions, with DC codes and an answer of any length.
 #[rustfmt::skip]
 fn raw_in_picture(c: &Call, state: &mut [u32], store: &mut [i32], samples: &mut Samples, answer: &mut [usize]) -> u32 {
@@ -749,6 +1177,7 @@ fn refusals_told() {
     assert_eq!(told(2, 5), "refused by 2 InvalidDcSize, window 5");
     assert_eq!(told(8, 64), "refused by 8 Overflow, landing 64");
     assert_eq!(told(15, 0), "refused by 15 Complete");
+    assert_eq!(told(16, 0), "refused by 16 InvalidHeader");
     assert_eq!(told(17, 0), "refused by 17 EndedInsideCode");
 }
 
