@@ -3,7 +3,7 @@ ghost use mathlib.Core.Path.{_≡_};
 ghost use Prim.Native.Nat.{_<_};
 ghost use Rattle.bits.specs.Bits.{bitsFrom};
 ghost use Rattle.codes.specs.Header.{cbpyCodes, cbpyLens, mcbpcCodes, mcbpcLens};
-ghost use Rattle.fields.specs.Answer.{codeAnswer};
+ghost use Rattle.fields.specs.Answer.{codeAnswer, fieldAnswer};
 ghost use Rattle.fields.specs.Inside.{Readable, SaysNumber, invalid};
 ghost use Rattle.fields.specs.Reader.{field, mapped};
 ghost use Rattle.fields.specs.declared.code.CodeKind.the-variants.{Header};
@@ -109,6 +109,21 @@ fn read_type(data: &[u8], c: Cursor) -> Got
     }
 }
 
+// ac_pred_flag: the next bit.
+fn read_flag(data: &[u8], c: Cursor) -> Got
+    ensures { λ r. ⌜ r ≡ fieldAnswer (now («data» .entry)) (c .«bit_pos») 1 ⌝ }
+{
+    if !fields::readable(data, c) {
+        return Got::Refused(TextureParseError::OutOfRange);
+    }
+    let at = c.bit_pos;
+    if 8 * data.len() <= at {
+        return Got::Refused(TextureParseError::Truncated);
+    }
+    let flag = bits::ahead(data, at) / 2147483648 % 2;
+    Got::Number(flag, Cursor { bit_pos: at + 1 })
+}
+
 // Table 6-32: what two bits of dquant change the quantiser by.
 fn dquant_value(code: u32) -> i32
     requires { ⌜ code < 4 ⌝ }
@@ -165,7 +180,7 @@ fn read_rest(data: &[u8], c: Cursor, mcbpc: u32) -> PartsRead
     requires { ⌜ Readable (now «data») c × (mcbpc < 8) ⌝ }
     ensures { λ r. ⌜ SaysParts (now («data» .entry)) r (mapped (withRest mcbpc) (readRest (changesAt mcbpc) (bitsFrom (now («data» .entry)) (c .«bit_pos»)))) ⌝ }
 {
-    let g = fields::read_field(data, c, 1);
+    let g = read_flag(data, c);
     match g {
         Got::Refused(e) => PartsRead::Refused(e),
         Got::Number(ac_pred_flag, next) => {
