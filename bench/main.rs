@@ -1,10 +1,12 @@
 // How long a macroblock takes, alone and in a picture of 45 by 36, beside the original's; both decode the same bits into one buffer.
-// Then the same of whole pictures of clips, each a file of the lines that `still` reads.
+// Then how long the same macroblocks take with their headers in their bits, beside those whose headers are handed in. Then, beside the
+// original's, whole pictures of clips, each a file of the lines that `still` reads.
 use crate::bitreader::BitReader;
 use crate::block::{self, MacroblockTextureContext};
 use crate::common::bits::{Bits, bytes_of, push};
 use crate::common::dice::Dice;
 use crate::common::header::Header;
+use crate::common::heading::Heading;
 use crate::common::sentence::{self, component};
 use crate::idct::HalfIntegerRounding;
 use crate::texture::{TcoefTable, tcoef_table};
@@ -17,11 +19,15 @@ use vaxembro::{Context, Matrix, Method, Neighbours, Picture, STORE, Samples};
 mod clip;
 #[path = "layer.rs"]
 mod layer;
+#[path = "with_header.rs"]
+mod with_header;
 
 const DEPTH: u32 = 8;
 const QUANTISER: u32 = 8;
 const WIDTH: u32 = 45;
 const HEIGHT: u32 = 36;
+// How many a block has.
+const EVENTS: [usize; 3] = [0, 6, 44];
 // How many macroblocks are timed together: few, so that a busy machine leaves some round of them alone.
 const CHUNK: usize = 20;
 
@@ -34,20 +40,34 @@ pub struct Stream {
     data: Vec<u8>,
 }
 
+// A macroblock's header and its bits.
+type Drawn = (Header, Bits);
+
+fn drawn(dice: &mut Dice, macroblocks: usize, events: usize) -> Vec<Drawn> {
+    let mut all = Vec::new();
+    for _ in 0..macroblocks {
+        let pattern = if events == 0 { 0 } else { 63 };
+        let header = Header {
+            mb_type: 4,
+            ..Header::intra(dice, pattern)
+        };
+        let mut bits = Bits::new();
+        for i in 0..6 {
+            sentence::dc_part(dice, &mut bits, component(i >= 4), Some(6));
+            list(dice, &mut bits, events);
+        }
+        all.push((header, bits));
+    }
+    all
+}
+
 impl Stream {
-    fn drawn(dice: &mut Dice, macroblocks: usize, events: usize) -> Stream {
-        let (mut headers, mut bits, mut data) = (Vec::new(), Bits::new(), Vec::new());
-        for _ in 0..macroblocks {
-            let pattern = if events == 0 { 0 } else { 63 };
-            let header = Header {
-                mb_type: 4,
-                ..Header::intra(dice, pattern)
-            };
-            headers.push((header, QUANTISER));
-            for i in 0..6 {
-                sentence::dc_part(dice, &mut bits, component(i >= 4), Some(6));
-                list(dice, &mut bits, events);
-            }
+    // With these headers in front of the bits of each, or with none.
+    fn of(macroblocks: &[Drawn], heading: impl Fn(&Header) -> Option<Heading>) -> Stream {
+        let (mut bits, mut data) = (Bits::new(), Vec::new());
+        for (header, own) in macroblocks {
+            heading(header).iter().for_each(|heading| heading.put(&mut bits));
+            bits.extend(own);
         }
         let rest = (8 - bits.len() % 8) % 8;
         push(&mut bits, 0, rest);
@@ -55,7 +75,7 @@ impl Stream {
         Stream {
             width: WIDTH,
             height: HEIGHT,
-            headers,
+            headers: macroblocks.iter().map(|one| (one.0, QUANTISER)).collect(),
             parts: Vec::new(),
             data,
         }
@@ -201,30 +221,32 @@ fn once(decoder: &mut dyn Decoder, stream: &Stream, best: &mut [f64]) {
     });
 }
 
-// Many rounds of each side, by turns.
-fn beside(name: &str, sides: [&mut dyn Decoder; 2], stream: &Stream, rounds: usize) {
-    let [ours, original] = sides;
-    assert!(all_samples(ours, stream) == all_samples(original, stream), "{name}: samples differ");
+// Many rounds of each side with its own stream, by turns: nanoseconds a macroblock.
+fn by_turns(name: &str, sides: [(&mut dyn Decoder, &Stream); 2], rounds: usize) -> [f64; 2] {
+    let [(one, stream), (other, beside)] = sides;
+    assert!(all_samples(one, stream) == all_samples(other, beside), "{name}: samples differ");
     let chunks = stream.headers.len() / CHUNK;
     let mut best = [vec![f64::MAX; chunks], vec![f64::MAX; chunks]];
     for _ in 0..rounds {
-        once(ours, stream, &mut best[0]);
-        once(original, stream, &mut best[1]);
+        once(one, stream, &mut best[0]);
+        once(other, beside, &mut best[1]);
     }
-    let [ours, original] = best.map(|chunks| chunks.iter().sum::<f64>() / (chunks.len() * CHUNK) as f64);
+    best.map(|chunks| chunks.iter().sum::<f64>() / (chunks.len() * CHUNK) as f64)
+}
+
+fn beside(name: &str, sides: [&mut dyn Decoder; 2], stream: &Stream, rounds: usize) {
+    let [ours, original] = by_turns(name, sides.map(|side| (side, stream)), rounds);
     println!("{name:44} {ours:8.0} {original:8.0} {:8.2}", original / ours);
 }
 
-pub fn main() {
-    let mut dice = Dice(7);
-    let mut arguments = std::env::args().skip(1);
-    let rounds: usize = arguments.next().map_or(50, |n| n.parse().expect("a number of rounds"));
-    // so many that no branch predictor learns them
-    let mut drawn = |events| (events, Stream::drawn(&mut dice, (WIDTH * HEIGHT) as usize, events));
-    let streams = [0, 6, 44].map(&mut drawn);
-    println!("{:44} {:>8} {:>8} {:>8}", "nanoseconds a macroblock", "ours", "original", "ratio");
+fn columns(what: &str, [one, other]: [&str; 2]) {
+    println!("{what:44} {one:>8} {other:>8} {:>8}", "ratio");
+}
+
+// Every kind of macroblock: in a picture or alone, its number of events, its method, and its name.
+fn each_kind(mut each: impl FnMut(bool, usize, Method, &str)) {
     for in_picture in [false, true] {
-        for (events, stream) in &streams {
+        for (k, events) in EVENTS.iter().enumerate() {
             for (method, n) in [(Method::Two, 2), (Method::One, 1)] {
                 let place = if in_picture { "in a picture" } else { "alone" };
                 let what = if *events == 0 {
@@ -232,16 +254,33 @@ pub fn main() {
                 } else {
                     format!("{events} events a block")
                 };
-                let name = format!("{place}, {what}, method {n}");
-                if in_picture {
-                    let mut sides = (OursInPicture(method), OriginalInPicture(original(method)));
-                    beside(&name, [&mut sides.0, &mut sides.1], stream, rounds);
-                } else {
-                    let mut sides = (OursAlone(method), OriginalAlone(original(method)));
-                    beside(&name, [&mut sides.0, &mut sides.1], stream, rounds);
-                }
+                each(in_picture, k, method, &format!("{place}, {what}, method {n}"));
             }
         }
+    }
+}
+
+pub fn main() {
+    let mut dice = Dice(7);
+    let mut arguments = std::env::args().skip(1).peekable();
+    let rounds: usize = arguments.next().map_or(50, |n| n.parse().expect("a number of rounds"));
+    // so many that no branch predictor learns them
+    let all = EVENTS.map(|events| drawn(&mut dice, (WIDTH * HEIGHT) as usize, events));
+    let streams = all.each_ref().map(|one| Stream::of(one, |_| None));
+    columns("nanoseconds a macroblock", ["ours", "original"]);
+    each_kind(|in_picture, k, method, name| {
+        if in_picture {
+            let mut sides = (OursInPicture(method), OriginalInPicture(original(method)));
+            beside(name, [&mut sides.0, &mut sides.1], &streams[k], rounds);
+        } else {
+            let mut sides = (OursAlone(method), OriginalAlone(original(method)));
+            beside(name, [&mut sides.0, &mut sides.1], &streams[k], rounds);
+        }
+    });
+    columns("ours, with header", ["with", "without"]);
+    each_kind(|in_picture, k, method, name| with_header::beside(name, &all[k], &streams[k], in_picture, method, rounds));
+    if arguments.peek().is_some() {
+        columns("nanoseconds a macroblock", ["ours", "original"]);
     }
     for file in arguments {
         let (method, stream) = clip::read(&file);

@@ -1,5 +1,6 @@
 #!/bin/sh
-# Times the library beside the original, which is built without checks, outside the gate:
+# Times the library beside the original, which is built without checks, and macroblocks with their headers in their bits beside the same
+# ones without, outside the gate:
 #     bench/run.sh FOLDER_OF_THE_RUST_SOURCES [ROUNDS [CLIP.in ..]]
 # A clip is a file of the lines that `still` reads: a picture of depth 8 and its intra macroblocks. Where ffmpeg is installed and the
 # stream that a clip was taken from lies beside it (CLIP.m4v), ffmpeg's time for that stream is told too.

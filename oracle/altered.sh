@@ -1,13 +1,17 @@
 #!/bin/sh
-# Shows that a comparison can fail: one place at a time of the original, of the driver's picture layer, of where 17 is due, or of what the
-# driver takes from Rattle's side is altered in a copy, and the comparison must report each; of `record`, what is recorded must be another
-# than the stored output of `replay`:
-#     oracle/altered.sh FOLDER_OF_THE_RUST_SOURCES texture|block|macroblock|picture|record [SCALE]
+# Shows that a comparison can fail: one place at a time of the original, of the driver's picture layer, of what it makes of a header, of
+# where 17 is due, or of what the driver takes from Rattle's side is altered in a copy, and the comparison must report each; of `record`,
+# what is recorded must be another than the stored output of `replay`:
+#     oracle/altered.sh FOLDER_OF_THE_RUST_SOURCES texture|block|macroblock|picture|headers|record [SCALE]
 set -eu
-name=${2:?texture, block, macroblock, picture or record}
+name=${2:?texture, block, macroblock, picture, headers or record}
 . "$(dirname "$0")/common/build.sh"
 begin "$(dirname "$0")/$name" "${1:-}"
-if [ "$name" != record ]; then offered "$name"; fi
+case $name in
+record) ;;
+headers) offered picture ;;
+*) offered "$name" ;;
+esac
 scale=${3:-}
 originals=$sources
 drivers=$here
@@ -93,16 +97,39 @@ alter picture layer.rs 's/return 13;/return 15;/' 'a number out of range in the 
 alter picture layer.rs 's/let row = c.is_none_or.*/let row = true;/' 'AC values of C out of range let through'
 alter 'picture record' layer.rs 's/return 15;/return 11;/' 'a complete picture told as 11'
 alter 'picture record' layer.rs 's/a.picture.numbers\[3\] += 1;//' 'the same macroblock due again'
-rattle='texture block macroblock picture'
-alter "$rattle" main.rs 's/^ *(a, spellings)$/{ spellings.swap(1, 2); (a, spellings) }/' 'types 1 and 2 exchanged in the spellings'
-alter "$rattle" main.rs 's/^ *(a, spellings)$/{ if a.number != 0 { spellings = [0; 5]; } (a, spellings) }/' 'spellings written on a refusal'
-alter "$rattle" main.rs 's/^ *(a, spellings)$/{ if a.number == 17 { a.number = 4; } (a, spellings) }/' '17 told as 4'
-alter "$rattle" main.rs 's/^ *(a, spellings)$/{ if a.number == 17 { a.number = 1; } (a, spellings) }/' '17 told as 1'
+rattle='texture block macroblock picture headers'
+# What is taken of Rattle's side: what is done to it, and what that is.
+taken() {
+    alter 'texture block macroblock headers' main.rs "s/^ *(a, spellings)\$/{ $1 (a, spellings) }/" "$2"
+    alter picture play.rs "s/^ *(a, spellings)\$/{ $1 (a, spellings) }/" "$2"
+}
+taken 'spellings.swap(1, 2);' 'types 1 and 2 exchanged in the spellings'
+taken 'if a.number != 0 { spellings = [0; 5]; }' 'spellings written on a refusal'
+taken 'if a.number == 17 { a.number = 4; }' '17 told as 4'
+taken 'if a.number == 17 { a.number = 1; }' '17 told as 1'
 alter "$rattle record" stopped.rs 's/code.starts_with(rest) && //' '17 for every short window'
-alter "$rattle record" stopped.rs 's/(2 | 4, _) if/(1 | 2 | 4, _) if/' '17 where no bits are left'
+alter "$rattle record" stopped.rs 's/(2 | 4 | 16, _) if/(1 | 2 | 4 | 16, _) if/' '17 where no bits are left'
 alter "$rattle record" stopped.rs 's/=> (17, 0)/=> (17, 1)/' 'a figure with 17'
 alter "$rattle record" stopped.rs 's/rows.chain(\[texture::RVLC_ESCAPE\])/rows/' 'the reversible escape not sought'
 alter texture stopped.rs 's/code.len() > rest.len()/code.len() >= rest.len()/' 'a whole code taken for a cut one'
 alter 'texture record' symbol_call.rs 's/dc_codes(component(chroma))/dc_codes(component(false))/' "luma's DC codes sought for chroma"
 alter 'block macroblock' stopped.rs 's/block_component(i)/block_component(0)/' "luma's DC codes sought in every block"
+alter headers macroblock.rs 's/0b00 => -1,/0b00 => 1,/' '00 of dquant as +1'
+alter headers macroblock.rs 's/(0b1001, 4, 0b0011, 0b1100)/(0b1001, 4, 0b1100, 0b1100)/' 'one cell of cbpy from the inter column'
+alter headers macroblock.rs 's/(0b00_0010, 6, 4, 0b10)/(0b00_0010, 6, 4, 0b01)/' 'Cb and Cr exchanged in one row of mcbpc'
+alter headers header_call.rs 's/clamp(1, 31)/clamp(1, 32)/' 'the new quantiser limited to 32'
+alter headers header_call.rs 's/clamp(1, 31)/clamp(0, 31)/' 'the new quantiser limited to 0'
+alter headers header_call.rs 's/^ *\*quantiser_scale = .*//' 'the old quantiser for the values'
+alter headers header_call.rs 's/^ *\*ac_pred_flag = .*//' "the context's flag instead of the header's"
+alter headers whole_call.rs 's/bits: blocks.position - at,/bits: blocks.position - at - 9 * super::heading::stuffing(data, at),/' 'stuffing left out of the length'
+alter headers layer.rs 's/&mut blocks.quantiser_scale,/\&mut { s.quantiser_scale },/' 'the old quantiser in a picture'
+alter headers layer.rs 's/&mut blocks.flags\[0\])/\&mut { s.flags[0] })/' "the context's flag in a picture"
+alter headers layer.rs 's/a.bits = .*/a.bits = a.position - s.at - 9 * crate::common::heading::stuffing(\&s.data, s.at);/' 'stuffing left out of the length in a picture'
+alter headers layer.rs 's/|i| six\[i\].0)/|i| (six[i].0.0, Kept { quantiser: s.quantiser_scale as i32, ..six[i].0.1 }))/' 'the old quantiser kept in the store'
+alter headers main.rs 's/^ *(a, UNTOLD)$/{ if a.number == 17 { a.number = 16; } (a, UNTOLD) }/' '16 where 17 is due'
+alter headers main.rs 's/^ *(a, spellings)$/{ if a.number == 17 { a.number = 16; } (a, spellings) }/' '16 where 17 is due, of macroblocks'
+alter headers main.rs 's/^ *(a, UNTOLD)$/{ if a.number == 16 { a.figure = 1; } (a, UNTOLD) }/' 'a figure with 16'
+alter headers main.rs 's/^ *a.fields = f.fields();/if a.number != 0 { f.dquant_delta = 0; } &/' 'fields written on a refusal'
+alter headers stopped.rs 's/MCBPC_I.iter()/MCBPC_I[..8].iter()/' 'stuffing not sought'
+alter headers stopped.rs 's/=> &CODES.cbpy,/=> \&CODES.mcbpc,/' 'codes of mcbpc sought for cbpy'
 exit $missed

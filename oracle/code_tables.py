@@ -11,6 +11,7 @@ folder = sys.argv[1] + '/'
 tcoef = open(folder + 'tcoef_tables.rs').read()
 reversible = open(folder + 'rvlc_tables.rs').read()
 texture = open(folder + 'texture.rs').read()
+macroblock = open(folder + 'macroblock.rs').read()
 
 
 def rows(name, text):
@@ -43,3 +44,11 @@ for name, first in (('rvlc-intra', 2), ('rvlc-inter', 5)):
 for name in ('luminance', 'chrominance'):
     for row in rows('DC_SIZE_' + name.upper(), texture):
         print(name, row[0][2:], row[2])
+for code, length, kind, cbpc in rows('MCBPC_I_TABLE', macroblock):
+    bits = code[2:].replace('_', '')
+    assert len(bits) == int(length)
+    print('mcbpc', bits, *(['stuffing'] if kind == '5' else [kind, int(cbpc, 2)]))
+for code, length, intra, _ in rows('CBPY_4_TABLE', macroblock):
+    bits = code[2:].replace('_', '')
+    assert len(bits) == int(length)
+    print('cbpy', bits, int(intra, 2))

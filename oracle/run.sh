@@ -29,5 +29,8 @@ compare texture/run.sh 200000
 compare block/run.sh 300000
 compare macroblock/run.sh 1000
 compare picture/run.sh 1620
+compare headers/run.sh 400
 sed -n 's/^blocks compared: \([0-9]*\), decoded \([0-9]*\)$/\1 \2/p' "$told/all" |
     awk '{ compared += $1; decoded += $2 } END { printf "in all %d blocks compared (6 for each macroblock), %d of them decoded, no difference\n", compared, decoded }'
+sed -n 's/^headers compared: \([0-9]*\), read \([0-9]*\)$/\1 \2/p' "$told/all" |
+    awk '{ printf "and %d headers by themselves, %d of them read, no difference\n", $1, $2 }'

@@ -35,12 +35,17 @@ impl Counts {
         self.spelled.iter_mut().zip(written).for_each(|(a, n)| *a += u64::from(n));
     }
 
+    // The spellings, and all parts together.
     pub fn end(&self, what: &str) {
         let [plain, one, two, three, escapes] = self.spelled;
         println!(
             "{:44} {:>9} {what}: {plain:>8} plain, {one} of type 1, {two} of type 2, {three} of type 3, {escapes} reversible escapes",
             "spellings as written", self.held
         );
+        self.all(what);
+    }
+
+    pub fn all(&self, what: &str) {
         println!("{:44} {}, no difference", "all", told(&self.all, what));
     }
 
@@ -64,4 +69,9 @@ fn told(counts: &[u64; NUMBERS], what: &str) -> String {
 // What `oracle/run.sh` adds up.
 pub fn blocks(compared: u64, decoded: u64) {
     println!("blocks compared: {compared}, decoded {decoded}");
+}
+
+// The same of headers by themselves.
+pub fn headers(compared: u64, read: u64) {
+    println!("headers compared: {compared}, read {read}");
 }

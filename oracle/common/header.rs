@@ -71,6 +71,16 @@ impl Header {
         }
     }
 
+    pub fn of(h: &MacroblockHeader) -> Header {
+        Header {
+            not_coded: h.not_coded,
+            mb_type: h.mb_type.map_or(0, |t| u32::from(t.as_u8()) + 1),
+            cbpc: h.cbpc,
+            ac_pred_flag: h.ac_pred_flag,
+            cbpy: h.cbpy,
+        }
+    }
+
     pub fn simpler(&self) -> Vec<Header> {
         let mut all = Vec::new();
         let mut with = |h: Header| {

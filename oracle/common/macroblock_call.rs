@@ -1,6 +1,7 @@
 // One macroblock alone: the call, and what it must give.
 use super::dice::Dice;
-use super::header::{Header, lent, put};
+use super::header::{Header, lent, put, samples_told};
+use super::header_call::{Fields, UNREAD};
 use super::numbers::data_fine;
 use super::sentence::{self, Sentence};
 use super::setting::{self, Block, Setting};
@@ -9,6 +10,15 @@ use crate::bitreader::BitReader;
 use crate::block::{self, BlockAssemblyError};
 
 pub const READINGS: [[bool; 2]; 4] = [[true, false], [true, true], [false, false], [false, true]];
+
+// Every pattern with every reading, so many times.
+pub fn patterns(n: usize, mut each: impl FnMut(usize, usize, [bool; 2])) {
+    for k in 0..n {
+        for pattern in 0..64 {
+            READINGS.iter().for_each(|&reading| each(k, pattern, reading));
+        }
+    }
+}
 
 #[derive(Clone, Copy, Debug)]
 pub struct Call {
@@ -20,7 +30,7 @@ pub struct Call {
     pub room: usize,
 }
 
-// A number (0: accepted), its figure, the number of bits, the position after the call, and the samples.
+// A number (0: accepted), its figure, the number of bits, the position after the call, the samples, and what is read of a header.
 #[derive(Clone, PartialEq, Debug)]
 pub struct Answer {
     pub number: u32,
@@ -28,21 +38,39 @@ pub struct Answer {
     pub bits: usize,
     pub position: usize,
     pub samples: Vec<i32>,
+    pub fields: Fields,
 }
 
-impl Call {
-    pub fn lent(&self, at: usize) -> Answer {
+impl Answer {
+    // Before a call that lends so many samples.
+    pub fn before(at: usize, room: usize) -> Answer {
         Answer {
             number: 0,
             figure: 0,
             bits: 999_999,
             position: at,
-            samples: lent(self.room),
+            samples: lent(room),
+            fields: UNREAD,
         }
     }
 
+    // What differs between two.
+    pub fn told(&self, due: &Answer) -> String {
+        let of = |a: &Answer| {
+            let fields = a.fields.told();
+            format!(
+                "number {} figure {} bits {} position {}{fields}",
+                a.number, a.figure, a.bits, a.position
+            )
+        };
+        let samples = samples_told(&self.samples, &due.samples);
+        format!("  ours: {}\n  due:  {}\n{samples}", of(self), of(due))
+    }
+}
+
+impl Call {
     // 11, 12, 13, 14, 9, 10, in this order.
-    fn state(&self, data: &[u8], at: usize) -> u32 {
+    pub fn state(&self, data: &[u8], at: usize) -> u32 {
         if !data_fine(data, at) {
             return 11;
         }
@@ -92,7 +120,7 @@ impl Call {
 
     // With 17 where it is due.
     pub fn due(&self, data: &[u8], at: usize) -> Answer {
-        let mut a = self.lent(at);
+        let mut a = Answer::before(at, self.room);
         a.number = self.state(data, at);
         // 9 and 10 the original tells itself, where it is the reference
         if a.number != 0 && !(matches!(a.number, 9 | 10) && self.reading == [true, false]) {

@@ -1,4 +1,5 @@
-// What the original's modules name of modules that are not among its sources. No compared function runs any of it.
+// What the original's modules name of modules that are not among its sources. No compared function runs any of it; a header's reading
+// looks at the fields of `VolHeader`.
 
 pub mod sample_padding {
     #[derive(Clone, Copy)]
@@ -13,6 +14,7 @@ pub mod sample_padding {
 
 pub mod vol {
     pub enum SpriteEnable {
+        NotUsed,
         Gmc,
     }
 

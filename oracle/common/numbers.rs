@@ -1,6 +1,7 @@
 // Document 01's numbers of the original's errors, and its ranges.
 use super::tally::first_bad;
 use crate::block::BlockAssemblyError;
+use crate::macroblock::MacroblockParseError;
 use crate::scan::InverseScanError;
 use crate::texture::TextureParseError;
 
@@ -33,6 +34,15 @@ pub fn of_block(e: BlockAssemblyError) -> (u32, u32) {
         BlockAssemblyError::NotCoded => (9, 0),
         BlockAssemblyError::NotIntra => (10, 0),
         BlockAssemblyError::NotInter => unreachable!("only inter"),
+    }
+}
+
+// Of a header of an I-VOP, rectangular and not interlaced; 16 and 17 have no figure.
+pub fn of_header(e: MacroblockParseError) -> (u32, u32) {
+    match e {
+        MacroblockParseError::Truncated => (1, 0),
+        MacroblockParseError::InvalidMcbpc { .. } | MacroblockParseError::InvalidCbpy { .. } => (16, 0),
+        other => unreachable!("{other}"),
     }
 }
 

@@ -1,9 +1,10 @@
-// 17, which the original does not know: the bits end inside a code. It only looks at a code, so that where it refuses by 2 or 4 its
+// 17, which the original does not know: the bits end inside a code. It only looks at a code, so that where it refuses by 2, 4 or 16 its
 // reader stands there, and all that is left must be a proper beginning of a code that is sought there.
 use super::bits::bits_from;
 use super::numbers;
 use crate::bitreader::BitReader;
 use crate::block::{self, BlockAssemblyError};
+use crate::macroblock::{CBPY_4, MCBPC_I, MacroblockParseError};
 use crate::texture::{self, DcComponent, TcoefTable, TextureParseError};
 use std::sync::LazyLock;
 
@@ -14,6 +15,8 @@ struct Codes {
     intra: Vec<String>,
     inter: Vec<String>,
     reversible: Vec<String>,
+    mcbpc: Vec<String>,
+    cbpy: Vec<String>,
 }
 
 static CODES: LazyLock<Codes> = LazyLock::new(|| Codes {
@@ -22,6 +25,9 @@ static CODES: LazyLock<Codes> = LazyLock::new(|| Codes {
     intra: plain(TcoefTable::Intra),
     inter: plain(TcoefTable::Inter),
     reversible: reversible(),
+    // with stuffing
+    mcbpc: MCBPC_I.iter().map(|r| text(r.0.into(), r.1)).collect(),
+    cbpy: CBPY_4.iter().map(|r| text(r.0.into(), r.1)).collect(),
 });
 
 fn text(code: u32, len: u8) -> String {
@@ -78,11 +84,15 @@ fn ends_inside(br: &BitReader, codes: &[String]) -> bool {
 }
 
 // The number, and the figure, where these codes were sought.
-pub fn of_texture(e: TextureParseError, br: &BitReader, codes: &[String]) -> (u32, u32) {
-    match numbers::of_texture(e) {
-        (2 | 4, _) if ends_inside(br, codes) => (17, 0),
+fn where_sought(told: (u32, u32), br: &BitReader, codes: &[String]) -> (u32, u32) {
+    match told {
+        (2 | 4 | 16, _) if ends_inside(br, codes) => (17, 0),
         told => told,
     }
+}
+
+pub fn of_texture(e: TextureParseError, br: &BitReader, codes: &[String]) -> (u32, u32) {
+    where_sought(numbers::of_texture(e), br, codes)
 }
 
 // The same of a refusal in block i, with plain or reversible events.
@@ -94,4 +104,14 @@ pub fn of_block(e: BlockAssemblyError, br: &BitReader, i: usize, reversible: boo
         TextureParseError::InvalidDcSize { .. } => of_texture(e, br, dc_codes(block::block_component(i))),
         _ => of_texture(e, br, event_codes(reversible, TcoefTable::Intra)),
     }
+}
+
+// The same of a refusal in a header. Where the original is cut short it does not tell what it sought.
+pub fn of_header(e: MacroblockParseError, br: &BitReader) -> (u32, u32) {
+    let codes: &[String] = match e {
+        MacroblockParseError::InvalidMcbpc { .. } => &CODES.mcbpc,
+        MacroblockParseError::InvalidCbpy { .. } => &CODES.cbpy,
+        _ => &[],
+    };
+    where_sought(numbers::of_header(e), br, codes)
 }

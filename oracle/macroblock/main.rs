@@ -6,8 +6,7 @@
 use crate::common::bits::{Bits, any_bytes, bytes_of, flip, push};
 use crate::common::counts;
 use crate::common::dice::Dice;
-use crate::common::header::samples_told;
-use crate::common::macroblock_call::{Answer, Call, READINGS};
+use crate::common::macroblock_call::{Answer, Call, READINGS, patterns};
 use crate::common::numbers::MOST_BYTES;
 use crate::common::sentence::{Sentence, Spellings, UNTOLD};
 use crate::common::setting::{Matrix, Seven};
@@ -23,7 +22,7 @@ impl test::Call for Call {
 
     #[rustfmt::skip]
     fn ours(&self, data: &[u8], at: usize) -> (Answer, Spellings) {
-        let (mut a, mut spellings) = (self.lent(at), UNTOLD);
+        let (mut a, mut spellings) = (Answer::before(at, self.room), UNTOLD);
         let (h, s) = (&self.header, &self.setting);
         a.number = unsafe {
             rt_macroblock(
@@ -44,13 +43,7 @@ impl test::Call for Call {
     }
 
     fn told(&self, ours: &Answer, due: &Answer) -> String {
-        let of = |a: &Answer| format!("number {} figure {} bits {} position {}", a.number, a.figure, a.bits, a.position);
-        format!(
-            "  ours: {}\n  due:  {}\n{}",
-            of(ours),
-            of(due),
-            samples_told(&ours.samples, &due.samples)
-        )
+        ours.told(due)
     }
 
     fn simpler(&self) -> Vec<Call> {
@@ -58,15 +51,6 @@ impl test::Call for Call {
         let headers = self.header.simpler().into_iter().map(|header| Call { header, ..*self });
         let settings = self.setting.simpler().into_iter().map(|setting| Call { setting, ..*self });
         room.into_iter().chain(headers).chain(settings).collect()
-    }
-}
-
-// Every pattern with every reading, so many times.
-fn patterns(n: usize, mut each: impl FnMut(usize, usize, [bool; 2])) {
-    for k in 0..n {
-        for pattern in 0..64 {
-            READINGS.iter().for_each(|&reading| each(k, pattern, reading));
-        }
     }
 }
 

@@ -1,7 +1,9 @@
 // One call with a picture and a store from elsewhere, in range or not.
 use super::layer::{Kept, Picture, Place, Step, due};
+use super::ours;
+use super::play::{Draw, miscounted, same, step_told, told};
 use super::scene::simpler_steps;
-use super::{Style, miscounted, ours, put_bits, same, spoil, step_told, told};
+use super::style::{Style, put_bits, spoil};
 use crate::common::counts::Counts;
 use crate::common::dice::Dice;
 use crate::common::sentence::{Spellings, UNTOLD};
@@ -29,7 +31,7 @@ fn stored(width: u32, store: &[i32], (grid, x, y): Place) -> Kept {
     }
 }
 
-pub fn call(counts: &mut Counts, dice: &mut Dice, style: &Style) {
+pub fn call(counts: &mut Counts, dice: &mut Dice, style: &Style, draw: Draw) {
     let (width, height) = if dice.flag() {
         (1 + dice.below(4), 1 + dice.below(4))
     } else {
@@ -69,7 +71,7 @@ pub fn call(counts: &mut Counts, dice: &mut Dice, style: &Style) {
         };
     }
     let mut quantiser = 1 + dice.below(31) as u32;
-    let (mut s, one) = style.step(dice, &mut quantiser);
+    let (mut s, one) = draw(style, dice, &mut quantiser);
     put_bits(dice, &mut s, &one.bits);
     let mut written = Some(one.spellings);
     match dice.below(12) {

@@ -3,6 +3,7 @@
 use crate::bitreader::BitReader;
 use crate::block::{BlockAssemblyError, BlockPredictors, MacroblockTextureContext};
 use crate::common::header::{Header, lent, put};
+use crate::common::header_call::{self, Fields, UNREAD};
 use crate::common::numbers::{data_fine, dc_fine, depth_fine, level_fine};
 use crate::common::setting::{self, Block, Matrix, Seven, context_fine, rule};
 use crate::common::stopped;
@@ -10,6 +11,9 @@ use crate::common::stopped;
 // What one call brings.
 #[derive(Clone, Debug, PartialEq)]
 pub struct Step {
+    // its header stands in its bits, before its blocks: then `header` and ac_pred_flag are not looked at, and the quantiser is the one
+    // before the header
+    pub in_bits: bool,
     pub header: Header,
     pub quantiser_scale: u32,
     // ac_pred_flag, alternate_vertical_scan, intra_mismatch_exempt, to even, use_intra_dc_vlc, reversible_vlc
@@ -29,7 +33,8 @@ pub struct Picture {
     pub method: bool,
 }
 
-// A number (0: accepted), its figure, the number of bits, the position after the call, the picture after it, and the samples.
+// A number (0: accepted), its figure, the number of bits, the position after the call, the picture after it, the samples, and what is
+// read of a header in the bits.
 #[derive(Clone, Debug, PartialEq)]
 pub struct Answer {
     pub number: u32,
@@ -38,6 +43,7 @@ pub struct Answer {
     pub position: usize,
     pub picture: Picture,
     pub samples: Vec<i32>,
+    pub fields: Fields,
 }
 
 // 11, 12 or 0.
@@ -58,6 +64,7 @@ pub fn before(picture: Picture, s: &Step) -> Answer {
         position: s.at,
         picture,
         samples: lent(s.room),
+        fields: UNREAD,
     }
 }
 
@@ -111,7 +118,7 @@ fn predictors(a: Option<Kept>, b: Option<Kept>, c: Option<Kept>, depth: u32, qua
     }
 }
 
-// 11, 12, 14, 15, 13, 9, 10, in this order. `kept` gives an earlier macroblock's block.
+// 11, 12, 14, 15, 13, 9, 10, in this order; 9 and 10 only of a header that is handed in. `kept` gives an earlier macroblock's block.
 fn state(p: Picture, s: &Step, stored: usize, kept: &dyn Fn(Place) -> Kept) -> u32 {
     let [width, height, depth, accepted] = p.numbers;
     if !(1..=45).contains(&width) || !(1..=36).contains(&height) || !data_fine(&s.data, s.at) {
@@ -139,7 +146,7 @@ fn state(p: Picture, s: &Step, stored: usize, kept: &dyn Fn(Place) -> Kept) -> u
             return 13;
         }
     }
-    s.header.state()
+    if s.in_bits { 0 } else { s.header.state() }
 }
 
 // The macroblock that is due: what the call must give, and if it is accepted what is kept of its six blocks.
@@ -151,8 +158,22 @@ pub fn due(p: Picture, s: &Step, stored: usize, kept: &dyn Fn(Place) -> Kept) ->
     }
     let mut br = BitReader::new(&s.data);
     br.skip_bits(s.at).unwrap();
-    match six(p, s, &mut br, kept) {
+    let mut blocks = s.clone();
+    let mut fields = UNREAD;
+    if s.in_bits {
+        match header_call::read(&mut br, s.quantiser_scale) {
+            Ok(read) => fields = read,
+            Err(e) => {
+                (a.number, a.figure) = stopped::of_header(e, &br);
+                return (a, None);
+            }
+        }
+        blocks.header = fields.header;
+        fields.put(&mut blocks.quantiser_scale, &mut blocks.flags[0]);
+    }
+    match six(p, &blocks, &mut br, kept) {
         Ok(six) => {
+            a.fields = fields;
             six.iter().enumerate().for_each(|(i, one)| put(&mut a.samples, i, &one.1));
             a.position = br.bit_position();
             a.bits = a.position - s.at;

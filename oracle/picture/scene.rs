@@ -1,6 +1,8 @@
 // A picture that differs, made small: fewer rows and columns, fewer calls, plainer ones, fewer bits.
 use super::layer::Step;
-use super::{Play, step_told};
+use super::play::{Play, step_told};
+use crate::common::bits::bytes_of;
+use crate::common::heading::PLAIN;
 use crate::common::setting::simpler_matrices;
 use crate::common::smallest::{simplest, smallest_data};
 
@@ -122,11 +124,11 @@ impl Scene {
     }
 }
 
-// The same call without bits: no block coded and no DC codes.
+// The same call without bits, but for its header: no block coded and no DC codes.
 fn plain(s: &Step) -> Step {
     let mut t = s.clone();
-    t.data.clear();
-    t.at = 0;
+    let bits = if s.in_bits { PLAIN.bits() } else { Vec::new() };
+    t.at = bytes_of(&mut t.data, &bits, 0, 0);
     t.flags = [false; 6];
     t.header.cbpy = 0;
     t.header.cbpc = 0;
@@ -151,7 +153,9 @@ pub fn simpler_steps(s: &Step) -> Vec<Step> {
         with(&|t| t.room = 384);
     }
     with(&|t| t.stored = usize::MAX);
-    s.header.simpler().iter().for_each(|h| with(&|t| t.header = *h));
+    if !s.in_bits {
+        s.header.simpler().iter().for_each(|h| with(&|t| t.header = *h));
+    }
     all
 }
 

@@ -55,6 +55,7 @@ impl Style {
         let [dc_coded, reversible] = self.reading.unwrap_or_else(|| [dice.flag(), dice.flag()]);
         let ac_pred = [false, true, dice.flag()][self.ac_pred];
         let s = Step {
+            in_bits: false,
             header: Header::intra(dice, pattern),
             quantiser_scale: *quantiser,
             flags: [ac_pred, dice.rarely(), dice.flag(), dice.flag(), dc_coded, reversible],

@@ -5,16 +5,17 @@ use crate::common::bits::bytes_of;
 use crate::common::counts::NUMBERS;
 use crate::common::dice::Dice;
 use crate::common::header::Header;
+use crate::common::header_call::{self, Fields};
 use crate::common::numbers::transform_state;
 use crate::common::setting::{Block, Matrix, Setting, rule};
 use crate::common::symbol_call::{self, Call};
-use crate::common::{block_call, macroblock_call};
+use crate::common::{block_call, macroblock_call, whole_call};
 use crate::idct::idct_8x8_rounded;
 
 // What the program puts into lent memory before a call; the harness has numbers from a million on there.
 const LENT: i64 = 9999;
 
-const KINDS: [&str; 9] = [
+const KINDS: [&str; 12] = [
     "",
     "DC parts",
     "events",
@@ -24,13 +25,16 @@ const KINDS: [&str; 9] = [
     "openings",
     "macroblocks in a picture",
     "transforms",
+    "headers",
+    "whole macroblocks alone",
+    "whole ones in a picture",
 ];
 
 #[derive(Default)]
 pub struct Record {
     pub asked: String,
     pub due: String,
-    counts: [[u64; NUMBERS]; 9],
+    counts: [[u64; NUMBERS]; 12],
 }
 
 // Bits and then the end of the data, or bytes and a start.
@@ -103,6 +107,13 @@ fn header(h: &Header) -> [i64; 5] {
     ]
 }
 
+// What is read of a header in bits.
+fn fields(f: &Fields) -> impl Iterator<Item = i64> {
+    header(&f.header)
+        .into_iter()
+        .chain([f.dquant_delta.into(), f.quantiser_scale.into()])
+}
+
 fn block(b: &Block) -> impl Iterator<Item = i64> {
     b.iter().flatten().map(|&z| z.into())
 }
@@ -130,7 +141,11 @@ impl Record {
     // Lent memory, where there is some, must be as before.
     fn refused(&mut self, kind: usize, number: u32, figure: u32) {
         self.counts[kind][number as usize] += 1;
-        let kept = if matches!(kind, 3 | 4 | 5 | 7 | 8) { Some(1) } else { None };
+        let kept = if matches!(kind, 3 | 4 | 5 | 7 | 8 | 10 | 11) {
+            Some(1)
+        } else {
+            None
+        };
         line(&mut self.due, [number.into(), figure.into()].into_iter().chain(kept));
     }
 
@@ -177,6 +192,26 @@ impl Record {
         self.accepted(5, [a.bits as i64, a.position as i64].into_iter().chain(samples(&a.samples)));
     }
 
+    pub fn heading(&mut self, c: header_call::Call, data: &Data) {
+        self.ask(9, std::iter::once(unsigned(c.quantiser_scale)).chain(data.numbers()));
+        let a = c.due(&data.bytes, data.at);
+        if a.number != 0 {
+            return self.refused(9, a.number, a.figure);
+        }
+        self.accepted(9, std::iter::once(a.position as i64).chain(fields(&a.fields)));
+    }
+
+    pub fn whole(&mut self, c: &whole_call::Call, data: &Data) {
+        let first = flags(&c.reading).chain([c.room as i64]);
+        self.ask(10, first.chain(setting(&c.setting)).chain(data.numbers()));
+        let a = c.due(&data.bytes, data.at);
+        if a.number != 0 {
+            return self.refused(10, a.number, a.figure);
+        }
+        let first = [a.bits as i64, a.position as i64].into_iter().chain(fields(&a.fields));
+        self.accepted(10, first.chain(samples(&a.samples)));
+    }
+
     // The picture with its blocks, if it is opened.
     pub fn opening(&mut self, width: u32, height: u32, depth: u32, method: bool) -> Option<Layer> {
         let fields = [width, height, depth].map(unsigned);
@@ -198,15 +233,18 @@ impl Record {
         let stored = s.stored.min(192 * layer.picture.numbers[0] as usize);
         let data = Data::new(s.data.clone(), s.at);
         let lent = [s.room as i64, stored as i64, unsigned(s.quantiser_scale)];
-        let fields = header(&s.header).into_iter().chain(flags(reading)).chain(lent);
-        self.ask(7, fields.chain(flags(context)).chain(matrix(&s.matrix)).chain(data.numbers()));
+        let kind = if s.in_bits { 11 } else { 7 };
+        let handed = header(&s.header).into_iter().filter(|_| !s.in_bits);
+        let all = handed.chain(flags(reading)).chain(lent);
+        self.ask(kind, all.chain(flags(context)).chain(matrix(&s.matrix)).chain(data.numbers()));
         let a = layer.call(s, stored);
         if a.number != 0 {
-            self.refused(7, a.number, a.figure);
+            self.refused(kind, a.number, a.figure);
             return a.number;
         }
         let first = [a.bits as i64, a.position as i64, a.picture.numbers[3].into()];
-        self.accepted(7, first.into_iter().chain(samples(&a.samples)));
+        let read = fields(&a.fields).filter(|_| s.in_bits);
+        self.accepted(kind, first.into_iter().chain(read).chain(samples(&a.samples)));
         0
     }
 

@@ -5,6 +5,8 @@ use lines::Record;
 
 #[path = "blocks.rs"]
 mod blocks;
+#[path = "headers.rs"]
+mod headers;
 #[path = "../picture/layer.rs"]
 mod layer;
 #[path = "lines.rs"]
@@ -28,6 +30,7 @@ pub fn main() {
     macroblocks::all(&mut record, &mut Dice(3));
     pictures::all(&mut record, &mut Dice(4));
     transforms::all(&mut record);
+    headers::all(&mut record, &mut Dice(5));
     record.says();
     std::fs::write(format!("{folder}/stdin"), record.asked).expect("to write stdin");
     std::fs::write(format!("{folder}/stdout"), record.due).expect("to write stdout");
