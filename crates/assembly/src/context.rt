@@ -1,7 +1,7 @@
 // What a macroblock hands to each of its blocks.
 use rounding::HalfIntegerRounding;
 
-#[derive(Drop)]
+#[derive(Clone, Copy)]
 pub struct MacroblockTextureContext {
     pub quantiser_scale: u32,
     pub bits_per_pixel: u32,

@@ -9,7 +9,7 @@ use bits::{BitCount, Cursor};
 use fields::TextureParseError;
 use prediction::BlockPredictors;
 
-#[derive(Drop)]
+#[derive(Clone, Copy)]
 pub enum BlockAssemblyError {
     // 11: a block index above 5, data too long, or a start past its end
     OutOfRange,
@@ -64,7 +64,7 @@ impl BlockAssemblyError {
 }
 
 // Whether the state is fine.
-#[derive(Drop)]
+#[derive(Clone, Copy)]
 pub enum Checked {
     Fine,
     Bad(BlockAssemblyError),

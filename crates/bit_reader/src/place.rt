@@ -6,14 +6,14 @@ ghost use Rattle.bit_reader.specs.BitReader.{position_after, moved_to};
 use bits::{BitCount, BitsPeeked, BitsRead, Cursor, Moved};
 
 // What was read, and the position after it.
-#[derive(Drop)]
+#[derive(Clone, Copy)]
 pub struct ReadAt {
     pub answer: BitsPeeked,
     pub bit_pos: usize,
 }
 
 // Whether bits were skipped, and the position after them.
-#[derive(Drop)]
+#[derive(Clone, Copy)]
 pub struct SkippedAt {
     pub answer: Moved,
     pub bit_pos: usize,

@@ -9,7 +9,7 @@ use crate::place::{next_at, read_at, remaining_at, skip_at};
 use bits::{BitCount, BitsPeeked, Moved};
 
 // The bytes, and a bit position counted from their first bit.
-#[derive(Drop)]
+#[derive(Clone, Copy)]
 pub struct BitReader<'a> {
     pub data: &'a [u8],
     pub bit_pos: usize,

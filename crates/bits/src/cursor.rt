@@ -8,48 +8,48 @@ ghost use Rattle.bits.specs.Cursor.{in_data, remaining, skipped, aligned, read_b
 use crate::error::BitReaderError;
 
 // A bit position, counted from the first bit of the data.
-#[derive(Drop)]
+#[derive(Clone, Copy)]
 pub struct Cursor {
     pub bit_pos: usize,
 }
 
 // The number of n bits, first bit highest, and the cursor after them.
-#[derive(Drop)]
+#[derive(Clone, Copy)]
 pub enum BitsRead {
     Read(u32, Cursor),
     Refused(BitReaderError),
 }
 
 // One bit, and the cursor after it.
-#[derive(Drop)]
+#[derive(Clone, Copy)]
 pub enum BoolRead {
     Read(bool, Cursor),
     Refused(BitReaderError),
 }
 
 // The number of n bits that were not passed.
-#[derive(Drop)]
+#[derive(Clone, Copy)]
 pub enum BitsPeeked {
     Bits(u32),
     Refused(BitReaderError),
 }
 
 // The number of the next bits, at most as many as asked for, and how many they are.
-#[derive(Drop)]
+#[derive(Clone, Copy)]
 pub enum WindowPeeked {
     Window(u32, u32),
     Refused(BitReaderError),
 }
 
 // The moved cursor.
-#[derive(Drop)]
+#[derive(Clone, Copy)]
 pub enum Moved {
     To(Cursor),
     Refused(BitReaderError),
 }
 
 // A number of bits.
-#[derive(Drop)]
+#[derive(Clone, Copy)]
 pub enum BitCount {
     Bits(usize),
     Refused(BitReaderError),

@@ -2,7 +2,7 @@
 ghost use Rattle.std.specs.Prelude.{◌≡◌};
 ghost use Rattle.bits.specs.Cursor.{number_of};
 
-#[derive(Drop)]
+#[derive(Clone, Copy)]
 pub enum BitReaderError {
     // 1: fewer bits are left than were asked for
     EndOfStream,

@@ -16,7 +16,7 @@ use coefficients::BlockPredictors;
 use texture::{EventsRead, Spellings};
 
 // The dequantised DC, the cursor after the block and the number of its events of each spelling, or a refusal.
-#[derive(Drop)]
+#[derive(Clone, Copy)]
 pub enum BlockDecoded {
     Decoded(i32, Cursor, Spellings),
     Refused(BlockAssemblyError),

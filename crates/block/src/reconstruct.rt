@@ -23,7 +23,7 @@ pub(crate) fn quant_of(component: DcComponent, ctx: MacroblockTextureContext) ->
 }
 
 // The dequantised DC of a block that was reconstructed, or a refusal.
-#[derive(Drop)]
+#[derive(Clone, Copy)]
 pub enum BlockRebuilt {
     Rebuilt(i32),
     Refused(BlockAssemblyError),

@@ -14,7 +14,7 @@ use codes::{DcComponent, TcoefTable};
 use texture::{DcRead, EventsRead, Spellings, TextureParseError};
 
 // The cursor after a block and the number of its events of each spelling, or a refusal, and its 64 places, zeros where it refused.
-#[derive(Drop)]
+#[derive(Clone, Copy)]
 pub struct PlacesRead {
     pub answer: EventsRead,
     pub qfs: [i32; 64],

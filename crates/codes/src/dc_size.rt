@@ -5,14 +5,14 @@ ghost use Rattle.codes.specs.Component.{component_due, component_of, component_o
 ghost use Rattle.codes.specs.DcSize.{dc_codes, dc_lens};
 
 // Luminance or chrominance (6.2.7).
-#[derive(Drop)]
+#[derive(Clone, Copy)]
 pub enum DcComponent {
     Luminance,
     Chrominance,
 }
 
 // The component of a block index, or 11 for an index above 5.
-#[derive(Drop)]
+#[derive(Clone, Copy)]
 pub enum BlockComponent {
     Component(DcComponent),
     OutOfRange,

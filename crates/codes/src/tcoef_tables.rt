@@ -4,7 +4,7 @@ ghost use Rattle.std.specs.Prelude.{◌≡◌};
 ghost use Rattle.codes.specs.Tcoef.{vlc_codes, vlc_lens, tcoef_of, event_columns};
 
 // Which table a block is read by.
-#[derive(Drop)]
+#[derive(Clone, Copy)]
 pub enum TcoefTable {
     Intra,
     Inter,

@@ -12,14 +12,14 @@ use codes::DcComponent;
 use fields::{CodeKind, Got, TextureParseError};
 
 // A DC size and the difference of levels that follows it.
-#[derive(Drop)]
+#[derive(Clone, Copy)]
 pub struct IntraDcDifferential {
     pub size: u32,
     pub differential: i32,
 }
 
 // A DC part and the cursor after it, or a refusal.
-#[derive(Drop)]
+#[derive(Clone, Copy)]
 pub enum DcRead {
     Dc(IntraDcDifferential, Cursor),
     Refused(TextureParseError),

@@ -7,7 +7,7 @@ ghost use Rattle.dequantise.specs.Methods.{context_fine, non_zero};
 use codes::DcComponent;
 
 // The parameters of a block's inverse quantisation.
-#[derive(Drop)]
+#[derive(Clone, Copy)]
 pub struct InverseQuantContext {
     pub macroblock_intra: bool,
     pub component: DcComponent,

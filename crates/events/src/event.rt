@@ -4,7 +4,7 @@ use bits::Cursor;
 use fields::TextureParseError;
 
 // Last, run and signed level, and how they were spelled.
-#[derive(Drop)]
+#[derive(Clone, Copy)]
 pub struct AcEvent {
     pub last: bool,
     pub run: u32,
@@ -13,14 +13,14 @@ pub struct AcEvent {
 }
 
 // An event and the cursor after it, or a refusal.
-#[derive(Drop)]
+#[derive(Clone, Copy)]
 pub enum EventRead {
     Event(AcEvent, Cursor),
     Refused(TextureParseError),
 }
 
 // How a row and its sign stand for an event.
-#[derive(Drop)]
+#[derive(Clone, Copy)]
 pub enum RowForm {
     Plain,
     Type1,

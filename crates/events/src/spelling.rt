@@ -3,7 +3,7 @@ ghost use Rattle.std.specs.Prelude.{◌≡◌};
 ghost use Rattle.events.specs.Spellings.{no_spellings};
 
 // A code and its sign, or an escape. A reversible code that is no escape is plain.
-#[derive(Drop)]
+#[derive(Clone, Copy)]
 pub enum Spelling {
     Plain,
     Type1,
@@ -13,7 +13,7 @@ pub enum Spelling {
 }
 
 // The number of events of each spelling.
-#[derive(Drop)]
+#[derive(Clone, Copy)]
 pub struct Spellings {
     pub plain: u32,
     pub type1: u32,

@@ -10,7 +10,7 @@ use crate::field::Got;
 use bits::{Cursor, WindowPeeked};
 
 // Which table a code is of: what its refusal is called.
-#[derive(Drop)]
+#[derive(Clone, Copy)]
 pub enum CodeKind {
     DcSize,
     Tcoef,

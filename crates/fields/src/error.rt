@@ -2,7 +2,7 @@
 ghost use Rattle.std.specs.Prelude.{◌≡◌};
 ghost use Rattle.fields.specs.Refusal.{figure_of, number_of};
 
-#[derive(Drop)]
+#[derive(Clone, Copy)]
 pub enum TextureParseError {
     // 1: no bits are left, or they ended inside a field
     Truncated,

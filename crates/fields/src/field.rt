@@ -9,7 +9,7 @@ use crate::error::TextureParseError;
 use bits::{BitReaderError, BitsRead, Cursor};
 
 // A number and the cursor after it, or a refusal.
-#[derive(Drop)]
+#[derive(Clone, Copy)]
 pub enum Got {
     Number(u32, Cursor),
     Refused(TextureParseError),

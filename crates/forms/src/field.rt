@@ -5,14 +5,14 @@ ghost use Rattle.forms.specs.Reading.{Says, end_of, part, value_read};
 ghost use Rattle.forms.specs.Words.{number_in};
 
 // A number and the place of the next word, or no such word.
-#[derive(Drop)]
+#[derive(Clone, Copy)]
 pub enum Field {
     Bad,
     Value(u32, usize),
 }
 
 // A number, or no such word.
-#[derive(Drop)]
+#[derive(Clone, Copy)]
 pub enum Digits {
     Bad,
     Is(u32),

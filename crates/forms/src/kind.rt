@@ -5,7 +5,7 @@ ghost use Rattle.forms.specs.Reading.{kind_of, part};
 ghost use Rattle.forms.specs.Words.{same};
 
 // `Missing` is the word none, `Skipped` a macroblock that is not coded.
-#[derive(Drop)]
+#[derive(Clone, Copy)]
 pub enum Kind {
     Intra,
     IntraQ,
@@ -17,7 +17,7 @@ pub enum Kind {
 }
 
 // A kind, or no word for one.
-#[derive(Drop)]
+#[derive(Clone, Copy)]
 pub enum KindRead {
     Bad,
     Is(Kind),

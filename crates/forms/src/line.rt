@@ -8,7 +8,7 @@ use crate::kind::{Kind, KindRead};
 
 // A picture: width, height, depth, method. A macroblock: quantiser, ac_pred, type, cbpy, cbpc, and how many bytes of data.
 // `TooShort` (14): fewer than 16,384 bytes were lent for data.
-#[derive(Drop)]
+#[derive(Clone, Copy)]
 pub enum Line {
     Malformed,
     TooShort,

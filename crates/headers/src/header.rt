@@ -7,7 +7,7 @@ ghost use Rattle.headers.specs.Outcomes.{header_due};
 use assembly::{BlockAssemblyError, Checked};
 
 // Table B.1; `Missing` is the Rust's `None`.
-#[derive(Drop)]
+#[derive(Clone, Copy)]
 pub enum DerivedMbType {
     Missing,
     Inter,
@@ -33,7 +33,7 @@ impl DerivedMbType {
 }
 
 // What a macroblock's texture takes of its header. `ac_pred_flag` is the context's; the header's is not looked at.
-#[derive(Drop)]
+#[derive(Clone, Copy)]
 pub struct MacroblockHeader {
     pub not_coded: bool,
     pub mb_type: DerivedMbType,

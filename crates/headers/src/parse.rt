@@ -14,7 +14,7 @@ use assembly::BlockAssemblyError;
 use bits::Cursor;
 
 // The fields of a header, what dquant changes the quantiser by, 0 where there is none, and the quantiser after it.
-#[derive(Drop)]
+#[derive(Clone, Copy)]
 pub struct HeaderFields {
     pub header: MacroblockHeader,
     pub dquant_delta: i32,
@@ -22,7 +22,7 @@ pub struct HeaderFields {
 }
 
 // The fields and the cursor after them, or a refusal.
-#[derive(Drop)]
+#[derive(Clone, Copy)]
 pub enum HeaderRead {
     Read(HeaderFields, Cursor),
     Refused(BlockAssemblyError),

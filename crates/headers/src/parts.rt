@@ -16,7 +16,7 @@ use bits::Cursor;
 use fields::{CodeKind, Got, TextureParseError};
 
 // The rows of mcbpc and cbpy, ac_pred_flag, and what dquant changes the quantiser by: 0 where there is none.
-#[derive(Drop)]
+#[derive(Clone, Copy)]
 pub struct HeaderParts {
     pub mcbpc: u32,
     pub ac_pred_flag: u32,
@@ -25,7 +25,7 @@ pub struct HeaderParts {
 }
 
 // The parts and the cursor after them, or a refusal.
-#[derive(Drop)]
+#[derive(Clone, Copy)]
 pub enum PartsRead {
     Parts(HeaderParts, Cursor),
     Refused(TextureParseError),

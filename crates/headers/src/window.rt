@@ -39,7 +39,7 @@ fn parts_in(window: u32, mcbpc: u32, cbpy: u32) -> HeaderParts
 }
 
 // The parts of a header, and the position after it. A next position 0 says nothing.
-#[derive(Drop)]
+#[derive(Clone, Copy)]
 pub struct PartsAt {
     pub next: usize,
     pub parts: HeaderParts,

@@ -8,7 +8,7 @@ ghost use Rattle.idct.specs.Limits.{number_of, sample_outcome, saturated};
 use ranges::{Depth, DepthLimits};
 
 // The answer of a transform, whose block stands beside it.
-#[derive(Drop)]
+#[derive(Clone, Copy)]
 pub enum IdctAnswer {
     Transformed,
     DepthOutOfRange,
@@ -29,7 +29,7 @@ impl IdctAnswer {
 }
 
 // A whole number saturated to a depth, or 12: no depth.
-#[derive(Drop)]
+#[derive(Clone, Copy)]
 pub enum IdctSample {
     Is(i32),
     DepthOutOfRange,

@@ -22,7 +22,7 @@ use rounding::HalfIntegerRounding;
 // ---- by even and odd halves
 
 // How many rows are kept: those with a value that is not zero.
-#[derive(Drop)]
+#[derive(Clone, Copy)]
 enum KeptRows {
     Are(usize),
     OutOfLimits,
@@ -174,7 +174,7 @@ fn kept_rows(
 }
 
 // The sums of a row, and of the next one.
-#[derive(Drop)]
+#[derive(Clone, Copy)]
 struct TwoRows {
     sums: [f64; 8],
     more: [f64; 8],

@@ -5,7 +5,7 @@ ghost use Rattle.lines.specs.Fed.{fed_of, rest_of};
 use forms::Line;
 
 // One byte was kept and so many are there; or a line of so many bytes ended; or one that is too long did.
-#[derive(Drop)]
+#[derive(Clone, Copy)]
 pub enum Fed {
     Kept(usize),
     Ended(usize),

@@ -12,7 +12,7 @@ use headers::MacroblockHeader;
 use texture::{EventsRead, Spellings};
 
 // The number of bits taken, the cursor after them and the number of events of each spelling, or a refusal.
-#[derive(Drop)]
+#[derive(Clone, Copy)]
 pub enum MacroblockDecoded {
     Decoded(usize, Cursor, Spellings),
     Refused(BlockAssemblyError),

@@ -17,7 +17,7 @@ use texture::{EventsRead, Spellings};
 
 // The number of bits taken, the header's among them, the cursor after them, the number of events of each spelling and the
 // header's fields; or a refusal.
-#[derive(Drop)]
+#[derive(Clone, Copy)]
 pub enum WholeDecoded {
     Decoded(usize, Cursor, Spellings, HeaderFields),
     Refused(BlockAssemblyError),

@@ -155,7 +155,7 @@ pub fn check_taken(stored: usize, owned: usize, p: Place, i: usize) -> Recorded
 }
 
 // What a block takes; beside a refusal, what it would take with all neighbours missing.
-#[derive(Drop)]
+#[derive(Clone, Copy)]
 pub struct Taken {
     pub answer: Recorded,
     pub predictors: BlockPredictors,

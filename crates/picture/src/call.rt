@@ -14,7 +14,7 @@ use texture::{EventsRead, Spellings};
 
 // The number of bits taken, the cursor after them, the number of events of each spelling and the picture with one more
 // accepted; or a refusal.
-#[derive(Drop)]
+#[derive(Clone, Copy)]
 pub enum PictureDecoded {
     Decoded(usize, Cursor, Spellings, Picture),
     Refused(BlockAssemblyError),

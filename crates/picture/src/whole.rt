@@ -18,7 +18,7 @@ use texture::{EventsRead, Spellings};
 
 // The number of bits taken, the header's among them, the cursor after them, the number of events of each spelling, the picture
 // with one more accepted and the header's fields; or a refusal.
-#[derive(Drop)]
+#[derive(Clone, Copy)]
 pub enum PictureWholeDecoded {
     Decoded(usize, Cursor, Spellings, Picture, HeaderFields),
     Refused(BlockAssemblyError),

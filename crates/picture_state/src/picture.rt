@@ -7,7 +7,7 @@ use block::{BlockAssemblyError, MacroblockTextureContext};
 use idct::HalfIntegerRounding;
 
 // Width and height in macroblocks, and how many were accepted.
-#[derive(Drop)]
+#[derive(Clone, Copy)]
 pub struct Picture {
     pub width: u32,
     pub height: u32,
@@ -18,7 +18,7 @@ pub struct Picture {
 }
 
 // The context fields that a call brings; depth and method are the picture's.
-#[derive(Drop)]
+#[derive(Clone, Copy)]
 pub struct MacroblockContext {
     pub quantiser_scale: u32,
     pub ac_pred_flag: bool,
@@ -30,7 +30,7 @@ pub struct MacroblockContext {
     pub reversible_vlc: bool,
 }
 
-#[derive(Drop)]
+#[derive(Clone, Copy)]
 pub enum PictureOpened {
     Opened(Picture),
     Refused(BlockAssemblyError),

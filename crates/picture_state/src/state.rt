@@ -13,7 +13,7 @@ use headers::MacroblockHeader;
 use neighbours::Place;
 
 // The macroblock that is due: its context, the records around it, and where its own is kept.
-#[derive(Drop)]
+#[derive(Clone, Copy)]
 pub struct Due {
     pub context: MacroblockTextureContext,
     pub place: Place,
@@ -21,7 +21,7 @@ pub struct Due {
 }
 
 // What the checks find.
-#[derive(Drop)]
+#[derive(Clone, Copy)]
 pub enum StateChecked {
     Ready(Due),
     Refused(BlockAssemblyError),

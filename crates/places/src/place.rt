@@ -4,7 +4,7 @@ ghost use Rattle.places.specs.Places.{a_source, a_block, b_source, b_block, c_so
 ghost use Rattle.places.specs.declared.place.Source.TheVariants.{Own};
 
 // The macroblock that a neighbour lies in.
-#[derive(Drop)]
+#[derive(Clone, Copy)]
 pub enum Source {
     Own,
     Left,
@@ -13,7 +13,7 @@ pub enum Source {
 }
 
 // Where the macroblock that is due finds the records around it, and what a missing neighbour has.
-#[derive(Drop)]
+#[derive(Clone, Copy)]
 pub struct Place {
     pub left: u32,
     pub has_left: bool,

@@ -13,7 +13,7 @@ use scan::DcPredictionDirection;
 
 // What a block takes of its neighbours A (left), B (above left) and C (above). The Rust's
 // `Option<[i32; 7]>` is a flag beside an array.
-#[derive(Drop)]
+#[derive(Clone, Copy)]
 pub struct BlockPredictors {
     pub fa_dc: i32,
     pub fb_dc: i32,

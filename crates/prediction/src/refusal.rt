@@ -5,7 +5,7 @@ ghost use Rattle.prediction.specs.Refusal.{number_of};
 use scan::DcPredictionDirection;
 
 // Why a stage refuses.
-#[derive(Drop)]
+#[derive(Clone, Copy)]
 pub enum CoefficientError {
     // 12: the quantiser, the depth, or a zero in the matrix under method 1
     Context,
@@ -26,28 +26,28 @@ impl CoefficientError {
 }
 
 // The answer of a stage whose block or array stands beside it.
-#[derive(Drop)]
+#[derive(Clone, Copy)]
 pub enum Stage {
     Done,
     Refused(CoefficientError),
 }
 
 // A signed value, or a refusal.
-#[derive(Drop)]
+#[derive(Clone, Copy)]
 pub enum Value {
     Is(i32),
     Refused(CoefficientError),
 }
 
 // A DC scaler, or a refusal.
-#[derive(Drop)]
+#[derive(Clone, Copy)]
 pub enum Scaler {
     Is(u32),
     Refused(CoefficientError),
 }
 
 // A direction, or a refusal.
-#[derive(Drop)]
+#[derive(Clone, Copy)]
 pub enum Direction {
     Is(DcPredictionDirection),
     Refused(CoefficientError),

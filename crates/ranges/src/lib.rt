@@ -14,7 +14,7 @@ pub fn inside(z: i32, lo: i32, hi: i32) -> bool
 }
 
 // The least and the greatest number of a depth, or 12: no depth.
-#[derive(Drop)]
+#[derive(Clone, Copy)]
 pub enum DepthLimits {
     Are(i32, i32),
     OutOfRange,
@@ -30,7 +30,7 @@ fn limits_of(bits: u32) -> DepthLimits
 }
 
 // Bits per pixel (6.3.3).
-#[derive(Drop)]
+#[derive(Clone, Copy)]
 pub struct Depth {
     pub bits_per_pixel: u32,
 }
@@ -72,7 +72,7 @@ impl Depth {
 }
 
 // A quantiser scale, the present one or a neighbour's.
-#[derive(Drop)]
+#[derive(Clone, Copy)]
 pub struct Quantiser {
     pub quantiser_scale: u32,
 }
@@ -101,7 +101,7 @@ impl Quantiser {
 }
 
 // A level QF (7.4.3.4).
-#[derive(Drop)]
+#[derive(Clone, Copy)]
 pub struct Level {
     pub qf: i32,
 }
@@ -120,7 +120,7 @@ impl Level {
 }
 
 // A difference of DC levels, within what 12 bits can say (Table B.15).
-#[derive(Drop)]
+#[derive(Clone, Copy)]
 pub struct Difference {
     pub value: i32,
 }
@@ -139,7 +139,7 @@ impl Difference {
 }
 
 // A neighbour's dequantised DC, as it may be handed in.
-#[derive(Drop)]
+#[derive(Clone, Copy)]
 pub struct NeighbourDc {
     pub dc: i32,
 }

@@ -7,7 +7,7 @@ use crate::refusal::{RecordError, Recorded};
 use prediction::BlockPredictors;
 
 // What a block takes of one neighbour; `has` is false outside the picture.
-#[derive(Drop)]
+#[derive(Clone, Copy)]
 pub struct Side {
     pub has: bool,
     pub dc: i32,

@@ -2,7 +2,7 @@
 ghost use Rattle.std.specs.Prelude.{◌≡◌};
 ghost use Rattle.record.specs.Refusals.{number_of};
 
-#[derive(Drop)]
+#[derive(Clone, Copy)]
 pub enum RecordError {
     // 11: a block above 5
     OutOfRange,
@@ -26,7 +26,7 @@ impl RecordError {
 }
 
 // The answer of a call whose record or predictors stand beside it.
-#[derive(Drop)]
+#[derive(Clone, Copy)]
 pub enum Recorded {
     Done,
     Refused(RecordError),

@@ -2,7 +2,7 @@
 use picture::Picture;
 
 // Between two bytes: the open picture, the numbers of the line so far, the one that is being read, and whether the input ended.
-#[derive(Drop)]
+#[derive(Clone, Copy)]
 pub(crate) struct Reading {
     pub picture: Picture,
     pub n: usize,

@@ -8,7 +8,7 @@ ghost use Rattle.rounding.specs.Near.{Roundable, roundable};
 ghost use Rattle.rounding.specs.Rounding.{rounded_outcome, tied, whole_of};
 
 // How a value half_way between two whole numbers is rounded.
-#[derive(Drop)]
+#[derive(Clone, Copy)]
 pub enum HalfIntegerRounding {
     AwayFromZero,
     ToEven,
@@ -23,7 +23,7 @@ impl HalfIntegerRounding {
 }
 
 // A whole number, or 13: the value is not finite, or above 2^20 in size.
-#[derive(Drop)]
+#[derive(Clone, Copy)]
 pub enum Rounded {
     Is(i32),
     OutOfLimits,

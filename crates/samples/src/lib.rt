@@ -31,7 +31,7 @@ fn write_all(samples: &mut [i32], blocks: [[[i32; 8]; 8]; 6])
 }
 
 // Whether a macroblock was written; 14 where fewer than 384 samples are lent.
-#[derive(Drop)]
+#[derive(Clone, Copy)]
 pub enum Written {
     Done,
     TooShort,
@@ -50,7 +50,7 @@ pub fn write_macroblock(samples: &mut [i32], blocks: [[[i32; 8]; 8]; 6]) -> Writ
 }
 
 // Whether a block was written: 11 for a block above 5, 14 where fewer than 384 samples are lent.
-#[derive(Drop)]
+#[derive(Clone, Copy)]
 pub enum BlockWritten {
     Done,
     OutOfRange,

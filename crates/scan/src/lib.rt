@@ -3,7 +3,7 @@ ghost use Rattle.std.specs.Prelude.{◌≡◌};
 ghost use Rattle.scan.specs.Scan.{grid_of, scan_of, scanned};
 
 // The three scans of Figure 7-4.
-#[derive(Drop)]
+#[derive(Clone, Copy)]
 pub enum ScanType {
     AlternateHorizontal,
     AlternateVertical,
@@ -11,7 +11,7 @@ pub enum ScanType {
 }
 
 // Where the prediction of a block is taken from: A, on the left, or C, above.
-#[derive(Drop)]
+#[derive(Clone, Copy)]
 pub enum DcPredictionDirection {
     FromLeft,
     FromAbove,

@@ -3,7 +3,7 @@ use libc::{STDIN_FILENO, STDOUT_FILENO};
 use still_lines::{Reading, Stepped};
 
 // Where reading stands, and whether it goes on: not after a read or a write that failed, nor at the end.
-#[derive(Drop)]
+#[derive(Clone, Copy)]
 struct Going {
     reading: Reading,
     on: bool,

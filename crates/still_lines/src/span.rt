@@ -3,7 +3,7 @@ ghost use Rattle.std.specs.Prelude.{cond, ◌≡◌, ◌<◌, ◌≤◌, length}
 ghost use Rattle.std.specs.Int.Signed.{lt_z};
 ghost use Rattle.still_lines.specs.Spans.{part, span_of, widened_by};
 
-#[derive(Drop)]
+#[derive(Clone, Copy)]
 pub(crate) struct Span {
     pub least: i32,
     pub greatest: i32,

@@ -10,7 +10,7 @@ use forms::Line;
 use lines::Fed;
 
 // Between two bytes: the state, and how many bytes of a line came.
-#[derive(Drop)]
+#[derive(Clone, Copy)]
 pub struct Reading {
     pub still: Still,
     pub n: usize,
@@ -18,14 +18,14 @@ pub struct Reading {
 
 // Where reading stands, and how many bytes were said; or 14: fewer than 32,768 bytes lent for a line, 16,384 for its
 // data or 512 for what is said.
-#[derive(Drop)]
+#[derive(Clone, Copy)]
 pub enum Stepped {
     Went(Reading, usize),
     TooShort,
 }
 
 // The same, where there is room.
-#[derive(Drop)]
+#[derive(Clone, Copy)]
 struct Answered {
     still: Still,
     n: usize,

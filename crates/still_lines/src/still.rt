@@ -13,14 +13,14 @@ use macroblock::{DerivedMbType, MacroblockHeader};
 use picture::{MacroblockContext, Picture, PictureDecoded, PictureOpened};
 
 // Whether a picture is open, and which.
-#[derive(Drop)]
+#[derive(Clone, Copy)]
 pub struct Still {
     pub has_picture: bool,
     pub picture: Picture,
 }
 
 // The state after a line, and what is said to it.
-#[derive(Drop)]
+#[derive(Clone, Copy)]
 pub(crate) struct Said {
     pub still: Still,
     pub text: Text,

@@ -4,7 +4,7 @@ ghost use Rattle.std.proofs.Math.Seq.{paste};
 ghost use Rattle.still_lines.specs.Decimal.{decimal_of, integer_of};
 ghost use Rattle.still_lines.specs.Text.{said};
 
-#[derive(Drop)]
+#[derive(Clone, Copy)]
 pub(crate) struct Text {
     pub bytes: [u8; 256],
     pub len: usize,

@@ -15,21 +15,21 @@ use events::{AcEvent, EventRead, Spelling, Spellings};
 use fields::TextureParseError;
 
 // The cursor after a list and the number of its events of each spelling, or a refusal.
-#[derive(Drop)]
+#[derive(Clone, Copy)]
 pub enum EventsRead {
     Read(Cursor, Spellings),
     Refused(TextureParseError),
 }
 
 // What a list gave: the answer and its 64 places, zeros where it refused.
-#[derive(Drop)]
+#[derive(Clone, Copy)]
 pub struct ListRead {
     pub answer: EventsRead,
     pub qfs: [i32; 64],
 }
 
 // Where a list stands: the next place, the first bad landing or 0, and how many events of each spelling were put.
-#[derive(Drop)]
+#[derive(Clone, Copy)]
 pub struct Landing {
     pub place: usize,
     pub bad: usize,

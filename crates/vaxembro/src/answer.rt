@@ -26,7 +26,7 @@ pub(crate) fn long_enough(least: usize, n: usize, w: usize, a: usize) -> bool
     ANSWER <= a
 }
 
-#[derive(Drop)]
+#[derive(Clone, Copy)]
 pub struct Told {
     pub number: u32,
     pub figure: u32,

@@ -6,7 +6,7 @@ ghost use Rattle.window_reader.specs.Told.{ListSettled, Readable, Tables, up_to}
 use crate::symbol::{EventAt, event_at, second_at};
 
 // The position after a list or a block, an end of its places, and the sum of what counts its events.
-#[derive(Drop)]
+#[derive(Clone, Copy)]
 pub struct ListAt {
     pub next: usize,
     pub end: usize,

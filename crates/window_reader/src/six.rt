@@ -59,7 +59,7 @@ fn block_at(
 }
 
 // The position after six blocks, and the sum of what counts their events.
-#[derive(Drop)]
+#[derive(Clone, Copy)]
 pub struct SixAt {
     pub next: usize,
     pub spelled: u64,

@@ -9,14 +9,14 @@ ghost use Rattle.window_reader.specs.Told.{DcSettled, EventSettled, Readable, Ro
 use codes::DcComponent;
 
 // A difference and the position after it.
-#[derive(Drop)]
+#[derive(Clone, Copy)]
 pub struct DcAt {
     pub next: usize,
     pub difference: i32,
 }
 
 // What a row of Table B.16 and its sign say, and the position after them.
-#[derive(Drop)]
+#[derive(Clone, Copy)]
 pub struct RowAt {
     pub next: usize,
     pub last: u32,
@@ -26,7 +26,7 @@ pub struct RowAt {
 }
 
 // An event and the position after it. `spelled` counts it: 1 if it is plain, 2^16, 2^32 or 2^48 if it is of type 1, 2 or 3.
-#[derive(Drop)]
+#[derive(Clone, Copy)]
 pub struct EventAt {
     pub next: usize,
     pub last: bool,
