@@ -2,6 +2,8 @@
 //
 // No public function has a `requires`: what the cursor refuses is refused here by the same number,
 // and a refusal leaves the position where it was.
+#![tactic(auto)]
+
 mod place;
 mod reader;
 

@@ -3,6 +3,8 @@
 // No public function has a `requires`. The state is checked before any bit, by 11, 12 and 13 in this
 // order; the bits are read whole before anything is reconstructed, so a refusal leaves the lent samples
 // and levels as they were. What blocks share (`assembly`) and their reading (`block_reader`) are handed on.
+#![tactic(auto)]
+
 mod intra;
 mod reconstruct;
 mod short;

@@ -1,6 +1,8 @@
 // Prints each row of the code tables as the search finds it: the table's name, the code's bits, and
 // what it says. For a table of coefficients that is last, run, level and, of the plain codes, LMAX and
 // RMAX; for a table of DC sizes the size; for mcbpc the type of macroblock and cbpc; for cbpy its pattern.
+#![tactic(auto)]
+
 use codes::{DcComponent, TcoefTable};
 use libc::STDOUT_FILENO;
 

@@ -3,6 +3,8 @@
 //
 // A table indexed as a constant is made anew at each read, so each is made once by its function and
 // lent from then on. No public function has a `requires`.
+#![tactic(auto)]
+
 mod dc_size;
 mod first_bits;
 mod header_tables;

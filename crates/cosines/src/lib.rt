@@ -1,6 +1,8 @@
 // The cosines and the factor C of Annex A.1.
 //
 // No function has a `requires`: each answers every input.
+#![tactic(auto)]
+
 ghost use Rattle.std.specs.Prelude.{◌≡◌};
 ghost use Rattle.numbers.specs.Grid.{block};
 ghost use Rattle.cosines.specs.Cosines.{c_f, cos_f, half_table};

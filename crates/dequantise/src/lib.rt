@@ -3,6 +3,8 @@
 //
 // No public function has a `requires`. Where a call has a quantiser, a weight or a level that document 01 refuses, it is refused by
 // 12 or 13.
+#![tactic(auto)]
+
 mod coefficient;
 mod context;
 

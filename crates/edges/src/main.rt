@@ -1,5 +1,7 @@
 // Runs the edges that documents 01 and 02 name for bits and codes through the public functions, one a line;
 // then those of a macroblock's header.
+#![tactic(auto)]
+
 mod header;
 
 use bits::Cursor;

@@ -1,6 +1,8 @@
 // Operations on eight f64s at once, and on four: sums, products, and whole numbers near to them.
 //
 // No function has a `requires`: each answers every input.
+#![tactic(auto)]
+
 ghost use Rattle.std.specs.Prelude.{◌≡◌, ℕ, Float, get_or};
 ghost use Rattle.std.specs.Float.{nan, binary64};
 ghost use Rattle.std.specs.Float.Ieee.{add, lt, mul, sub};

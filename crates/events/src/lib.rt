@@ -3,6 +3,8 @@
 //
 // No public function has a `requires`. Data of more than 1,048,576 bytes or a start past the end of the
 // data is refused by 11; what the bits hold is refused by 1 and 5 to 7. A refusal hands back no position.
+#![tactic(auto)]
+
 mod event;
 mod fixed;
 mod row;

@@ -2,6 +2,8 @@
 //
 // No public function has a `requires`. Data of more than 1,048,576 bytes, a start past the end of the data
 // and more than 32 bits at a time are refused by 11.
+#![tactic(auto)]
+
 mod code;
 mod error;
 mod field;

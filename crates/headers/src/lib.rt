@@ -3,6 +3,8 @@
 //
 // No public function has a `requires`. A header is refused by 11, 12, then by 1, 16 and 17; a refusal hands back neither fields nor
 // a position.
+#![tactic(auto)]
+
 mod header;
 mod parse;
 mod parts;

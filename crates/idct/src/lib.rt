@@ -2,6 +2,8 @@
 // columns, each value rounded to a whole number and saturated.
 //
 // No public function has a `requires`: each answers every input.
+#![tactic(auto)]
+
 mod clipped;
 mod depth;
 mod limits;

@@ -3,6 +3,8 @@
 //
 // The bits of all six blocks are read before anything is reconstructed, so a refusal leaves the samples
 // as they were. No public function has a `requires`.
+#![tactic(auto)]
+
 mod decode;
 mod six;
 mod whole;

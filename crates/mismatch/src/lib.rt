@@ -1,6 +1,8 @@
 // Mismatch control (ISO/IEC 14496-2, 7.4.4.5), the value that it changes.
 //
 // No function has a `requires`: each answers every input.
+#![tactic(auto)]
+
 ghost use Rattle.std.specs.Prelude.{◌≡◌};
 ghost use Rattle.mismatch.specs.Mismatch.{last_value, odd};
 

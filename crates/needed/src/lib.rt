@@ -1,6 +1,8 @@
 // Short ways to what a block needs of its neighbours, and to refusal 13 before the first block.
 //
 // No public function has a `requires`: `predictors_needed` refuses as `neighbours::block_predictors` does (11, 12, 14).
+#![tactic(auto)]
+
 mod needed;
 mod stored;
 

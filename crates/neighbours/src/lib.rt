@@ -3,6 +3,8 @@
 // No public function has a `requires`: a block above 5 is refused by 11, a quantiser or a depth that is none by 12, a
 // record that is not whole, or does not lie in the store, by 14; what the numbers of a store are is not asked here but by
 // `neighbours_fine` (13).
+#![tactic(auto)]
+
 mod predictors;
 
 pub use places::{Place, Source};

@@ -1,7 +1,6 @@
 -- What a test that holds, the `&&` and `||` of definitions and the `!` of the code tell. Assumes nothing.
-use mathlib.Core.Bool.{Bool, true, false, ◌&&◌, ◌||◌, not}
+use mathlib.Core.Bool.{Bool, true, false, ◌&&◌, ◌||◌}
 use mathlib.Core.Path.{◌≡◌, refl, sym, subst, ◌∙◌}
-use borrow.Author.Tests.{not-true, not-false}
 use lib.Dec.{T}
 
 pub T_true : (b : Bool) → T b → b ≡ true
@@ -42,8 +41,8 @@ and-false true = refl
 and-false false = refl
 
 -- `if !r`, of a flag r that is the test t
-pub flag_refuses : {r t : Bool} → r ≡ t → not r ≡ true → t ≡ false
-flag_refuses {r} e h = sym e ∙ not-true r h
+pub flag_refuses : {r t : Bool} → r ≡ t → r ≡ false → t ≡ false
+flag_refuses e h = sym e ∙ h
 
-pub flag_passes : {r t : Bool} → r ≡ t → not r ≡ false → t ≡ true
-flag_passes {r} e h = sym e ∙ not-false r h
+pub flag_passes : {r t : Bool} → r ≡ t → r ≡ true → t ≡ true
+flag_passes e h = sym e ∙ h

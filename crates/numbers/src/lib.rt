@@ -2,6 +2,8 @@
 // grid or signed expression, and serve every crate above it.
 //
 // No function has a `requires`: each answers every input.
+#![tactic(auto)]
+
 ghost use Rattle.std.specs.Prelude.{◌≡◌, ◌<◌, min, nat_abs, neg_ℤ, pos};
 ghost use Rattle.numbers.specs.Limit.{clamp_z};
 ghost use Rattle.numbers.specs.Rounding.{div_away, Nearest};

@@ -3,6 +3,8 @@
 //
 // The picture is a value that is handed back, its neighbour store is lent: 192 numbers for each macroblock
 // of width. A picture and a store that no opening made are answered too. No public function has a `requires`.
+#![tactic(auto)]
+
 mod call;
 mod reconstruct;
 mod whole;

@@ -3,6 +3,8 @@
 //
 // The store has `Picture::STORE` numbers for each macroblock of width. A picture and a store that no opening made are answered too.
 // No public function has a `requires`.
+#![tactic(auto)]
+
 mod picture;
 mod ring;
 mod state;

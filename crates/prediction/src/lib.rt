@@ -2,6 +2,8 @@
 //
 // No public function has a `requires`. Where a call has a quantiser, a depth, a level or a predictor that document 01 refuses, it is
 // refused by 12 or 13, and lent memory stays as it was.
+#![tactic(auto)]
+
 mod predictor;
 mod refusal;
 

@@ -1,5 +1,7 @@
 // The ranges of document 01, each named once: depth, quantiser scale, level, difference and DC of a
 // neighbour. Bounds are constants of their type.
+#![tactic(auto)]
+
 ghost use Rattle.std.specs.Prelude.{◌≡◌, ◌<◌};
 ghost use Rattle.ranges.specs.Range.{dc_fine, depth_fine, difference_fine, highest, level_fine, limited_quantiser, limits_outcome, lowest, quantiser_fine, saturation_limits, value_limits, within};
 

@@ -25,6 +25,8 @@
 //     SETTING: QUANTISER DEPTH METHOD AC_PRED ALTERNATE EXEMPT TO_EVEN A B C QUANTISER_A QUANTISER_C HAS_A HAS_C COLUMN (7) ROW (7)
 //     MATRIX. HEADER: NOT_CODED TYPE CBPC AC_PRED CBPY. MATRIX: 0, the default one; or 1 and 64 numbers. METHOD: 1 for method 1.
 //     FIELDS: HEADER, what dquant changes the quantiser by, the quantiser after it.
+#![tactic(auto)]
+
 mod feed;
 mod line;
 mod pixels;

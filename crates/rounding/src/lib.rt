@@ -1,6 +1,8 @@
 // How an f64 becomes a whole number: the nearest, or by a chosen rule where it counts as half_way.
 //
 // No public function has a `requires`: each answers every input.
+#![tactic(auto)]
+
 ghost use Rattle.std.specs.Prelude.{[], ◌∷◌, ◌≡◌, ◌≤◌, nat_abs};
 ghost use Rattle.numbers.specs.Outcome.{accepted, checked};
 ghost use Rattle.f64_error.specs.Wholes.{floor_z, mag_f};

@@ -1,4 +1,6 @@
 // How the six blocks of a macroblock lie in its 384 samples (IntraMacroblock of block.rs): luma 16 wide, blocks 0 and 1 above 2 and 3; Cb; Cr.
+#![tactic(auto)]
+
 ghost use Rattle.std.specs.Prelude.{cond, ◌≡◌, ◌≤◌, ◌<◌, ◌+◌, ◌*◌, ltb, length};
 ghost use Rattle.samples.specs.Samples.{block_after, block_due, block_outcome, block_written, macroblock_samples, mb_samples, place_of, samples_after, written, written_by, written_due, written_outcome};
 

@@ -1,4 +1,6 @@
 // The inverse scan (scan.rs; 7.4.2).
+#![tactic(auto)]
+
 ghost use Rattle.std.specs.Prelude.{◌≡◌};
 ghost use Rattle.scan.specs.Scan.{grid_of, scan_of, scanned};
 

@@ -2,6 +2,8 @@
 // by row, so that no value is stored by itself; fewer go the plain way.
 //
 // No public function has a `requires`: places from the end on, and past those that there are, are 0.
+#![tactic(auto)]
+
 ghost use Rattle.std.specs.Prelude.{true, ◌≡◌, ℕ, ◌≤◌, pos, get_or, length, set};
 ghost use Rattle.numbers.specs.Grid.{build};
 ghost use Rattle.scan.specs.Scan.{scanned};

@@ -1,4 +1,6 @@
 // Reads standard input and writes what is said to it; the work is in `still_lines`.
+#![tactic(auto)]
+
 use libc::{STDIN_FILENO, STDOUT_FILENO};
 use still_lines::{Reading, Stepped};
 

@@ -4,6 +4,8 @@
 // No public function has a `requires`. Data of more than 1,048,576 bytes or a start past the end of the
 // data is refused by 11; what the bits hold is refused by 1 to 8 or 17. A refusal hands back no position and
 // leaves lent places as they were.
+#![tactic(auto)]
+
 mod event;
 mod list;
 

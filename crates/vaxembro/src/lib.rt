@@ -1,6 +1,8 @@
 // The decoder for callers in C and Rust: numbers and lent slices only.
 //
 // A slice is a pointer and a length there. Each function ends, allocates nothing and asks nothing of its caller.
+#![tactic(auto)]
+
 mod alone;
 mod answer;
 mod header;

@@ -2,6 +2,8 @@
 // made once and lent. What a window does not settle, a refusal above all, is read the plain way from the start.
 //
 // The public function has no `requires`.
+#![tactic(auto)]
+
 mod list;
 mod six;
 mod symbol;

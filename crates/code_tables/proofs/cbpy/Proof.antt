@@ -7,95 +7,95 @@ use Rattle.code_tables.proofs.cbpy.Statement.{statement}
 use Rattle.codes.proofs.PrefixFree.{cbpy_rows}
 use Rattle.code_tables.proofs.cbpy.Tie as tie
 
-abbrev invariant_loop : tie.invariant-loop
-invariant_loop name codes lens i₀ i = (i ≤ 16) × (length codes ≡ 16) × (length lens ≡ 16)
+abbrev invariant-loop-i : tie.invariant-loop-i
+invariant-loop-i name codes lens i₀ i = (i ≤ 16) × (length codes ≡ 16) × (length lens ≡ 16)
 
-abbrev decreases-loop : tie.decreases-loop
-decreases-loop name codes lens i₀ i = 16 - i
+abbrev decreases-loop-i : tie.decreases-loop-i
+decreases-loop-i name codes lens i₀ i = 16 - i
 
-cbpy-codes-requires : tie.Need-cbpy-codes-requires invariant_loop decreases-loop
-cbpy-codes-requires c κs = tt
+cbpy_codes-codes-requires : tie.Need-cbpy_codes-codes-requires invariant-loop-i decreases-loop-i
+cbpy_codes-codes-requires c κs = tt
 
-cbpy-lens-requires : tie.Need-cbpy-lens-requires invariant_loop decreases-loop
-cbpy-lens-requires c κs = tt
+cbpy_lens-lens-requires : tie.Need-cbpy_lens-lens-requires invariant-loop-i decreases-loop-i
+cbpy_lens-lens-requires c κs = tt
 
-loop_holds : tie.Need-loop-init invariant_loop decreases-loop
-loop_holds c = (omega arith, ap length c.before.cbpy-codes.ensures ∙ cbpy_rows.0, ap length c.cbpy-lens.ensures ∙ cbpy_rows.1)
+loop-i-init : tie.Need-loop-i-init invariant-loop-i decreases-loop-i
+loop-i-init c = (omega arith, ap length c.cbpy_codes-codes.ensures ∙ cbpy_rows.0, ap length c.cbpy_lens-lens.ensures ∙ cbpy_rows.1)
 
-mul-code : tie.Need-overflow-mul-code invariant_loop decreases-loop
-mul-code c = omega arith
+offset_bounds-codes-i : tie.Need-offset_bounds-codes-i invariant-loop-i decreases-loop-i
+offset_bounds-codes-i c = omega arith
 
-array-read-code : tie.Need-array-read-code invariant_loop decreases-loop
-array-read-code c = omega arith
+bounds-codes-i : tie.Need-bounds-codes-i invariant-loop-i decreases-loop-i
+bounds-codes-i c = omega arith
 
-mul-len : tie.Need-overflow-mul-len invariant_loop decreases-loop
-mul-len c = omega arith
+offset_bounds-lens-i : tie.Need-offset_bounds-lens-i invariant-loop-i decreases-loop-i
+offset_bounds-lens-i c = omega arith
 
-array-read-len : tie.Need-array-read-len invariant_loop decreases-loop
-array-read-len c = omega arith
+bounds-lens-i : tie.Need-bounds-lens-i invariant-loop-i decreases-loop-i
+bounds-lens-i c = omega arith
 
-slice-aggregate-find-row : tie.Need-slice-aggregate-find-row invariant_loop decreases-loop
-slice-aggregate-find-row c = omega arith
+slice_bounds-find_row-end : tie.Need-slice_bounds-find_row-end invariant-loop-i decreases-loop-i
+slice_bounds-find_row-end c = omega arith
 
-slice-aggregate-find-row-2 : tie.Need-slice-aggregate-find-row-2 invariant_loop decreases-loop
-slice-aggregate-find-row-2 c = omega arith
+slice_bounds-find_row-end-in-loop-i : tie.Need-slice_bounds-find_row-end-in-loop-i invariant-loop-i decreases-loop-i
+slice_bounds-find_row-end-in-loop-i c = omega arith
 
-window-requires : tie.Need-window-requires invariant_loop decreases-loop
+window-requires : tie.Need-window-requires invariant-loop-i decreases-loop-i
 window-requires c κs = tt
 
-find-row-requires : tie.Need-find-row-requires invariant_loop decreases-loop
-find-row-requires c κs = tt
+find_row-row-requires : tie.Need-find_row-row-requires invariant-loop-i decreases-loop-i
+find_row-row-requires c κs = tt
 
-text-requires : tie.Need-text-requires invariant_loop decreases-loop
+text-requires : tie.Need-text-requires invariant-loop-i decreases-loop-i
 text-requires c κs = tt
 
-code-bits-requires : tie.Need-code-bits-requires invariant_loop decreases-loop
-code-bits-requires c κs = tt
+code_bits-requires : tie.Need-code_bits-requires invariant-loop-i decreases-loop-i
+code_bits-requires c κs = tt
 
-cast-number : tie.Need-overflow-cast-number invariant_loop decreases-loop
-cast-number c = omega arith
+overflow_cast-row : tie.Need-overflow_cast-row invariant-loop-i decreases-loop-i
+overflow_cast-row c = omega arith
 
-number-requires : tie.Need-number-requires invariant_loop decreases-loop
+number-requires : tie.Need-number-requires invariant-loop-i decreases-loop-i
 number-requires c κs = tt
 
-newline-requires : tie.Need-newline-requires invariant_loop decreases-loop
+newline-requires : tie.Need-newline-requires invariant-loop-i decreases-loop-i
 newline-requires c κs = tt
 
-add-i : tie.Need-overflow-add-i invariant_loop decreases-loop
-add-i c = omega arith
+overflow_step-i : tie.Need-overflow_step-i invariant-loop-i decreases-loop-i
+overflow_step-i c = omega arith
 
-loop-less : tie.Need-loop-smaller invariant_loop decreases-loop
-loop-less c = omega arith
+loop-i-smaller : tie.Need-loop-i-smaller invariant-loop-i decreases-loop-i
+loop-i-smaller c = omega arith
 
-loop_again : tie.Need-loop-preserved invariant_loop decreases-loop
-loop_again c = omega arith
+loop-i-preserved : tie.Need-loop-i-preserved invariant-loop-i decreases-loop-i
+loop-i-preserved c = omega arith
 
-returns : tie.Need-returns invariant_loop decreases-loop
+returns : tie.Need-returns invariant-loop-i decreases-loop-i
 returns c = omega arith
 
 pub cbpy_spec : {M : Type 1} → statement M
 cbpy_spec =
     tie.close
     (tie.spec
-    invariant_loop
-    decreases-loop
-    cbpy-codes-requires
-    cbpy-lens-requires
-    loop_holds
-    mul-code
-    array-read-code
-    mul-len
-    array-read-len
-    slice-aggregate-find-row
-    slice-aggregate-find-row-2
+    invariant-loop-i
+    decreases-loop-i
+    cbpy_codes-codes-requires
+    cbpy_lens-lens-requires
+    loop-i-init
+    offset_bounds-codes-i
+    bounds-codes-i
+    offset_bounds-lens-i
+    bounds-lens-i
+    slice_bounds-find_row-end
+    slice_bounds-find_row-end-in-loop-i
     window-requires
-    find-row-requires
+    find_row-row-requires
     text-requires
-    code-bits-requires
-    cast-number
+    code_bits-requires
+    overflow_cast-row
     number-requires
     newline-requires
-    add-i
-    loop-less
-    loop_again
+    overflow_step-i
+    loop-i-smaller
+    loop-i-preserved
     returns)

@@ -5,55 +5,55 @@ use borrow.Author.Rules.{rules}
 use Rattle.code_tables.proofs.code_bits.Statement.{statement}
 use Rattle.code_tables.proofs.code_bits.Tie as tie
 
-abbrev invariant_loop : tie.invariant-loop
-invariant_loop code len k₀ k = k ≤ 32
+abbrev invariant-loop-k : tie.invariant-loop-k
+invariant-loop-k code len k₀ k = k ≤ 32
 
-abbrev decreases-loop : tie.decreases-loop
-decreases-loop code len k₀ k = k
+abbrev decreases-loop-k : tie.decreases-loop-k
+decreases-loop-k code len k₀ k = k
 
-space-requires : tie.Need-space-requires invariant_loop decreases-loop
+space-requires : tie.Need-space-requires invariant-loop-k decreases-loop-k
 space-requires c κs = search rules
 
-loop_holds : tie.Need-loop-init invariant_loop decreases-loop
-loop_holds c = omega arith
+loop-k-init : tie.Need-loop-k-init invariant-loop-k decreases-loop-k
+loop-k-init c = omega arith
 
-sub-k : tie.Need-overflow-sub-k invariant_loop decreases-loop
-sub-k c = omega arith
+overflow_sub-k : tie.Need-overflow_sub-k invariant-loop-k decreases-loop-k
+overflow_sub-k c = omega arith
 
-shr-bit : tie.Need-overflow-shr-bit invariant_loop decreases-loop
-shr-bit c = omega arith
+overflow_shr-code : tie.Need-overflow_shr-code invariant-loop-k decreases-loop-k
+overflow_shr-code c = omega arith
 
-bit-requires : tie.Need-bit-requires invariant_loop decreases-loop
+bit-requires : tie.Need-bit-requires invariant-loop-k decreases-loop-k
 bit-requires c κs = search rules
 
-loop-less : tie.Need-loop-smaller invariant_loop decreases-loop
-loop-less c = omega arith
+loop-k-smaller-then-k-len : tie.Need-loop-k-smaller-then-k-len invariant-loop-k decreases-loop-k
+loop-k-smaller-then-k-len c = omega arith
 
-loop_again : tie.Need-loop-preserved invariant_loop decreases-loop
-loop_again c = omega arith
+loop-k-preserved-then-k-len : tie.Need-loop-k-preserved-then-k-len invariant-loop-k decreases-loop-k
+loop-k-preserved-then-k-len c = omega arith
 
-loop-less-2 : tie.Need-loop-smaller-2 invariant_loop decreases-loop
-loop-less-2 c = omega arith
+loop-k-smaller : tie.Need-loop-k-smaller invariant-loop-k decreases-loop-k
+loop-k-smaller c = omega arith
 
-loop-again-2 : tie.Need-loop-preserved-2 invariant_loop decreases-loop
-loop-again-2 c = omega arith
+loop-k-preserved : tie.Need-loop-k-preserved invariant-loop-k decreases-loop-k
+loop-k-preserved c = omega arith
 
-returns : tie.Need-returns invariant_loop decreases-loop
+returns : tie.Need-returns invariant-loop-k decreases-loop-k
 returns c = omega arith
 
 pub code_bits_spec : {M : Type 1} → statement M
 code_bits_spec =
     tie.close
     (tie.spec
-    invariant_loop
-    decreases-loop
+    invariant-loop-k
+    decreases-loop-k
     space-requires
-    loop_holds
-    sub-k
-    shr-bit
+    loop-k-init
+    overflow_sub-k
+    overflow_shr-code
     bit-requires
-    loop-less
-    loop_again
-    loop-less-2
-    loop-again-2
+    loop-k-smaller-then-k-len
+    loop-k-preserved-then-k-len
+    loop-k-smaller
+    loop-k-preserved
     returns)

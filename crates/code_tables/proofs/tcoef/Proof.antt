@@ -7,147 +7,147 @@ use Rattle.code_tables.proofs.tcoef.Statement.{statement}
 use Rattle.codes.proofs.PrefixFree.{vlc_rows}
 use Rattle.code_tables.proofs.tcoef.Tie as tie
 
-abbrev invariant_loop : tie.invariant-loop
-invariant_loop name codes lens events i₀ i = (i ≤ 102) × (length codes ≡ 103) × (length lens ≡ 103)
+abbrev invariant-loop-i : tie.invariant-loop-i
+invariant-loop-i name codes lens events i₀ i = (i ≤ 102) × (length codes ≡ 103) × (length lens ≡ 103)
 
-abbrev decreases-loop : tie.decreases-loop
-decreases-loop name codes lens events i₀ i = 102 - i
+abbrev decreases-loop-i : tie.decreases-loop-i
+decreases-loop-i name codes lens events i₀ i = 102 - i
 
-tcoef-codes-requires : tie.Need-tcoef-codes-requires invariant_loop decreases-loop
-tcoef-codes-requires c κs = tt
+tcoef_codes-codes-requires : tie.Need-tcoef_codes-codes-requires invariant-loop-i decreases-loop-i
+tcoef_codes-codes-requires c κs = tt
 
-tcoef-lens-requires : tie.Need-tcoef-lens-requires invariant_loop decreases-loop
-tcoef-lens-requires c κs = tt
+tcoef_lens-lens-requires : tie.Need-tcoef_lens-lens-requires invariant-loop-i decreases-loop-i
+tcoef_lens-lens-requires c κs = tt
 
-tcoef-events-requires : tie.Need-tcoef-events-requires invariant_loop decreases-loop
-tcoef-events-requires c κs = tt
+tcoef_events-events-requires : tie.Need-tcoef_events-events-requires invariant-loop-i decreases-loop-i
+tcoef_events-events-requires c κs = tt
 
-loop_holds : tie.Need-loop-init invariant_loop decreases-loop
-loop_holds c = (omega arith, ap length c.before.before.tcoef-codes.ensures ∙ vlc_rows.0, ap length c.before.tcoef-lens.ensures ∙ vlc_rows.1)
+loop-i-init : tie.Need-loop-i-init invariant-loop-i decreases-loop-i
+loop-i-init c = (omega arith, ap length c.tcoef_codes-codes.ensures ∙ vlc_rows.0, ap length c.tcoef_lens-lens.ensures ∙ vlc_rows.1)
 
-mul-code : tie.Need-overflow-mul-code invariant_loop decreases-loop
-mul-code c = omega arith
+offset_bounds-codes-i : tie.Need-offset_bounds-codes-i invariant-loop-i decreases-loop-i
+offset_bounds-codes-i c = omega arith
 
-array-read-code : tie.Need-array-read-code invariant_loop decreases-loop
-array-read-code c = omega arith
+bounds-codes-i : tie.Need-bounds-codes-i invariant-loop-i decreases-loop-i
+bounds-codes-i c = omega arith
 
-mul-len : tie.Need-overflow-mul-len invariant_loop decreases-loop
-mul-len c = omega arith
+offset_bounds-lens-i : tie.Need-offset_bounds-lens-i invariant-loop-i decreases-loop-i
+offset_bounds-lens-i c = omega arith
 
-array-read-len : tie.Need-array-read-len invariant_loop decreases-loop
-array-read-len c = omega arith
+bounds-lens-i : tie.Need-bounds-lens-i invariant-loop-i decreases-loop-i
+bounds-lens-i c = omega arith
 
-slice-aggregate-find-row : tie.Need-slice-aggregate-find-row invariant_loop decreases-loop
-slice-aggregate-find-row c = omega arith
+slice_bounds-find_row-end : tie.Need-slice_bounds-find_row-end invariant-loop-i decreases-loop-i
+slice_bounds-find_row-end c = omega arith
 
-slice-aggregate-find-row-2 : tie.Need-slice-aggregate-find-row-2 invariant_loop decreases-loop
-slice-aggregate-find-row-2 c = omega arith
+slice_bounds-find_row-end-in-loop-i : tie.Need-slice_bounds-find_row-end-in-loop-i invariant-loop-i decreases-loop-i
+slice_bounds-find_row-end-in-loop-i c = omega arith
 
-window-requires : tie.Need-window-requires invariant_loop decreases-loop
+window-requires : tie.Need-window-requires invariant-loop-i decreases-loop-i
 window-requires c κs = tt
 
-find-row-requires : tie.Need-find-row-requires invariant_loop decreases-loop
-find-row-requires c κs = tt
+find_row-row-requires : tie.Need-find_row-row-requires invariant-loop-i decreases-loop-i
+find_row-row-requires c κs = tt
 
-text-requires : tie.Need-text-requires invariant_loop decreases-loop
+text-requires : tie.Need-text-requires invariant-loop-i decreases-loop-i
 text-requires c κs = tt
 
-code-bits-requires : tie.Need-code-bits-requires invariant_loop decreases-loop
-code-bits-requires c κs = tt
+code_bits-requires : tie.Need-code_bits-requires invariant-loop-i decreases-loop-i
+code_bits-requires c κs = tt
 
-array-read-small : tie.Need-array-read-small invariant_loop decreases-loop
-array-read-small c = omega arith
+bounds-events-row : tie.Need-bounds-events-row invariant-loop-i decreases-loop-i
+bounds-events-row c = omega arith
 
-small-requires : tie.Need-small-requires invariant_loop decreases-loop
+small-requires : tie.Need-small-requires invariant-loop-i decreases-loop-i
 small-requires c κs = tt
 
-add_small : tie.Need-overflow-add-small invariant_loop decreases-loop
-add_small c = omega arith
+overflow_add-row : tie.Need-overflow_add-row invariant-loop-i decreases-loop-i
+overflow_add-row c = omega arith
 
-array-read-small-2 : tie.Need-array-read-small-2 invariant_loop decreases-loop
-array-read-small-2 c = omega arith
+bounds-events-row-then-row-lt102 : tie.Need-bounds-events-row-then-row-lt102 invariant-loop-i decreases-loop-i
+bounds-events-row-then-row-lt102 c = omega arith
 
-small-requires-2 : tie.Need-small-requires-2 invariant_loop decreases-loop
-small-requires-2 c κs = tt
+small-requires-then-row-lt102 : tie.Need-small-requires-then-row-lt102 invariant-loop-i decreases-loop-i
+small-requires-then-row-lt102 c κs = tt
 
-add-small-2 : tie.Need-overflow-add-small-2 invariant_loop decreases-loop
-add-small-2 c = omega arith
+overflow_add-row-then-row-lt102 : tie.Need-overflow_add-row-then-row-lt102 invariant-loop-i decreases-loop-i
+overflow_add-row-then-row-lt102 c = omega arith
 
-array-read-small-3 : tie.Need-array-read-small-3 invariant_loop decreases-loop
-array-read-small-3 c = omega arith
+bounds-events-row-then-row-lt102-2 : tie.Need-bounds-events-row-then-row-lt102-2 invariant-loop-i decreases-loop-i
+bounds-events-row-then-row-lt102-2 c = omega arith
 
-small-requires-3 : tie.Need-small-requires-3 invariant_loop decreases-loop
-small-requires-3 c κs = tt
+small-requires-then-row-lt102-2 : tie.Need-small-requires-then-row-lt102-2 invariant-loop-i decreases-loop-i
+small-requires-then-row-lt102-2 c κs = tt
 
-add-small-3 : tie.Need-overflow-add-small-3 invariant_loop decreases-loop
-add-small-3 c = omega arith
+overflow_add-row-then-row-lt102-2 : tie.Need-overflow_add-row-then-row-lt102-2 invariant-loop-i decreases-loop-i
+overflow_add-row-then-row-lt102-2 c = omega arith
 
-array-read-small-4 : tie.Need-array-read-small-4 invariant_loop decreases-loop
-array-read-small-4 c = omega arith
+bounds-events-row-then-row-lt102-3 : tie.Need-bounds-events-row-then-row-lt102-3 invariant-loop-i decreases-loop-i
+bounds-events-row-then-row-lt102-3 c = omega arith
 
-small-requires-4 : tie.Need-small-requires-4 invariant_loop decreases-loop
-small-requires-4 c κs = tt
+small-requires-then-row-lt102-3 : tie.Need-small-requires-then-row-lt102-3 invariant-loop-i decreases-loop-i
+small-requires-then-row-lt102-3 c κs = tt
 
-add-small-4 : tie.Need-overflow-add-small-4 invariant_loop decreases-loop
-add-small-4 c = omega arith
+overflow_add-row-then-row-lt102-3 : tie.Need-overflow_add-row-then-row-lt102-3 invariant-loop-i decreases-loop-i
+overflow_add-row-then-row-lt102-3 c = omega arith
 
-array-read-small-5 : tie.Need-array-read-small-5 invariant_loop decreases-loop
-array-read-small-5 c = omega arith
+bounds-events-row-then-row-lt102-4 : tie.Need-bounds-events-row-then-row-lt102-4 invariant-loop-i decreases-loop-i
+bounds-events-row-then-row-lt102-4 c = omega arith
 
-small-requires-5 : tie.Need-small-requires-5 invariant_loop decreases-loop
-small-requires-5 c κs = tt
+small-requires-then-row-lt102-4 : tie.Need-small-requires-then-row-lt102-4 invariant-loop-i decreases-loop-i
+small-requires-then-row-lt102-4 c κs = tt
 
-newline-requires : tie.Need-newline-requires invariant_loop decreases-loop
+newline-requires : tie.Need-newline-requires invariant-loop-i decreases-loop-i
 newline-requires c κs = tt
 
-add-i : tie.Need-overflow-add-i invariant_loop decreases-loop
-add-i c = omega arith
+overflow_step-i : tie.Need-overflow_step-i invariant-loop-i decreases-loop-i
+overflow_step-i c = omega arith
 
-loop-less : tie.Need-loop-smaller invariant_loop decreases-loop
-loop-less c = omega arith
+loop-i-smaller : tie.Need-loop-i-smaller invariant-loop-i decreases-loop-i
+loop-i-smaller c = omega arith
 
-loop_again : tie.Need-loop-preserved invariant_loop decreases-loop
-loop_again c = omega arith
+loop-i-preserved : tie.Need-loop-i-preserved invariant-loop-i decreases-loop-i
+loop-i-preserved c = omega arith
 
-returns : tie.Need-returns invariant_loop decreases-loop
+returns : tie.Need-returns invariant-loop-i decreases-loop-i
 returns c = omega arith
 
 pub tcoef_spec : {M : Type 1} → statement M
 tcoef_spec =
     tie.close
     (tie.spec
-    invariant_loop
-    decreases-loop
-    tcoef-codes-requires
-    tcoef-lens-requires
-    tcoef-events-requires
-    loop_holds
-    mul-code
-    array-read-code
-    mul-len
-    array-read-len
-    slice-aggregate-find-row
-    slice-aggregate-find-row-2
+    invariant-loop-i
+    decreases-loop-i
+    tcoef_codes-codes-requires
+    tcoef_lens-lens-requires
+    tcoef_events-events-requires
+    loop-i-init
+    offset_bounds-codes-i
+    bounds-codes-i
+    offset_bounds-lens-i
+    bounds-lens-i
+    slice_bounds-find_row-end
+    slice_bounds-find_row-end-in-loop-i
     window-requires
-    find-row-requires
+    find_row-row-requires
     text-requires
-    code-bits-requires
-    array-read-small
+    code_bits-requires
+    bounds-events-row
     small-requires
-    add_small
-    array-read-small-2
-    small-requires-2
-    add-small-2
-    array-read-small-3
-    small-requires-3
-    add-small-3
-    array-read-small-4
-    small-requires-4
-    add-small-4
-    array-read-small-5
-    small-requires-5
+    overflow_add-row
+    bounds-events-row-then-row-lt102
+    small-requires-then-row-lt102
+    overflow_add-row-then-row-lt102
+    bounds-events-row-then-row-lt102-2
+    small-requires-then-row-lt102-2
+    overflow_add-row-then-row-lt102-2
+    bounds-events-row-then-row-lt102-3
+    small-requires-then-row-lt102-3
+    overflow_add-row-then-row-lt102-3
+    bounds-events-row-then-row-lt102-4
+    small-requires-then-row-lt102-4
     newline-requires
-    add-i
-    loop-less
-    loop_again
+    overflow_step-i
+    loop-i-smaller
+    loop-i-preserved
     returns)

@@ -7,59 +7,59 @@ use lib.ListN.{length}
 use Rattle.edges.proofs.places.Statement.{statement}
 use Rattle.edges.proofs.places.Tie as tie
 
-abbrev invariant_loop : tie.invariant-loop
-invariant_loop qfs i₀ i = (i ≤ 64) × (length qfs ≡ 64)
+abbrev invariant-loop-i : tie.invariant-loop-i
+invariant-loop-i qfs i₀ i = (i ≤ 64) × (length qfs ≡ 64)
 
-abbrev decreases-loop : tie.decreases-loop
-decreases-loop qfs i₀ i = 64 - i
+abbrev decreases-loop-i : tie.decreases-loop-i
+decreases-loop-i qfs i₀ i = 64 - i
 
-loop_holds : tie.Need-loop-init invariant_loop decreases-loop
-loop_holds c = (omega arith, search rules)
+loop-i-init : tie.Need-loop-i-init invariant-loop-i decreases-loop-i
+loop-i-init c = (omega arith, search rules)
 
-mul-if1 : tie.Need-overflow-mul-if1 invariant_loop decreases-loop
-mul-if1 c = search rules
+offset_bounds-qfs-i : tie.Need-offset_bounds-qfs-i invariant-loop-i decreases-loop-i
+offset_bounds-qfs-i c = search rules
 
-array-copy-out-if1 : tie.Need-array-copy-out-if1 invariant_loop decreases-loop
-array-copy-out-if1 c = search rules
+bounds-qfs-i : tie.Need-bounds-qfs-i invariant-loop-i decreases-loop-i
+bounds-qfs-i c = search rules
 
-number-requires : tie.Need-number-requires invariant_loop decreases-loop
+number-requires : tie.Need-number-requires invariant-loop-i decreases-loop-i
 number-requires c κs = search rules
 
-mul-signed : tie.Need-overflow-mul-signed invariant_loop decreases-loop
-mul-signed c = search rules
+offset_bounds-qfs-i-then-qfs-i-ne0 : tie.Need-offset_bounds-qfs-i-then-qfs-i-ne0 invariant-loop-i decreases-loop-i
+offset_bounds-qfs-i-then-qfs-i-ne0 c = search rules
 
-array-copy-out-signed : tie.Need-array-copy-out-signed invariant_loop decreases-loop
-array-copy-out-signed c = search rules
+bounds-qfs-i-then-qfs-i-ne0 : tie.Need-bounds-qfs-i-then-qfs-i-ne0 invariant-loop-i decreases-loop-i
+bounds-qfs-i-then-qfs-i-ne0 c = search rules
 
-signed-requires : tie.Need-signed-requires invariant_loop decreases-loop
+signed-requires : tie.Need-signed-requires invariant-loop-i decreases-loop-i
 signed-requires c κs = search rules
 
-add-i : tie.Need-overflow-add-i invariant_loop decreases-loop
-add-i c = search rules
+overflow_step-i : tie.Need-overflow_step-i invariant-loop-i decreases-loop-i
+overflow_step-i c = search rules
 
-loop-less : tie.Need-loop-smaller invariant_loop decreases-loop
-loop-less c = omega arith
+loop-i-smaller : tie.Need-loop-i-smaller invariant-loop-i decreases-loop-i
+loop-i-smaller c = omega arith
 
-loop_again : tie.Need-loop-preserved invariant_loop decreases-loop
-loop_again c = (omega arith, search rules)
+loop-i-preserved : tie.Need-loop-i-preserved invariant-loop-i decreases-loop-i
+loop-i-preserved c = (omega arith, search rules)
 
-returns : tie.Need-returns invariant_loop decreases-loop
+returns : tie.Need-returns invariant-loop-i decreases-loop-i
 returns c = tt
 
 pub places_spec : {M : Type 1} → statement M
 places_spec =
     tie.close
     (tie.spec
-    invariant_loop
-    decreases-loop
-    loop_holds
-    mul-if1
-    array-copy-out-if1
+    invariant-loop-i
+    decreases-loop-i
+    loop-i-init
+    offset_bounds-qfs-i
+    bounds-qfs-i
     number-requires
-    mul-signed
-    array-copy-out-signed
+    offset_bounds-qfs-i-then-qfs-i-ne0
+    bounds-qfs-i-then-qfs-i-ne0
     signed-requires
-    add-i
-    loop-less
-    loop_again
+    overflow_step-i
+    loop-i-smaller
+    loop-i-preserved
     returns)

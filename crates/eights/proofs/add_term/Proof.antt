@@ -16,60 +16,60 @@ z k = of_bits binary64 0
 abbrev g : Float → List Float → List Float → ℕ → Float
 g f sums cosines x = add binary64 (get_or sums x nan) (mul binary64 f (get_or cosines x nan))
 
-abbrev invariant_loop : tie.invariant-loop
-invariant_loop f sums cosines output₀ x₀ output x = (x ≤ 8) × (output ≡ part 8 (g f sums cosines) z x)
+abbrev invariant-loop-x : tie.invariant-loop-x
+invariant-loop-x f sums cosines output₀ x₀ output x = (x ≤ 8) × (output ≡ part 8 (g f sums cosines) z x)
 
-abbrev decreases-loop : tie.decreases-loop
-decreases-loop f sums cosines output₀ x₀ output x = 8 - x
+abbrev decreases-loop-x : tie.decreases-loop-x
+decreases-loop-x f sums cosines output₀ x₀ output x = 8 - x
 
-loop_holds : tie.Need-loop-init invariant_loop decreases-loop
+loop-x-init : tie.Need-loop-x-init invariant-loop-x decreases-loop-x
 unfolding build
-loop_holds c = (omega arith, cells-none 8 (g c.args.f c.args.t1 c.args.t3) z _ refl)
+loop-x-init c = (omega arith, cells-none 8 (g c.args.f c.args.sums c.args.cosines) z _ refl)
 
-mul-output : tie.Need-overflow-mul-output invariant_loop decreases-loop
-mul-output c = omega arith
+offset_bounds-sums-x : tie.Need-offset_bounds-sums-x invariant-loop-x decreases-loop-x
+offset_bounds-sums-x c = omega arith
 
-array-read-output : tie.Need-array-read-output invariant_loop decreases-loop
-array-read-output c = omega arith
+bounds-sums-x : tie.Need-bounds-sums-x invariant-loop-x decreases-loop-x
+bounds-sums-x c = omega arith
 
-mul-output-2 : tie.Need-overflow-mul-output-2 invariant_loop decreases-loop
-mul-output-2 c = omega arith
+offset_bounds-cosines-x : tie.Need-offset_bounds-cosines-x invariant-loop-x decreases-loop-x
+offset_bounds-cosines-x c = omega arith
 
-array-read-output-2 : tie.Need-array-read-output-2 invariant_loop decreases-loop
-array-read-output-2 c = omega arith
+bounds-cosines-x : tie.Need-bounds-cosines-x invariant-loop-x decreases-loop-x
+bounds-cosines-x c = omega arith
 
-mul-output-3 : tie.Need-overflow-mul-output-3 invariant_loop decreases-loop
-mul-output-3 c = omega arith
+offset_bounds-output-x : tie.Need-offset_bounds-output-x invariant-loop-x decreases-loop-x
+offset_bounds-output-x c = omega arith
 
-array-write-output : tie.Need-array-write-output invariant_loop decreases-loop
-array-write-output c = omega arith
+bounds-output-x : tie.Need-bounds-output-x invariant-loop-x decreases-loop-x
+bounds-output-x c = omega arith
 
-add-x : tie.Need-overflow-add-x invariant_loop decreases-loop
-add-x c = omega arith
+overflow_step-x : tie.Need-overflow_step-x invariant-loop-x decreases-loop-x
+overflow_step-x c = omega arith
 
-loop-less : tie.Need-loop-smaller invariant_loop decreases-loop
-loop-less c = omega arith
+loop-x-smaller : tie.Need-loop-x-smaller invariant-loop-x decreases-loop-x
+loop-x-smaller c = omega arith
 
-loop_again : tie.Need-loop-preserved invariant_loop decreases-loop
-loop_again c = (omega arith, cells-more 8 _ _ nan _ _ _ c.loop-test.true c.before.loop.invariant.1 refl)
+loop-x-preserved : tie.Need-loop-x-preserved invariant-loop-x decreases-loop-x
+loop-x-preserved c = (omega arith, cells-more 8 _ _ nan _ _ _ c.loop-x-test.true c.loop-x.invariant.1 refl)
 
-returns : tie.Need-returns invariant_loop decreases-loop
-returns c = cells_all 8 _ _ _ _ c.loop-test.false c.before.loop.invariant.0 c.before.loop.invariant.1
+returns : tie.Need-returns invariant-loop-x decreases-loop-x
+returns c = cells_all 8 _ _ _ _ c.loop-x-test.false c.loop-x.invariant.0 c.loop-x.invariant.1
 
 pub add_term_spec : {M : Type 1} → statement M
 add_term_spec =
     tie.close
     (tie.spec
-    invariant_loop
-    decreases-loop
-    loop_holds
-    mul-output
-    array-read-output
-    mul-output-2
-    array-read-output-2
-    mul-output-3
-    array-write-output
-    add-x
-    loop-less
-    loop_again
+    invariant-loop-x
+    decreases-loop-x
+    loop-x-init
+    offset_bounds-sums-x
+    bounds-sums-x
+    offset_bounds-cosines-x
+    bounds-cosines-x
+    offset_bounds-output-x
+    bounds-output-x
+    overflow_step-x
+    loop-x-smaller
+    loop-x-preserved
     returns)

@@ -18,74 +18,74 @@ z k = of_bits binary64 0
 abbrev f : List Float → List Float → List Float → ℕ → Float
 f worst sums near x = greater_f (get_or worst x nan) (square_f (sub binary64 (get_or sums x nan) (get_or near x nan)))
 
-abbrev invariant_loop : tie.invariant-loop
-invariant_loop worst sums near out₀ x₀ out x = (x ≤ 8) × (out ≡ part 8 (f worst sums near) z x)
+abbrev invariant-loop-x : tie.invariant-loop-x
+invariant-loop-x worst sums near out₀ x₀ out x = (x ≤ 8) × (out ≡ part 8 (f worst sums near) z x)
 
-abbrev decreases-loop : tie.decreases-loop
-decreases-loop worst sums near out₀ x₀ out x = 8 - x
+abbrev decreases-loop-x : tie.decreases-loop-x
+decreases-loop-x worst sums near out₀ x₀ out x = 8 - x
 
-loop_holds : tie.Need-loop-init invariant_loop decreases-loop
+loop-x-init : tie.Need-loop-x-init invariant-loop-x decreases-loop-x
 unfolding build
-loop_holds c = (omega arith, cells-none 8 (f c.args.t1 c.args.t2 c.args.t3) z _ refl)
+loop-x-init c = (omega arith, cells-none 8 (f c.args.worst c.args.sums c.args.near) z _ refl)
 
-mul-d : tie.Need-overflow-mul-d invariant_loop decreases-loop
-mul-d c = omega arith
+offset_bounds-sums-x : tie.Need-offset_bounds-sums-x invariant-loop-x decreases-loop-x
+offset_bounds-sums-x c = omega arith
 
-array-read-d : tie.Need-array-read-d invariant_loop decreases-loop
-array-read-d c = omega arith
+bounds-sums-x : tie.Need-bounds-sums-x invariant-loop-x decreases-loop-x
+bounds-sums-x c = omega arith
 
-mul-d-2 : tie.Need-overflow-mul-d-2 invariant_loop decreases-loop
-mul-d-2 c = omega arith
+offset_bounds-near-x : tie.Need-offset_bounds-near-x invariant-loop-x decreases-loop-x
+offset_bounds-near-x c = omega arith
 
-array-read-d-2 : tie.Need-array-read-d-2 invariant_loop decreases-loop
-array-read-d-2 c = omega arith
+bounds-near-x : tie.Need-bounds-near-x invariant-loop-x decreases-loop-x
+bounds-near-x c = omega arith
 
-mul-greater : tie.Need-overflow-mul-greater invariant_loop decreases-loop
-mul-greater c = omega arith
+offset_bounds-worst-x : tie.Need-offset_bounds-worst-x invariant-loop-x decreases-loop-x
+offset_bounds-worst-x c = omega arith
 
-array-read-greater : tie.Need-array-read-greater invariant_loop decreases-loop
-array-read-greater c = omega arith
+bounds-worst-x : tie.Need-bounds-worst-x invariant-loop-x decreases-loop-x
+bounds-worst-x c = omega arith
 
-greater-requires : tie.Need-greater-requires invariant_loop decreases-loop
+greater-requires : tie.Need-greater-requires invariant-loop-x decreases-loop-x
 greater-requires c κs = tt
 
-mul-out : tie.Need-overflow-mul-out invariant_loop decreases-loop
-mul-out c = omega arith
+offset_bounds-out-x : tie.Need-offset_bounds-out-x invariant-loop-x decreases-loop-x
+offset_bounds-out-x c = omega arith
 
-array-write-out : tie.Need-array-write-out invariant_loop decreases-loop
-array-write-out c = omega arith
+bounds-out-x : tie.Need-bounds-out-x invariant-loop-x decreases-loop-x
+bounds-out-x c = omega arith
 
-add-x : tie.Need-overflow-add-x invariant_loop decreases-loop
-add-x c = omega arith
+overflow_step-x : tie.Need-overflow_step-x invariant-loop-x decreases-loop-x
+overflow_step-x c = omega arith
 
-loop-less : tie.Need-loop-smaller invariant_loop decreases-loop
-loop-less c = omega arith
+loop-x-smaller : tie.Need-loop-x-smaller invariant-loop-x decreases-loop-x
+loop-x-smaller c = omega arith
 
-loop_again : tie.Need-loop-preserved invariant_loop decreases-loop
-loop_again c =
+loop-x-preserved : tie.Need-loop-x-preserved invariant-loop-x decreases-loop-x
+loop-x-preserved c =
     let i = c.before in
-    (omega arith, cells-more 8 _ _ nan _ _ _ i.loop-test.true i.before.loop.invariant.1 c.greater.ensures)
+    (omega arith, cells-more 8 _ _ nan _ _ _ i.loop-x-test.true i.loop-x.invariant.1 c.greater.ensures)
 
-returns : tie.Need-returns invariant_loop decreases-loop
-returns c = cells_all 8 _ _ _ _ c.loop-test.false c.before.loop.invariant.0 c.before.loop.invariant.1
+returns : tie.Need-returns invariant-loop-x decreases-loop-x
+returns c = cells_all 8 _ _ _ _ c.loop-x-test.false c.loop-x.invariant.0 c.loop-x.invariant.1
 
 pub farther_spec : {M : Type 1} → statement M
 farther_spec =
     tie.close
     (tie.spec
-    invariant_loop
-    decreases-loop
-    loop_holds
-    mul-d
-    array-read-d
-    mul-d-2
-    array-read-d-2
-    mul-greater
-    array-read-greater
+    invariant-loop-x
+    decreases-loop-x
+    loop-x-init
+    offset_bounds-sums-x
+    bounds-sums-x
+    offset_bounds-near-x
+    bounds-near-x
+    offset_bounds-worst-x
+    bounds-worst-x
     greater-requires
-    mul-out
-    array-write-out
-    add-x
-    loop-less
-    loop_again
+    offset_bounds-out-x
+    bounds-out-x
+    overflow_step-x
+    loop-x-smaller
+    loop-x-preserved
     returns)

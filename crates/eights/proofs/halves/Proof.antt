@@ -18,52 +18,52 @@ z k = of_bits binary64 0
 abbrev f : List Float → ℕ → Float
 f sums x = mul binary64 half (get_or sums x nan)
 
-abbrev invariant_loop : tie.invariant-loop
-invariant_loop sums output₀ x₀ output x = (x ≤ 8) × (output ≡ part 8 (f sums) z x)
+abbrev invariant-loop-x : tie.invariant-loop-x
+invariant-loop-x sums output₀ x₀ output x = (x ≤ 8) × (output ≡ part 8 (f sums) z x)
 
-abbrev decreases-loop : tie.decreases-loop
-decreases-loop sums output₀ x₀ output x = 8 - x
+abbrev decreases-loop-x : tie.decreases-loop-x
+decreases-loop-x sums output₀ x₀ output x = 8 - x
 
-loop_holds : tie.Need-loop-init invariant_loop decreases-loop
+loop-x-init : tie.Need-loop-x-init invariant-loop-x decreases-loop-x
 unfolding build
-loop_holds c = (omega arith, cells-none 8 (f c.args.t1) z _ refl)
+loop-x-init c = (omega arith, cells-none 8 (f c.args.sums) z _ refl)
 
-mul-output : tie.Need-overflow-mul-output invariant_loop decreases-loop
-mul-output c = omega arith
+offset_bounds-sums-x : tie.Need-offset_bounds-sums-x invariant-loop-x decreases-loop-x
+offset_bounds-sums-x c = omega arith
 
-array-read-output : tie.Need-array-read-output invariant_loop decreases-loop
-array-read-output c = omega arith
+bounds-sums-x : tie.Need-bounds-sums-x invariant-loop-x decreases-loop-x
+bounds-sums-x c = omega arith
 
-mul-output-2 : tie.Need-overflow-mul-output-2 invariant_loop decreases-loop
-mul-output-2 c = omega arith
+offset_bounds-output-x : tie.Need-offset_bounds-output-x invariant-loop-x decreases-loop-x
+offset_bounds-output-x c = omega arith
 
-array-write-output : tie.Need-array-write-output invariant_loop decreases-loop
-array-write-output c = omega arith
+bounds-output-x : tie.Need-bounds-output-x invariant-loop-x decreases-loop-x
+bounds-output-x c = omega arith
 
-add-x : tie.Need-overflow-add-x invariant_loop decreases-loop
-add-x c = omega arith
+overflow_step-x : tie.Need-overflow_step-x invariant-loop-x decreases-loop-x
+overflow_step-x c = omega arith
 
-loop-less : tie.Need-loop-smaller invariant_loop decreases-loop
-loop-less c = omega arith
+loop-x-smaller : tie.Need-loop-x-smaller invariant-loop-x decreases-loop-x
+loop-x-smaller c = omega arith
 
-loop_again : tie.Need-loop-preserved invariant_loop decreases-loop
-loop_again c = (omega arith, cells-more 8 _ _ nan _ _ _ c.loop-test.true c.before.loop.invariant.1 (ap (λ (a : Float). mul binary64 a (get_or c.before.before.args.t1 c.before.loop.x nan)) half-bits))
+loop-x-preserved : tie.Need-loop-x-preserved invariant-loop-x decreases-loop-x
+loop-x-preserved c = (omega arith, cells-more 8 _ _ nan _ _ _ c.loop-x-test.true c.loop-x.invariant.1 (ap (λ (a : Float). mul binary64 a (get_or c.args.sums c.loop-x.x nan)) half-bits))
 
-returns : tie.Need-returns invariant_loop decreases-loop
-returns c = cells_all 8 _ _ _ _ c.loop-test.false c.before.loop.invariant.0 c.before.loop.invariant.1
+returns : tie.Need-returns invariant-loop-x decreases-loop-x
+returns c = cells_all 8 _ _ _ _ c.loop-x-test.false c.loop-x.invariant.0 c.loop-x.invariant.1
 
 pub halves_spec : {M : Type 1} → statement M
 halves_spec =
     tie.close
     (tie.spec
-    invariant_loop
-    decreases-loop
-    loop_holds
-    mul-output
-    array-read-output
-    mul-output-2
-    array-write-output
-    add-x
-    loop-less
-    loop_again
+    invariant-loop-x
+    decreases-loop-x
+    loop-x-init
+    offset_bounds-sums-x
+    bounds-sums-x
+    offset_bounds-output-x
+    bounds-output-x
+    overflow_step-x
+    loop-x-smaller
+    loop-x-preserved
     returns)

@@ -16,60 +16,60 @@ z k = of_bits binary64 0
 abbrev g : List Float → List Float → ℕ → Float
 g a b x = sub binary64 (get_or a x nan) (get_or b x nan)
 
-abbrev invariant_loop : tie.invariant-loop
-invariant_loop a b out₀ x₀ out x = (x ≤ 8) × (out ≡ part 8 (g a b) z x)
+abbrev invariant-loop-x : tie.invariant-loop-x
+invariant-loop-x a b out₀ x₀ out x = (x ≤ 8) × (out ≡ part 8 (g a b) z x)
 
-abbrev decreases-loop : tie.decreases-loop
-decreases-loop a b out₀ x₀ out x = 8 - x
+abbrev decreases-loop-x : tie.decreases-loop-x
+decreases-loop-x a b out₀ x₀ out x = 8 - x
 
-loop_holds : tie.Need-loop-init invariant_loop decreases-loop
+loop-x-init : tie.Need-loop-x-init invariant-loop-x decreases-loop-x
 unfolding build
-loop_holds c = (omega arith, cells-none 8 (g c.args.t1 c.args.t2) z _ refl)
+loop-x-init c = (omega arith, cells-none 8 (g c.args.a c.args.b) z _ refl)
 
-mul-out : tie.Need-overflow-mul-out invariant_loop decreases-loop
-mul-out c = omega arith
+offset_bounds-a-x : tie.Need-offset_bounds-a-x invariant-loop-x decreases-loop-x
+offset_bounds-a-x c = omega arith
 
-array-read-out : tie.Need-array-read-out invariant_loop decreases-loop
-array-read-out c = omega arith
+bounds-a-x : tie.Need-bounds-a-x invariant-loop-x decreases-loop-x
+bounds-a-x c = omega arith
 
-mul-out-2 : tie.Need-overflow-mul-out-2 invariant_loop decreases-loop
-mul-out-2 c = omega arith
+offset_bounds-b-x : tie.Need-offset_bounds-b-x invariant-loop-x decreases-loop-x
+offset_bounds-b-x c = omega arith
 
-array-read-out-2 : tie.Need-array-read-out-2 invariant_loop decreases-loop
-array-read-out-2 c = omega arith
+bounds-b-x : tie.Need-bounds-b-x invariant-loop-x decreases-loop-x
+bounds-b-x c = omega arith
 
-mul-out-3 : tie.Need-overflow-mul-out-3 invariant_loop decreases-loop
-mul-out-3 c = omega arith
+offset_bounds-out-x : tie.Need-offset_bounds-out-x invariant-loop-x decreases-loop-x
+offset_bounds-out-x c = omega arith
 
-array-write-out : tie.Need-array-write-out invariant_loop decreases-loop
-array-write-out c = omega arith
+bounds-out-x : tie.Need-bounds-out-x invariant-loop-x decreases-loop-x
+bounds-out-x c = omega arith
 
-add-x : tie.Need-overflow-add-x invariant_loop decreases-loop
-add-x c = omega arith
+overflow_step-x : tie.Need-overflow_step-x invariant-loop-x decreases-loop-x
+overflow_step-x c = omega arith
 
-loop-less : tie.Need-loop-smaller invariant_loop decreases-loop
-loop-less c = omega arith
+loop-x-smaller : tie.Need-loop-x-smaller invariant-loop-x decreases-loop-x
+loop-x-smaller c = omega arith
 
-loop_again : tie.Need-loop-preserved invariant_loop decreases-loop
-loop_again c = (omega arith, cells-more 8 _ _ nan _ _ _ c.loop-test.true c.before.loop.invariant.1 refl)
+loop-x-preserved : tie.Need-loop-x-preserved invariant-loop-x decreases-loop-x
+loop-x-preserved c = (omega arith, cells-more 8 _ _ nan _ _ _ c.loop-x-test.true c.loop-x.invariant.1 refl)
 
-returns : tie.Need-returns invariant_loop decreases-loop
-returns c = cells_all 8 _ _ _ _ c.loop-test.false c.before.loop.invariant.0 c.before.loop.invariant.1
+returns : tie.Need-returns invariant-loop-x decreases-loop-x
+returns c = cells_all 8 _ _ _ _ c.loop-x-test.false c.loop-x.invariant.0 c.loop-x.invariant.1
 
 pub minus_spec : {M : Type 1} → statement M
 minus_spec =
     tie.close
     (tie.spec
-    invariant_loop
-    decreases-loop
-    loop_holds
-    mul-out
-    array-read-out
-    mul-out-2
-    array-read-out-2
-    mul-out-3
-    array-write-out
-    add-x
-    loop-less
-    loop_again
+    invariant-loop-x
+    decreases-loop-x
+    loop-x-init
+    offset_bounds-a-x
+    bounds-a-x
+    offset_bounds-b-x
+    bounds-b-x
+    offset_bounds-out-x
+    bounds-out-x
+    overflow_step-x
+    loop-x-smaller
+    loop-x-preserved
     returns)

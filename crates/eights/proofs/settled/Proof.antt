@@ -14,46 +14,46 @@ use Rattle.eights.proofs.settled.Tie as tie
 abbrev well : Float → Bool
 well w = lt w well_within_square
 
-abbrev invariant_loop : tie.invariant-loop
-invariant_loop worst fine₀ x₀ fine x = (x ≤ 8) × (every well worst ≡ (fine && every well (drop x worst)))
+abbrev invariant-loop-x : tie.invariant-loop-x
+invariant-loop-x worst fine₀ x₀ fine x = (x ≤ 8) × (every well worst ≡ (fine && every well (drop x worst)))
 
-abbrev decreases-loop : tie.decreases-loop
-decreases-loop worst fine₀ x₀ fine x = 8 - x
+abbrev decreases-loop-x : tie.decreases-loop-x
+decreases-loop-x worst fine₀ x₀ fine x = 8 - x
 
-loop_holds : tie.Need-loop-init invariant_loop decreases-loop
-loop_holds c = (omega arith, refl)
+loop-x-init : tie.Need-loop-x-init invariant-loop-x decreases-loop-x
+loop-x-init c = (omega arith, refl)
 
-mul-within : tie.Need-overflow-mul-within invariant_loop decreases-loop
-mul-within c = omega arith
+offset_bounds-worst-x : tie.Need-offset_bounds-worst-x invariant-loop-x decreases-loop-x
+offset_bounds-worst-x c = omega arith
 
-array-read-within : tie.Need-array-read-within invariant_loop decreases-loop
-array-read-within c = omega arith
+bounds-worst-x : tie.Need-bounds-worst-x invariant-loop-x decreases-loop-x
+bounds-worst-x c = omega arith
 
-add-x : tie.Need-overflow-add-x invariant_loop decreases-loop
-add-x c = omega arith
+overflow_step-x : tie.Need-overflow_step-x invariant-loop-x decreases-loop-x
+overflow_step-x c = omega arith
 
-loop-less : tie.Need-loop-smaller invariant_loop decreases-loop
-loop-less c = omega arith
+loop-x-smaller : tie.Need-loop-x-smaller invariant-loop-x decreases-loop-x
+loop-x-smaller c = omega arith
 
-loop_again : tie.Need-loop-preserved invariant_loop decreases-loop
-loop_again c =
-    let l = c.before.loop in
-    let a = c.before.before.args in
-    (omega arith, test_more well nan a.t1 _ l.x l.fine (well (get_or a.t1 l.x nan)) (omega arith) l.invariant.1 refl)
+loop-x-preserved : tie.Need-loop-x-preserved invariant-loop-x decreases-loop-x
+loop-x-preserved c =
+    let l = c.loop-x in
+    let a = c.args in
+    (omega arith, test_more well nan a.worst _ l.x l.fine (well (get_or a.worst l.x nan)) (omega arith) l.invariant.1 refl)
 
-returns : tie.Need-returns invariant_loop decreases-loop
-returns c = test_done well nan c.before.before.args.t1 _ c.before.loop.x c.before.loop.fine (omega arith) c.before.loop.invariant.1
+returns : tie.Need-returns invariant-loop-x decreases-loop-x
+returns c = test_done well nan c.args.worst _ c.loop-x.x c.loop-x.fine (omega arith) c.loop-x.invariant.1
 
 pub settled_spec : {M : Type 1} → statement M
 settled_spec =
     tie.close
     (tie.spec
-    invariant_loop
-    decreases-loop
-    loop_holds
-    mul-within
-    array-read-within
-    add-x
-    loop-less
-    loop_again
+    invariant-loop-x
+    decreases-loop-x
+    loop-x-init
+    offset_bounds-worst-x
+    bounds-worst-x
+    overflow_step-x
+    loop-x-smaller
+    loop-x-preserved
     returns)

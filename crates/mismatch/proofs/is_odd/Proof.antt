@@ -7,11 +7,11 @@ use Rattle.mismatch.proofs.ParityLaws.{rem_tells}
 use Rattle.mismatch.proofs.is_odd.Statement.{statement}
 use Rattle.mismatch.proofs.is_odd.Tie as tie
 
-rem-result : tie.Need-nonzero-rem-result
-rem-result c = (lit< tt, fits (any c.args.z c.ranges.z ⊘ lit (pos 2)) tt)
+nonzero_rem-result : tie.Need-nonzero_rem-result
+nonzero_rem-result c = (lit< tt, fits (any c.args.z c.ranges.z ⊘ lit (pos 2)) tt)
 
 returns : tie.Need-returns
 returns c = rw (to_z-of_z c.ranges.z, rem_tells c.args.z)
 
 pub is_odd_spec : {M : Type 1} → statement M
-is_odd_spec = tie.close (tie.spec rem-result returns)
+is_odd_spec = tie.close (tie.spec nonzero_rem-result returns)

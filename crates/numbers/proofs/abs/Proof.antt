@@ -32,40 +32,40 @@ module _ (x : ℤ) (f : SFits w32 x) (n : x <ℤ pos 0) where
 abbrev x : tie.Start → ℤ
 x s = s.args.x
 
-below : (c : tie.Then1) → x c.before <ℤ pos 0
-below c = lt-true _ _ (simp (to_z-of_z, c.before.ranges.x) at c.if1.true)
+below : (c : tie.Then-x-lt0) → x c.before <ℤ pos 0
+below c = lt-true _ _ (simp (to_z-of_z, c.ranges.x) at c.if-x-lt0.true)
 
-add-result : tie.Need-overflow-add-result
-add-result c = simp (to_z-of_z, c.before.ranges.x) (more (x c.before) c.before.ranges.x (below c))
+overflow_add-result : tie.Need-overflow_add-result
+overflow_add-result c = simp (to_z-of_z, c.ranges.x) (more (x c.before) c.ranges.x (below c))
 
-sub-result : tie.Need-overflow-sub-result
-sub-result c =
+overflow_sub-result : tie.Need-overflow_sub-result
+overflow_sub-result c =
     let s = c.before in
     simp (to_z-of_z, s.ranges.x, more (x s) s.ranges.x (below c)) (less (x s) s.ranges.x (below c))
 
-cast_result : tie.Need-overflow-cast-result
-cast_result c =
+overflow_cast-result : tie.Need-overflow_cast-result
+overflow_cast-result c =
     let s = c.before in
     let z = pos 0 -ℤ (x s +ℤ pos 1) in
     let p = positive (x s) s.ranges.x (below c) in
     rw (minus (x s) s.ranges.x (below c)) (cast_su z p (omega (arith, size (x s) s.ranges.x (below c), nat_abs-le (x s) s.ranges.x.sfits)))
 
-add-result-2 : tie.Need-overflow-add-result-2
-add-result-2 c =
+overflow_add-result-then-x-lt0 : tie.Need-overflow_add-result-then-x-lt0
+overflow_add-result-then-x-lt0 c =
     let s = c.before in
     rw (minus (x s) s.ranges.x (below c)) (record { fits = omega (arith, size (x s) s.ranges.x (below c), nat_abs-le (x s) s.ranges.x.sfits) })
 
-cast-result-2 : tie.Need-overflow-cast-result-2
-cast-result-2 c =
+overflow_cast-result-else-x-lt0 : tie.Need-overflow_cast-result-else-x-lt0
+overflow_cast-result-else-x-lt0 c =
     let s = c.before in
-    let h = lt-false _ _ (simp (to_z-of_z, s.ranges.x) at c.if1.false) in
+    let h = lt-false _ _ (simp (to_z-of_z, s.ranges.x) at c.if-x-lt0.false) in
     simp (to_z-of_z, s.ranges.x) (cast_su (x s) h (omega (arith, nat_abs-le (x s) s.ranges.x.sfits)))
 
-returns : tie.Need-returns
-returns c = let s = c.before in rw (minus (x s) s.ranges.x (below c)) (size (x s) s.ranges.x (below c))
+returns-then-x-lt0 : tie.Need-returns-then-x-lt0
+returns-then-x-lt0 c = let s = c.before in rw (minus (x s) s.ranges.x (below c)) (size (x s) s.ranges.x (below c))
 
-returns_2 : tie.Need-returns-2
-returns_2 c = simp (to_z-of_z, c.before.ranges.x)
+returns-else-x-lt0 : tie.Need-returns-else-x-lt0
+returns-else-x-lt0 c = simp (to_z-of_z, c.ranges.x)
 
 pub abs_spec : {M : Type 1} → statement M
-abs_spec = tie.close (tie.spec add-result sub-result cast_result add-result-2 cast-result-2 returns returns_2)
+abs_spec = tie.close (tie.spec overflow_add-result overflow_sub-result overflow_cast-result overflow_add-result-then-x-lt0 overflow_cast-result-else-x-lt0 returns-then-x-lt0 returns-else-x-lt0)

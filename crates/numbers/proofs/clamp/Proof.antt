@@ -3,20 +3,20 @@ use mir.Facts.{to_z-of_z}
 use Rattle.numbers.proofs.clamp.Statement.{statement}
 use Rattle.numbers.proofs.clamp.Tie as tie
 
-returns : tie.Need-returns
-returns c =
+returns-then-v-lo : tie.Need-returns-then-v-lo
+returns-then-v-lo c =
     let s = c.before in
-    simp (to_z-of_z, s.ranges.lo, simp (to_z-of_z, s.ranges.v, s.ranges.lo) at c.if1.true)
+    simp (to_z-of_z, s.ranges.lo, simp (to_z-of_z, s.ranges.v, s.ranges.lo) at c.if-v-lo.true)
 
-returns_2 : tie.Need-returns-2
-returns_2 c =
+returns-then-hi-v : tie.Need-returns-then-hi-v
+returns-then-hi-v c =
     let s = c.before.before in
-    simp (to_z-of_z, s.ranges.hi, simp (to_z-of_z, s.ranges.v, s.ranges.lo) at c.before.if1.false, simp (to_z-of_z, s.ranges.v, s.ranges.hi) at c.if2.true)
+    simp (to_z-of_z, s.ranges.hi, simp (to_z-of_z, s.ranges.v, s.ranges.lo) at c.if-v-lo.false, simp (to_z-of_z, s.ranges.v, s.ranges.hi) at c.if-hi-v.true)
 
-returns_3 : tie.Need-returns-3
-returns_3 c =
+returns-else-hi-v : tie.Need-returns-else-hi-v
+returns-else-hi-v c =
     let s = c.before.before in
-    simp (to_z-of_z, s.ranges.v, simp (to_z-of_z, s.ranges.v, s.ranges.lo) at c.before.if1.false, simp (to_z-of_z, s.ranges.v, s.ranges.hi) at c.if2.false)
+    simp (to_z-of_z, s.ranges.v, simp (to_z-of_z, s.ranges.v, s.ranges.lo) at c.if-v-lo.false, simp (to_z-of_z, s.ranges.v, s.ranges.hi) at c.if-hi-v.false)
 
 pub clamp_spec : {M : Type 1} → statement M
-clamp_spec = tie.close (tie.spec returns returns_2 returns_3)
+clamp_spec = tie.close (tie.spec returns-then-v-lo returns-then-hi-v returns-else-hi-v)

@@ -27,34 +27,34 @@ module _ (m : ℕ) (p : 0 < m) (h : m < 2147483649) where
   second : SFits w32 (neg_ℤ (pos m))
   second = fits_half w32 (neg_ℤ (pos m)) (omega (arith, neg-up (pos m))) (omega (arith, neg-dn (pos m)))
 
-sub-result : tie.Need-overflow-sub-result
-sub-result c = search rules
+overflow_sub-result : tie.Need-overflow_sub-result
+overflow_sub-result c = search rules
 
-cast_result : tie.Need-overflow-cast-result
-cast_result c = search rules
+overflow_cast-result : tie.Need-overflow_cast-result
+overflow_cast-result c = search rules
 
-positive : (c : tie.Else1) → 0 < c.before.args.m
-positive c = let n = c.if1.false in omega arith
+positive : (c : tie.Else-m-eq0) → 0 < c.args.m
+positive c = let n = c.if-m-eq0.false in omega arith
 
-sub-result-2 : tie.Need-overflow-sub-result-2
-sub-result-2 c = let s = c.before in rw (whole s.args.m (positive c) s.requires) (first s.args.m (positive c) s.requires)
+overflow_sub-result-else-m-eq0 : tie.Need-overflow_sub-result-else-m-eq0
+overflow_sub-result-else-m-eq0 c = let s = c.before in rw (whole s.args.m (positive c) s.requires) (first s.args.m (positive c) s.requires)
 
-sub-result-3 : tie.Need-overflow-sub-result-3
-sub-result-3 c =
+overflow_sub-result-else-m-eq0-2 : tie.Need-overflow_sub-result-else-m-eq0-2
+overflow_sub-result-else-m-eq0-2 c =
     let s = c.before in
     let m = s.args.m in
     let p = positive c in
     simp (whole m p s.requires, to_z-of_z, first m p s.requires, minus m p s.requires) (second m p s.requires)
 
-returns : tie.Need-returns
-returns c = rw c.if1.true
+returns-then-m-eq0 : tie.Need-returns-then-m-eq0
+returns-then-m-eq0 c = rw c.if-m-eq0.true
 
-returns_2 : tie.Need-returns-2
-returns_2 c =
+returns-else-m-eq0 : tie.Need-returns-else-m-eq0
+returns-else-m-eq0 c =
     let s = c.before in
     let m = s.args.m in
     let p = positive c in
     simp (whole m p s.requires, to_z-of_z, first m p s.requires, minus m p s.requires, second m p s.requires)
 
 pub negative_spec : {M : Type 1} → statement M
-negative_spec = tie.close (tie.spec sub-result cast_result sub-result-2 sub-result-3 returns returns_2)
+negative_spec = tie.close (tie.spec overflow_sub-result overflow_cast-result overflow_sub-result-else-m-eq0 overflow_sub-result-else-m-eq0-2 returns-then-m-eq0 returns-else-m-eq0)

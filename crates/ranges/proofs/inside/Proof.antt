@@ -4,17 +4,17 @@ use Rattle.numbers.proofs.Integers.{le_le_z, lt-false, lt_le_z, lt-true}
 use Rattle.ranges.proofs.inside.Statement.{statement}
 use Rattle.ranges.proofs.inside.Tie as tie
 
+returns-then-z-lo : tie.Need-returns-then-z-lo
+returns-then-z-lo c =
+    let s = c.before in
+    let l = lt-true s.args.z s.args.lo (simp (to_z-of_z, s.ranges.z, s.ranges.lo) at c.if-z-lo.true) in
+    simp (lt_le_z s.args.lo s.args.z l)
+
 returns : tie.Need-returns
 returns c =
     let s = c.before in
-    let l = lt-true s.args.z s.args.lo (simp (to_z-of_z, s.fits.z, s.fits.lo) at c.if1.taken) in
-    simp (lt_le_z s.args.lo s.args.z l)
-
-returns_2 : tie.Need-returns-2
-returns_2 c =
-    let s = c.before in
-    let l = lt-false s.args.z s.args.lo (simp (to_z-of_z, s.fits.z, s.fits.lo) at c.if1.left) in
-    simp (to_z-of_z, s.fits.z, s.fits.hi, le_le_z s.args.lo s.args.z l)
+    let l = lt-false s.args.z s.args.lo (simp (to_z-of_z, s.ranges.z, s.ranges.lo) at c.if-z-lo.false) in
+    simp (to_z-of_z, s.ranges.z, s.ranges.hi, le_le_z s.args.lo s.args.z l)
 
 pub inside_spec : {M : Type 1} → statement M
-inside_spec = tie.close (tie.spec returns returns_2)
+inside_spec = tie.close (tie.spec returns-then-z-lo returns)

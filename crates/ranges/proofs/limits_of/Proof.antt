@@ -5,20 +5,20 @@ use Rattle.ranges.proofs.limits_of.Statement.{statement}
 use Rattle.ranges.proofs.limits_of.Tie as tie
 use Rattle.ranges.specs.declared.DepthLimits.TheVariants.{Are}
 
-shl-top : tie.Need-shl-top
-shl-top c = search rules
+overflow_shl-top : tie.Need-overflow_shl-top
+overflow_shl-top c = search rules
 
-cast-top : tie.Need-cast-top
-cast-top c = cast_fits c.args.bits c.pre
+overflow_cast-top : tie.Need-overflow_cast-top
+overflow_cast-top c = cast_fits c.args.bits c.requires
 
-sub-t4 : tie.Need-sub-t4
-sub-t4 c = low_fits c.args.bits c.pre
+overflow_sub-result : tie.Need-overflow_sub-result
+overflow_sub-result c = low_fits c.args.bits c.requires
 
-sub-t5 : tie.Need-sub-t5
-sub-t5 c = high_fits c.args.bits c.pre
+overflow_sub-result-2 : tie.Need-overflow_sub-result-2
+overflow_sub-result-2 c = high_fits c.args.bits c.requires
 
 returns : tie.Need-returns
-returns c = λ i. Are (low-is c.args.bits c.pre i) (high_is c.args.bits c.pre i)
+returns c = λ i. Are (low-is c.args.bits c.requires i) (high_is c.args.bits c.requires i)
 
 pub limits_of_spec : {M : Type 1} → statement M
-limits_of_spec = tie.close (tie.spec shl-top cast-top sub-t4 sub-t5 returns)
+limits_of_spec = tie.close (tie.spec overflow_shl-top overflow_cast-top overflow_sub-result overflow_sub-result-2 returns)

@@ -7,51 +7,51 @@ use lib.ListN.{length}
 use Rattle.replay.proofs.bytes.Statement.{statement}
 use Rattle.replay.proofs.bytes.Tie as tie
 
-abbrev invariant_loop : tie.invariant-loop
-invariant_loop chunk line₀ store₀ now-at₀ i₀ line store now-at i = (i ≤ length chunk) × (length line ≡ length line₀) × (length store ≡ length store₀)
+abbrev invariant-loop-i : tie.invariant-loop-i
+invariant-loop-i chunk line₀ store₀ now-at₀ i₀ line store now-at i = (i ≤ length chunk) × (length line ≡ length line₀) × (length store ≡ length store₀)
 
-abbrev decreases-loop : tie.decreases-loop
-decreases-loop chunk line₀ store₀ now-at₀ i₀ line store now-at i = length chunk - i
+abbrev decreases-loop-i : tie.decreases-loop-i
+decreases-loop-i chunk line₀ store₀ now-at₀ i₀ line store now-at i = length chunk - i
 
-loop_holds : tie.Need-loop-init invariant_loop decreases-loop
-loop_holds c = (omega arith, refl, refl)
+loop-i-init : tie.Need-loop-i-init invariant-loop-i decreases-loop-i
+loop-i-init c = (omega arith, refl, refl)
 
-shared-slice-read-byte : tie.Need-shared-slice-read-byte invariant_loop decreases-loop
-shared-slice-read-byte c = omega arith
+bounds-chunk-i : tie.Need-bounds-chunk-i invariant-loop-i decreases-loop-i
+bounds-chunk-i c = omega arith
 
-byte-requires : tie.Need-byte-requires invariant_loop decreases-loop
-byte-requires c κs = search rules
+byte-now_at-requires : tie.Need-byte-now_at-requires invariant-loop-i decreases-loop-i
+byte-now_at-requires c κs = search rules
 
-add-i : tie.Need-overflow-add-i invariant_loop decreases-loop
-add-i c = omega arith
+overflow_add-i : tie.Need-overflow_add-i invariant-loop-i decreases-loop-i
+overflow_add-i c = omega arith
 
-loop-less : tie.Need-loop-smaller invariant_loop decreases-loop
-loop-less c = omega arith
+loop-i-smaller : tie.Need-loop-i-smaller invariant-loop-i decreases-loop-i
+loop-i-smaller c = omega arith
 
-loop_again : tie.Need-loop-preserved invariant_loop decreases-loop
-loop_again c = (omega arith, search rules, search rules)
+loop-i-preserved : tie.Need-loop-i-preserved invariant-loop-i decreases-loop-i
+loop-i-preserved c = (omega arith, search rules, search rules)
 
-same_length : tie.Need-same-length invariant_loop decreases-loop
-same_length c = omega arith
+shape_of-line : tie.Need-shape_of-line invariant-loop-i decreases-loop-i
+shape_of-line c = omega arith
 
-same-length-2 : tie.Need-same-length-2 invariant_loop decreases-loop
-same-length-2 c = omega arith
+shape_of-store : tie.Need-shape_of-store invariant-loop-i decreases-loop-i
+shape_of-store c = omega arith
 
-returns : tie.Need-returns invariant_loop decreases-loop
+returns : tie.Need-returns invariant-loop-i decreases-loop-i
 returns c = search rules
 
 pub bytes_spec : {M : Type 1} → statement M
 bytes_spec =
     tie.close
     (tie.spec
-    invariant_loop
-    decreases-loop
-    loop_holds
-    shared-slice-read-byte
-    byte-requires
-    add-i
-    loop-less
-    loop_again
-    same_length
-    same-length-2
+    invariant-loop-i
+    decreases-loop-i
+    loop-i-init
+    bounds-chunk-i
+    byte-now_at-requires
+    overflow_add-i
+    loop-i-smaller
+    loop-i-preserved
+    shape_of-line
+    shape_of-store
     returns)

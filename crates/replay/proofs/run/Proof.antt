@@ -6,67 +6,67 @@ use lib.ListN.{length}
 use Rattle.replay.proofs.run.Statement.{statement}
 use Rattle.replay.proofs.run.Tie as tie
 
-abbrev invariant_loop : tie.invariant-loop
-invariant_loop line₀ store₀ r₀ turns₀ line store r turns = (length line ≡ length line₀) × (length store ≡ length store₀)
+abbrev invariant-loop-turns : tie.invariant-loop-turns
+invariant-loop-turns line₀ store₀ r₀ turns₀ line store r turns = (length line ≡ length line₀) × (length store ≡ length store₀)
 
-abbrev decreases-loop : tie.decreases-loop
-decreases-loop line₀ store₀ r₀ turns₀ line store r turns = turns
+abbrev decreases-loop-turns : tie.decreases-loop-turns
+decreases-loop-turns line₀ store₀ r₀ turns₀ line store r turns = turns
 
-none-requires : tie.Need-none-requires invariant_loop decreases-loop
-none-requires c κs = search rules
+none-none-requires : tie.Need-none-none-requires invariant-loop-turns decreases-loop-turns
+none-none-requires c κs = search rules
 
-start-requires : tie.Need-start-requires invariant_loop decreases-loop
-start-requires c κs = search rules
+start-r-requires : tie.Need-start-r-requires invariant-loop-turns decreases-loop-turns
+start-r-requires c κs = search rules
 
-loop_holds : tie.Need-loop-init invariant_loop decreases-loop
-loop_holds c = (refl, refl)
+loop-turns-init : tie.Need-loop-turns-init invariant-loop-turns decreases-loop-turns
+loop-turns-init c = (refl, refl)
 
-same_length : tie.Need-same-length invariant_loop decreases-loop
-same_length c = omega arith
+shape_of-line-then-r : tie.Need-shape_of-line-then-r invariant-loop-turns decreases-loop-turns
+shape_of-line-then-r c = omega arith
 
-same-length-2 : tie.Need-same-length-2 invariant_loop decreases-loop
-same-length-2 c = omega arith
+shape_of-store-then-r : tie.Need-shape_of-store-then-r invariant-loop-turns decreases-loop-turns
+shape_of-store-then-r c = omega arith
 
-returns : tie.Need-returns invariant_loop decreases-loop
+returns-then-r : tie.Need-returns-then-r invariant-loop-turns decreases-loop-turns
+returns-then-r c = search rules
+
+turn-r-requires : tie.Need-turn-r-requires invariant-loop-turns decreases-loop-turns
+turn-r-requires c κs = search rules
+
+overflow_sub-turns : tie.Need-overflow_sub-turns invariant-loop-turns decreases-loop-turns
+overflow_sub-turns c = omega arith
+
+loop-turns-smaller : tie.Need-loop-turns-smaller invariant-loop-turns decreases-loop-turns
+loop-turns-smaller c = omega arith
+
+loop-turns-preserved : tie.Need-loop-turns-preserved invariant-loop-turns decreases-loop-turns
+loop-turns-preserved c = (search rules, search rules)
+
+shape_of-line : tie.Need-shape_of-line invariant-loop-turns decreases-loop-turns
+shape_of-line c = omega arith
+
+shape_of-store : tie.Need-shape_of-store invariant-loop-turns decreases-loop-turns
+shape_of-store c = omega arith
+
+returns : tie.Need-returns invariant-loop-turns decreases-loop-turns
 returns c = search rules
-
-turn-requires : tie.Need-turn-requires invariant_loop decreases-loop
-turn-requires c κs = search rules
-
-sub-turns : tie.Need-overflow-sub-turns invariant_loop decreases-loop
-sub-turns c = omega arith
-
-loop-less : tie.Need-loop-smaller invariant_loop decreases-loop
-loop-less c = omega arith
-
-loop_again : tie.Need-loop-preserved invariant_loop decreases-loop
-loop_again c = (search rules, search rules)
-
-same-length-3 : tie.Need-same-length-3 invariant_loop decreases-loop
-same-length-3 c = omega arith
-
-same-length-4 : tie.Need-same-length-4 invariant_loop decreases-loop
-same-length-4 c = omega arith
-
-returns_2 : tie.Need-returns-2 invariant_loop decreases-loop
-returns_2 c = search rules
 
 pub run_spec : {M : Type 1} → statement M
 run_spec =
     tie.close
     (tie.spec
-    invariant_loop
-    decreases-loop
-    none-requires
-    start-requires
-    loop_holds
-    same_length
-    same-length-2
-    returns
-    turn-requires
-    sub-turns
-    loop-less
-    loop_again
-    same-length-3
-    same-length-4
-    returns_2)
+    invariant-loop-turns
+    decreases-loop-turns
+    none-none-requires
+    start-r-requires
+    loop-turns-init
+    shape_of-line-then-r
+    shape_of-store-then-r
+    returns-then-r
+    turn-r-requires
+    overflow_sub-turns
+    loop-turns-smaller
+    loop-turns-preserved
+    shape_of-line
+    shape_of-store
+    returns)

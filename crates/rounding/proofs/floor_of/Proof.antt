@@ -3,17 +3,17 @@ use Rattle.rounding.proofs.Floors.{cast_fine, less_fits, floor_less, floor_same}
 use Rattle.rounding.proofs.floor_of.Statement.{statement}
 use Rattle.rounding.proofs.floor_of.Tie as tie
 
-float-to-int-t : tie.Need-float-to-int-t
-float-to-int-t c = cast_fine c.before.args.x c.before.requires
+float_to_int-t : tie.Need-float_to_int-t
+float_to_int-t c = cast_fine c.args.x c.requires
 
-sub-result : tie.Need-overflow-sub-result
-sub-result c = less_fits c.before.before.args.x c.before.before.requires
+overflow_sub-result : tie.Need-overflow_sub-result
+overflow_sub-result c = less_fits c.args.x c.requires
 
-returns : tie.Need-returns
-returns c = floor_less c.before.before.args.x c.before.before.requires c.if1.true
+returns-then-x-near : tie.Need-returns-then-x-near
+returns-then-x-near c = floor_less c.args.x c.requires c.if-x-near.true
 
-returns_2 : tie.Need-returns-2
-returns_2 c = floor_same c.before.before.args.x c.before.before.requires c.if1.false
+returns-else-x-near : tie.Need-returns-else-x-near
+returns-else-x-near c = floor_same c.args.x c.requires c.if-x-near.false
 
 pub floor_of_spec : {M : Type 1} → statement M
-floor_of_spec = tie.close (tie.spec float-to-int-t sub-result returns returns_2)
+floor_of_spec = tie.close (tie.spec float_to_int-t overflow_sub-result returns-then-x-near returns-else-x-near)

@@ -10,26 +10,26 @@ use Rattle.rounding.proofs.round_to_integer.Statement.{statement}
 use Rattle.rounding.proofs.round_to_integer.Tie as tie
 
 -- the value is within the limits
-module _ (c : tie.Else1) where
-  taken : roundable c.before.before.args.value ≡ true
-  taken = not_too_large c.before.before.args.value c.before.magnitude.result c.before.magnitude.ensures c.if1.false
+module _ (c : tie.Else-not-magnitude) where
+  taken : roundable c.args.value ≡ true
+  taken = not_too_large c.args.value c.magnitude.result c.magnitude.ensures c.if-not-magnitude.false
 
-  bounded : Roundable c.before.before.args.value
-  bounded = roundable_means c.before.before.args.value c.before.before.well-formed.0.1 taken
+  bounded : Roundable c.args.value
+  bounded = roundable_means c.args.value c.well_formed.0.1 taken
 
 magnitude-requires : tie.Need-magnitude-requires
 magnitude-requires c κs = search rules
 
-returns : tie.Need-returns
-returns c =
+returns-then-not-magnitude : tie.Need-returns-then-not-magnitude
+returns-then-not-magnitude c =
     let s = c.before.before in
-    refuses s.args.rounding s.args.value (too_large s.args.value c.before.magnitude.result c.before.magnitude.ensures c.if1.true)
+    refuses s.args.rounding s.args.value (too_large s.args.value c.magnitude.result c.magnitude.ensures c.if-not-magnitude.true)
 
-floor-of-requires : tie.Need-floor-of-requires
-floor-of-requires c κs = bounded c
+floor_of-below-requires : tie.Need-floor_of-below-requires
+floor_of-below-requires c κs = bounded c
 
-int-to-float-d : tie.Need-int-to-float-d
-int-to-float-d c = search rules
+int_to_float-d : tie.Need-int_to_float-d
+int_to_float-d c = search rules
 
 magnitude-requires-2 : tie.Need-magnitude-requires-2
 magnitude-requires-2 c κs = search rules
@@ -38,52 +38,52 @@ tie-requires : tie.Need-tie-requires
 tie-requires c κs =
     let b = c.before.before.before in
     let e = b.before in
-    tie_small e.before.before.args.value (bounded e) b.floor-of.result b.floor-of.ensures
+    tie_small e.args.value (bounded e) b.floor_of-below.result b.floor_of-below.ensures
 
-returns_2 : tie.Need-returns-2
-returns_2 c =
+returns-then-magnitude : tie.Need-returns-then-magnitude
+returns-then-magnitude c =
     let g = c.before.before in
     let b = g.before.before in
     let e = b.before in
-    let a = e.before.before.args in
+    let a = e.args in
     answers a.rounding a.value _ (taken e)
-    (at_tie a.value (bounded e) b.floor-of.result b.floor-of.ensures a.rounding g.magnitude2.result g.magnitude2.ensures c.before.if2.true c.tie.result c.tie.type-inv c.tie.ensures)
+    (at_tie a.value (bounded e) b.floor_of-below.result b.floor_of-below.ensures a.rounding g.magnitude-2.result g.magnitude-2.ensures c.if-magnitude.true c.tie.result c.tie.type_inv c.tie.ensures)
 
-returns_3 : tie.Need-returns-3
-returns_3 c =
+returns-then-d : tie.Need-returns-then-d
+returns-then-d c =
     let g = c.before.before in
     let b = g.before.before in
     let e = b.before in
-    let a = e.before.before.args in
+    let a = e.args in
     answers a.rounding a.value _ (taken e)
-    (plain_down a.value (bounded e) b.floor-of.result b.floor-of.ensures a.rounding g.magnitude2.result g.magnitude2.ensures c.before.if2.false c.if3.true)
+    (plain_down a.value (bounded e) b.floor_of-below.result b.floor_of-below.ensures a.rounding g.magnitude-2.result g.magnitude-2.ensures c.if-magnitude.false c.if-d.true)
 
-add-t10 : tie.Need-overflow-add-t10
-add-t10 c =
+overflow_add-result : tie.Need-overflow_add-result
+overflow_add-result c =
     let b = c.before.before.before.before in
     let e = b.before in
-    next_fits e.before.before.args.value (bounded e) b.floor-of.result b.floor-of.ensures
+    next_fits e.args.value (bounded e) b.floor_of-below.result b.floor_of-below.ensures
 
-returns_4 : tie.Need-returns-4
-returns_4 c =
+returns : tie.Need-returns
+returns c =
     let g = c.before.before in
     let b = g.before.before in
     let e = b.before in
-    let a = e.before.before.args in
+    let a = e.args in
     answers a.rounding a.value _ (taken e)
-    (plain-up a.value (bounded e) b.floor-of.result b.floor-of.ensures a.rounding g.magnitude2.result g.magnitude2.ensures c.before.if2.false c.if3.false)
+    (plain-up a.value (bounded e) b.floor_of-below.result b.floor_of-below.ensures a.rounding g.magnitude-2.result g.magnitude-2.ensures c.if-magnitude.false c.if-d.false)
 
 pub round_to_integer_spec : {M : Type 1} → statement M
 round_to_integer_spec =
     tie.close
     (tie.spec
     magnitude-requires
-    returns
-    floor-of-requires
-    int-to-float-d
+    returns-then-not-magnitude
+    floor_of-below-requires
+    int_to_float-d
     magnitude-requires-2
     tie-requires
-    returns_2
-    returns_3
-    add-t10
-    returns_4)
+    returns-then-magnitude
+    returns-then-d
+    overflow_add-result
+    returns)

@@ -3,11 +3,11 @@ use borrow.Author.Tests.{le-ltb, lt-ltb}
 use Rattle.samples.proofs.row_length.Statement.{statement}
 use Rattle.samples.proofs.row_length.Tie as tie
 
-returns : tie.Need-returns
-returns c = rw (lt-ltb _ _ c.if1.true)
+returns-then-i-lt4 : tie.Need-returns-then-i-lt4
+returns-then-i-lt4 c = rw (lt-ltb _ _ c.if-i-lt4.true)
 
-returns_2 : tie.Need-returns-2
-returns_2 c = rw (le-ltb _ _ c.if1.false)
+returns : tie.Need-returns
+returns c = rw (le-ltb _ _ c.if-i-lt4.false)
 
 pub row_length_spec : {M : Type 1} → statement M
-row_length_spec = tie.close (tie.spec returns returns_2)
+row_length_spec = tie.close (tie.spec returns-then-i-lt4 returns)

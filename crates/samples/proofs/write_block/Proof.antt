@@ -10,104 +10,104 @@ use Rattle.samples.proofs.OneBlock.{place_inside, place_small, upto, upto_all, u
 use Rattle.samples.proofs.write_block.Statement.{statement}
 use Rattle.samples.proofs.write_block.Tie as tie
 
-abbrev invariant_loop2 : tie.invariant-loop2
-invariant_loop2 part₀ row-length block y x₀ part x = (y < 8) × (x ≤ 8) × (row-length * 7 + 8 ≤ length part) × ((s : List ℤ) → part₀ ≡ upto s row-length block (y * row-length) → part ≡ upto s row-length block (y * row-length + x))
+abbrev invariant-loop-x : tie.invariant-loop-x
+invariant-loop-x part₀ row-length block y x₀ part x = (y < 8) × (x ≤ 8) × (row-length * 7 + 8 ≤ length part) × ((s : List ℤ) → part₀ ≡ upto s row-length block (y * row-length) → part ≡ upto s row-length block (y * row-length + x))
 
-abbrev decreases-loop2 : tie.decreases-loop2
-decreases-loop2 part₀ row-length block y x₀ part x = 8 - x
+abbrev decreases-loop-x : tie.decreases-loop-x
+decreases-loop-x part₀ row-length block y x₀ part x = 8 - x
 
-abbrev invariant_loop : tie.invariant-loop
-invariant_loop part₀ row-length block y₀ part y = (y ≤ 8) × (part ≡ upto part₀ row-length block (y * row-length))
+abbrev invariant-loop-y : tie.invariant-loop-y
+invariant-loop-y part₀ row-length block y₀ part y = (y ≤ 8) × (part ≡ upto part₀ row-length block (y * row-length))
 
-abbrev decreases-loop : tie.decreases-loop
-decreases-loop part₀ row-length block y₀ part y = 8 - y
+abbrev decreases-loop-y : tie.decreases-loop-y
+decreases-loop-y part₀ row-length block y₀ part y = 8 - y
 
-loop_holds : tie.Need-loop-init invariant_loop2 decreases-loop2 invariant_loop decreases-loop
-loop_holds c = (omega arith, upto_none _ _ _)
+loop-y-init : tie.Need-loop-y-init invariant-loop-x decreases-loop-x invariant-loop-y decreases-loop-y
+loop-y-init c = (omega arith, upto_none _ _ _)
 
-loop2-holds : tie.Need-loop2-init invariant_loop2 decreases-loop2 invariant_loop decreases-loop
-loop2-holds c = (c.loop-test.true, omega arith, omega (arith, upto_length _ _ _ _ _ c.before.loop.invariant.1), λ s e. upto_column s _ _ _ _ e)
+loop-x-init : tie.Need-loop-x-init invariant-loop-x decreases-loop-x invariant-loop-y decreases-loop-y
+loop-x-init c = (c.loop-y-test.true, omega arith, omega (arith, upto_length _ _ _ _ _ c.loop-y.invariant.1), λ s e. upto_column s _ _ _ _ e)
 
-mul-part : tie.Need-overflow-mul-part invariant_loop2 decreases-loop2 invariant_loop decreases-loop
-mul-part c = omega arith
+offset_bounds-block-y : tie.Need-offset_bounds-block-y invariant-loop-x decreases-loop-x invariant-loop-y decreases-loop-y
+offset_bounds-block-y c = omega arith
 
-mul-part-2 : tie.Need-overflow-mul-part-2 invariant_loop2 decreases-loop2 invariant_loop decreases-loop
-mul-part-2 c = omega arith
+offset_bounds-block-x : tie.Need-offset_bounds-block-x invariant-loop-x decreases-loop-x invariant-loop-y decreases-loop-y
+offset_bounds-block-x c = omega arith
 
-index-1-part : tie.Need-bounds-1-part invariant_loop2 decreases-loop2 invariant_loop decreases-loop
-index-1-part c = omega arith
+bounds-block-y : tie.Need-bounds-block-y invariant-loop-x decreases-loop-x invariant-loop-y decreases-loop-y
+bounds-block-y c = omega arith
 
-index-2-part : tie.Need-bounds-2-part invariant_loop2 decreases-loop2 invariant_loop decreases-loop
-index-2-part c = omega arith
+bounds-block-x : tie.Need-bounds-block-x invariant-loop-x decreases-loop-x invariant-loop-y decreases-loop-y
+bounds-block-x c = omega arith
 
-mul-t16 : tie.Need-overflow-mul-t16 invariant_loop2 decreases-loop2 invariant_loop decreases-loop
-mul-t16 c = omega (arith, place_small _ _ c.before.before.before.before.before.requires.1 c.before.before.loop2.invariant.0)
+overflow_mul-y : tie.Need-overflow_mul-y invariant-loop-x decreases-loop-x invariant-loop-y decreases-loop-y
+overflow_mul-y c = omega (arith, place_small _ _ c.requires.1 c.loop-x.invariant.0)
 
-add-t17 : tie.Need-overflow-add-t17 invariant_loop2 decreases-loop2 invariant_loop decreases-loop
-add-t17 c = omega (arith, place_small _ _ c.before.before.before.before.before.requires.1 c.before.before.loop2.invariant.0)
+overflow_add-y : tie.Need-overflow_add-y invariant-loop-x decreases-loop-x invariant-loop-y decreases-loop-y
+overflow_add-y c = omega (arith, place_small _ _ c.requires.1 c.loop-x.invariant.0)
 
-mul-t18 : tie.Need-overflow-mul-t18 invariant_loop2 decreases-loop2 invariant_loop decreases-loop
-mul-t18 c = omega (arith, place_small _ _ c.before.before.before.before.before.requires.1 c.before.before.loop2.invariant.0)
+offset_bounds-part-y : tie.Need-offset_bounds-part-y invariant-loop-x decreases-loop-x invariant-loop-y decreases-loop-y
+offset_bounds-part-y c = omega (arith, place_small _ _ c.requires.1 c.loop-x.invariant.0)
 
-slice-set-from-part : tie.Need-slice-set-from-part invariant_loop2 decreases-loop2 invariant_loop decreases-loop
-slice-set-from-part c = let l = c.before.before.loop2 in place_inside _ _ _ _ l.invariant.2 l.invariant.0 (omega arith)
+bounds-part-y : tie.Need-bounds-part-y invariant-loop-x decreases-loop-x invariant-loop-y decreases-loop-y
+bounds-part-y c = let l = c.loop-x in place_inside _ _ _ _ l.invariant.2 l.invariant.0 (omega arith)
 
-add-x : tie.Need-overflow-add-x invariant_loop2 decreases-loop2 invariant_loop decreases-loop
-add-x c = omega arith
+overflow_step-x : tie.Need-overflow_step-x invariant-loop-x decreases-loop-x invariant-loop-y decreases-loop-y
+overflow_step-x c = omega arith
 
-loop2-less : tie.Need-loop2-smaller invariant_loop2 decreases-loop2 invariant_loop decreases-loop
-loop2-less c = omega arith
+loop-x-smaller : tie.Need-loop-x-smaller invariant-loop-x decreases-loop-x invariant-loop-y decreases-loop-y
+loop-x-smaller c = omega arith
 
-loop2-again : tie.Need-loop2-preserved invariant_loop2 decreases-loop2 invariant_loop decreases-loop
-loop2-again c =
+loop-x-preserved : tie.Need-loop-x-preserved invariant-loop-x decreases-loop-x invariant-loop-y decreases-loop-y
+loop-x-preserved c =
     let s = c.before.before.before.before.before in
-    let l = c.before.before.loop2 in (
+    let l = c.loop-x in (
       l.invariant.0,
       omega arith,
       simp length-set l.invariant.2,
       λ s' e. upto_more s' _ _ s.requires.0 _ _ _ _ l.invariant.0 (omega arith) (place_inside _ _ _ _ l.invariant.2 l.invariant.0 (omega arith)) (l.invariant.3 s' e) (search rules),
     )
 
-add-y : tie.Need-overflow-add-y invariant_loop2 decreases-loop2 invariant_loop decreases-loop
-add-y c = omega arith
+overflow_step-y : tie.Need-overflow_step-y invariant-loop-x decreases-loop-x invariant-loop-y decreases-loop-y
+overflow_step-y c = omega arith
 
-loop-less : tie.Need-loop-smaller invariant_loop2 decreases-loop2 invariant_loop decreases-loop
-loop-less c = omega arith
+loop-y-smaller : tie.Need-loop-y-smaller invariant-loop-x decreases-loop-x invariant-loop-y decreases-loop-y
+loop-y-smaller c = omega arith
 
-loop_again : tie.Need-loop-preserved invariant_loop2 decreases-loop2 invariant_loop decreases-loop
-loop_again c =
-    let l = c.before.loop2 in
-    (omega arith, upto_row _ _ _ c.before.before.before.before.requires.0 _ _ _ c.loop2-test.false l.invariant.1 (l.invariant.3 _ c.before.before.before.loop.invariant.1))
+loop-y-preserved : tie.Need-loop-y-preserved invariant-loop-x decreases-loop-x invariant-loop-y decreases-loop-y
+loop-y-preserved c =
+    let l = c.loop-x in
+    (omega arith, upto_row _ _ _ c.requires.0 _ _ _ c.loop-x-test.false l.invariant.1 (l.invariant.3 _ c.loop-y.invariant.1))
 
-same_length : tie.Need-same-length invariant_loop2 decreases-loop2 invariant_loop decreases-loop
-same_length c = upto_length _ _ _ _ _ c.before.loop.invariant.1
+shape_of-part : tie.Need-shape_of-part invariant-loop-x decreases-loop-x invariant-loop-y decreases-loop-y
+shape_of-part c = upto_length _ _ _ _ _ c.loop-y.invariant.1
 
-returns : tie.Need-returns invariant_loop2 decreases-loop2 invariant_loop decreases-loop
-returns c = upto_all _ _ _ c.before.before.requires.0 _ _ c.loop-test.false c.before.loop.invariant.0 c.before.loop.invariant.1
+returns : tie.Need-returns invariant-loop-x decreases-loop-x invariant-loop-y decreases-loop-y
+returns c = upto_all _ _ _ c.requires.0 _ _ c.loop-y-test.false c.loop-y.invariant.0 c.loop-y.invariant.1
 
 pub write_block_spec : {M : Type 1} → statement M
 write_block_spec =
     tie.close
     (tie.spec
-    invariant_loop2
-    decreases-loop2
-    invariant_loop
-    decreases-loop
-    loop_holds
-    loop2-holds
-    mul-part
-    mul-part-2
-    index-1-part
-    index-2-part
-    mul-t16
-    add-t17
-    mul-t18
-    slice-set-from-part
-    add-x
-    loop2-less
-    loop2-again
-    add-y
-    loop-less
-    loop_again
-    same_length
+    invariant-loop-x
+    decreases-loop-x
+    invariant-loop-y
+    decreases-loop-y
+    loop-y-init
+    loop-x-init
+    offset_bounds-block-y
+    offset_bounds-block-x
+    bounds-block-y
+    bounds-block-x
+    overflow_mul-y
+    overflow_add-y
+    offset_bounds-part-y
+    bounds-part-y
+    overflow_step-x
+    loop-x-smaller
+    loop-x-preserved
+    overflow_step-y
+    loop-y-smaller
+    loop-y-preserved
+    shape_of-part
     returns)

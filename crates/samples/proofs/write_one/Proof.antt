@@ -9,68 +9,68 @@ use Rattle.samples.proofs.OutcomeLaws.{block_due_lem, block-is-written, block_ou
 use Rattle.samples.proofs.write_one.Statement.{statement}
 use Rattle.samples.proofs.write_one.Tie as tie
 
-returns : tie.Need-returns
-returns c =
-    let i = c.before.args.i in
-    let s = c.before.args.samples.now in
-    let h = c.if1.true in
+returns-then-i-ge6 : tie.Need-returns-then-i-ge6
+returns-then-i-ge6 c =
+    let i = c.args.i in
+    let s = c.args.samples.now in
+    let h = c.if-i-ge6.true in
     also block_outcome (sym (block_out_of_range i s h), sym (no_such_block i _ s h)) (block_due_lem i s)
 
-returns_2 : tie.Need-returns-2
-returns_2 c =
-    let i = c.before.before.args.i in
-    let s = c.before.before.args.samples.now in
-    let h = c.before.if1.false in
-    let l = c.if2.true in
+returns-then-samples-lt-SAMPLES : tie.Need-returns-then-samples-lt-SAMPLES
+returns-then-samples-lt-SAMPLES c =
+    let i = c.args.i in
+    let s = c.args.samples.now in
+    let h = c.if-i-ge6.false in
+    let l = c.if-samples-lt-SAMPLES.true in
     also block_outcome (sym (block_too_short i s h l), sym (too_few_for_one i _ s h l)) (block_due_lem i s)
 
-begin-of-requires : tie.Need-begin-of-requires
-begin-of-requires c κs = search rules
+begin_of-begin-requires : tie.Need-begin_of-begin-requires
+begin_of-begin-requires c κs = search rules
 
-mul-write-block : tie.Need-overflow-mul-write-block
-mul-write-block c = omega (arith, block_fits _ c.before.before.if1.false, c.begin-of.ensures)
+offset_bounds-samples-begin : tie.Need-offset_bounds-samples-begin
+offset_bounds-samples-begin c = omega (arith, block_fits _ c.if-i-ge6.false, c.begin_of-begin.ensures)
 
-sub-write-block : tie.Need-overflow-sub-write-block
-sub-write-block c = omega (arith, block_fits _ c.before.before.if1.false, c.begin-of.ensures)
+slice_bounds-write_block-count : tie.Need-slice_bounds-write_block-count
+slice_bounds-write_block-count c = omega (arith, block_fits _ c.if-i-ge6.false, c.begin_of-begin.ensures)
 
-part-write-block-start : tie.Need-slice-bounds-write-block-start
-part-write-block-start c = omega (arith, block_fits _ c.before.before.if1.false, c.begin-of.ensures)
+slice_bounds-write_block-start : tie.Need-slice_bounds-write_block-start
+slice_bounds-write_block-start c = omega (arith, block_fits _ c.if-i-ge6.false, c.begin_of-begin.ensures)
 
-part-write-block-end : tie.Need-slice-bounds-write-block-end
-part-write-block-end c = search rules
+slice_bounds-write_block-end : tie.Need-slice_bounds-write_block-end
+slice_bounds-write_block-end c = search rules
 
-row-length-requires : tie.Need-row-length-requires
-row-length-requires c κs = search rules
+row_length-requires : tie.Need-row_length-requires
+row_length-requires c κs = search rules
 
-write-block-requires : tie.Need-write-block-requires
-write-block-requires c κs =
+write_block-requires : tie.Need-write_block-requires
+write_block-requires c κs =
     let c₀ = c.before.before in
-    part_room _ _ _ _ c₀.before.before.if1.false c₀.before.if2.false c₀.begin-of.ensures c.row-length.ensures
+    part_room _ _ _ _ c₀.if-i-ge6.false c₀.if-samples-lt-SAMPLES.false c₀.begin_of-begin.ensures c.row_length.ensures
 
-same_length : tie.Need-same-length
-same_length c = search rules
+shape_of-samples : tie.Need-shape_of-samples
+shape_of-samples c = search rules
 
-returns_3 : tie.Need-returns-3
-returns_3 c =
+returns : tie.Need-returns
+returns c =
     let c₀ = c.before.before.before.before in
-    let i = c₀.before.before.before.args.i in
-    let s = c₀.before.before.before.args.samples.now in
-    let h = c₀.before.before.if1.false in
-    let l = c₀.before.if2.false in
-    also block_outcome (sym (block-is-written i s h l), one_right i _ s h l _ _ _ c₀.begin-of.ensures c.before.before.row-length.ensures c.before.write-block.ensures) (block_due_lem i s)
+    let i = c₀.args.i in
+    let s = c₀.args.samples.now in
+    let h = c₀.if-i-ge6.false in
+    let l = c₀.if-samples-lt-SAMPLES.false in
+    also block_outcome (sym (block-is-written i s h l), one_right i _ s h l _ _ _ c₀.begin_of-begin.ensures c.row_length.ensures c.write_block.ensures) (block_due_lem i s)
 
 pub write_one_spec : {M : Type 1} → statement M
 write_one_spec =
     tie.close
     (tie.spec
-    returns
-    returns_2
-    begin-of-requires
-    mul-write-block
-    sub-write-block
-    part-write-block-start
-    part-write-block-end
-    row-length-requires
-    write-block-requires
-    same_length
-    returns_3)
+    returns-then-i-ge6
+    returns-then-samples-lt-SAMPLES
+    begin_of-begin-requires
+    offset_bounds-samples-begin
+    slice_bounds-write_block-count
+    slice_bounds-write_block-start
+    slice_bounds-write_block-end
+    row_length-requires
+    write_block-requires
+    shape_of-samples
+    returns)

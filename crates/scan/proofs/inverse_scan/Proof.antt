@@ -18,114 +18,114 @@ f qfs g v u = get_or qfs (cell_n g v u) (pos 0)
 abbrev z : ℕ → ℕ → ℤ
 z v u = pos 0
 
-abbrev invariant_loop2 : tie.invariant-loop2
-invariant_loop2 qfs grid pqf₀ v u₀ pqf u = (v < 8) × (u ≤ 8) × (pqf ≡ filled 8 8 (f qfs grid) z v u)
+abbrev invariant-loop-u : tie.invariant-loop-u
+invariant-loop-u qfs grid pqf₀ v u₀ pqf u = (v < 8) × (u ≤ 8) × (pqf ≡ filled 8 8 (f qfs grid) z v u)
 
-abbrev decreases-loop2 : tie.decreases-loop2
-decreases-loop2 qfs grid pqf₀ v u₀ pqf u = 8 - u
+abbrev decreases-loop-u : tie.decreases-loop-u
+decreases-loop-u qfs grid pqf₀ v u₀ pqf u = 8 - u
 
-abbrev invariant_loop : tie.invariant-loop
-invariant_loop qfs grid pqf₀ v₀ pqf v = (v ≤ 8) × (pqf ≡ rows 8 8 (f qfs grid) z v)
+abbrev invariant-loop-v : tie.invariant-loop-v
+invariant-loop-v qfs grid pqf₀ v₀ pqf v = (v ≤ 8) × (pqf ≡ rows 8 8 (f qfs grid) z v)
 
-abbrev decreases-loop : tie.decreases-loop
-decreases-loop qfs grid pqf₀ v₀ pqf v = 8 - v
+abbrev decreases-loop-v : tie.decreases-loop-v
+decreases-loop-v qfs grid pqf₀ v₀ pqf v = 8 - v
 
-scan-grid-requires : tie.Need-scan-grid-requires invariant_loop2 decreases-loop2 invariant_loop decreases-loop
-scan-grid-requires c κs = tt
+scan_grid-grid-requires : tie.Need-scan_grid-grid-requires invariant-loop-u decreases-loop-u invariant-loop-v decreases-loop-v
+scan_grid-grid-requires c κs = tt
 
-loop_holds : tie.Need-loop-init invariant_loop2 decreases-loop2 invariant_loop decreases-loop
+loop-v-init : tie.Need-loop-v-init invariant-loop-u decreases-loop-u invariant-loop-v decreases-loop-v
 unfolding build
-loop_holds c = (omega arith, rows_none 8 8 (f c.before.args.t1 c.scan-grid.result) z _ refl)
+loop-v-init c = (omega arith, rows_none 8 8 (f c.args.qfs c.scan_grid-grid.result) z _ refl)
 
-loop2-holds : tie.Need-loop2-init invariant_loop2 decreases-loop2 invariant_loop decreases-loop
-loop2-holds c = (c.loop-test.true, omega arith, row-begins 8 8 _ _ _ _ c.loop-test.true c.before.loop.invariant.1)
+loop-u-init : tie.Need-loop-u-init invariant-loop-u decreases-loop-u invariant-loop-v decreases-loop-v
+loop-u-init c = (c.loop-v-test.true, omega arith, row-begins 8 8 _ _ _ _ c.loop-v-test.true c.loop-v.invariant.1)
 
-mul-n : tie.Need-overflow-mul-n invariant_loop2 decreases-loop2 invariant_loop decreases-loop
-mul-n c = omega arith
+offset_bounds-grid-v : tie.Need-offset_bounds-grid-v invariant-loop-u decreases-loop-u invariant-loop-v decreases-loop-v
+offset_bounds-grid-v c = omega arith
 
-index-1-n : tie.Need-bounds-1-n invariant_loop2 decreases-loop2 invariant_loop decreases-loop
-index-1-n c = omega arith
+bounds-grid-v : tie.Need-bounds-grid-v invariant-loop-u decreases-loop-u invariant-loop-v decreases-loop-v
+bounds-grid-v c = omega arith
 
-index-2-n : tie.Need-bounds-2-n invariant_loop2 decreases-loop2 invariant_loop decreases-loop
-index-2-n c = omega arith
+bounds-grid-u : tie.Need-bounds-grid-u invariant-loop-u decreases-loop-u invariant-loop-v decreases-loop-v
+bounds-grid-u c = omega arith
 
-array-copy-out-pqf : tie.Need-array-copy-out-pqf invariant_loop2 decreases-loop2 invariant_loop decreases-loop
-array-copy-out-pqf c =
+bounds-qfs-n : tie.Need-bounds-qfs-n invariant-loop-u decreases-loop-u invariant-loop-v decreases-loop-v
+bounds-qfs-n c =
     let g = c.before.before.before.before.before in
-    rw g.scan-grid.ensures (grid-below g.before.args.scan-type _ _)
+    rw g.scan_grid-grid.ensures (grid-below g.args.scan_type _ _)
 
-cast-n : tie.Need-overflow-cast-n invariant_loop2 decreases-loop2 invariant_loop decreases-loop
-cast-n c = omega (arith, array-copy-out-pqf c)
+overflow_cast-n : tie.Need-overflow_cast-n invariant-loop-u decreases-loop-u invariant-loop-v decreases-loop-v
+overflow_cast-n c = omega (arith, bounds-qfs-n c)
 
-mul-pqf : tie.Need-overflow-mul-pqf invariant_loop2 decreases-loop2 invariant_loop decreases-loop
-mul-pqf c = omega (arith, array-copy-out-pqf c)
+offset_bounds-qfs-n : tie.Need-offset_bounds-qfs-n invariant-loop-u decreases-loop-u invariant-loop-v decreases-loop-v
+offset_bounds-qfs-n c = omega (arith, bounds-qfs-n c)
 
-mul-t22 : tie.Need-overflow-mul-t22 invariant_loop2 decreases-loop2 invariant_loop decreases-loop
-mul-t22 c = omega arith
+offset_bounds-pqf-v : tie.Need-offset_bounds-pqf-v invariant-loop-u decreases-loop-u invariant-loop-v decreases-loop-v
+offset_bounds-pqf-v c = omega arith
 
-mul-t25 : tie.Need-overflow-mul-t25 invariant_loop2 decreases-loop2 invariant_loop decreases-loop
-mul-t25 c = omega arith
+offset_bounds-pqf-u : tie.Need-offset_bounds-pqf-u invariant-loop-u decreases-loop-u invariant-loop-v decreases-loop-v
+offset_bounds-pqf-u c = omega arith
 
-index-1-pqf : tie.Need-bounds-1-pqf invariant_loop2 decreases-loop2 invariant_loop decreases-loop
-index-1-pqf c = omega arith
+bounds-pqf-v : tie.Need-bounds-pqf-v invariant-loop-u decreases-loop-u invariant-loop-v decreases-loop-v
+bounds-pqf-v c = omega arith
 
-index-2-pqf : tie.Need-bounds-2-pqf invariant_loop2 decreases-loop2 invariant_loop decreases-loop
-index-2-pqf c = omega arith
+bounds-pqf-u : tie.Need-bounds-pqf-u invariant-loop-u decreases-loop-u invariant-loop-v decreases-loop-v
+bounds-pqf-u c = omega arith
 
-add-u : tie.Need-overflow-add-u invariant_loop2 decreases-loop2 invariant_loop decreases-loop
-add-u c = omega arith
+overflow_step-u : tie.Need-overflow_step-u invariant-loop-u decreases-loop-u invariant-loop-v decreases-loop-v
+overflow_step-u c = omega arith
 
-loop2-less : tie.Need-loop2-smaller invariant_loop2 decreases-loop2 invariant_loop decreases-loop
-loop2-less c = omega arith
+loop-u-smaller : tie.Need-loop-u-smaller invariant-loop-u decreases-loop-u invariant-loop-v decreases-loop-v
+loop-u-smaller c = omega arith
 
-loop2-again : tie.Need-loop2-preserved invariant_loop2 decreases-loop2 invariant_loop decreases-loop
-loop2-again c =
+loop-u-preserved : tie.Need-loop-u-preserved invariant-loop-u decreases-loop-u invariant-loop-v decreases-loop-v
+loop-u-preserved c =
     let l = c.before.before.before in
-    let h = c.pqf.given in
-    (l.loop2.invariant.0, omega arith, fill_more 8 8 _ _ (pos 0) _ _ _ _ _ l.loop2.invariant.0 c.before.before.loop2-test.true l.loop2.invariant.2 (search rules))
+    let h = c.pqf-1.given in
+    (l.loop-u.invariant.0, omega arith, fill_more 8 8 _ _ (pos 0) _ _ _ _ _ l.loop-u.invariant.0 c.loop-u-test.true l.loop-u.invariant.2 (search rules))
 
-add-v : tie.Need-overflow-add-v invariant_loop2 decreases-loop2 invariant_loop decreases-loop
-add-v c = omega arith
+overflow_step-v : tie.Need-overflow_step-v invariant-loop-u decreases-loop-u invariant-loop-v decreases-loop-v
+overflow_step-v c = omega arith
 
-loop-less : tie.Need-loop-smaller invariant_loop2 decreases-loop2 invariant_loop decreases-loop
-loop-less c = omega arith
+loop-v-smaller : tie.Need-loop-v-smaller invariant-loop-u decreases-loop-u invariant-loop-v decreases-loop-v
+loop-v-smaller c = omega arith
 
-loop_again : tie.Need-loop-preserved invariant_loop2 decreases-loop2 invariant_loop decreases-loop
-loop_again c =
+loop-v-preserved : tie.Need-loop-v-preserved invariant-loop-u decreases-loop-u invariant-loop-v decreases-loop-v
+loop-v-preserved c =
     let l = c.before in
-    (omega arith, row_ends 8 8 _ _ _ _ _ l.loop2.invariant.0 c.loop2-test.false l.loop2.invariant.1 l.loop2.invariant.2)
+    (omega arith, row_ends 8 8 _ _ _ _ _ l.loop-u.invariant.0 c.loop-u-test.false l.loop-u.invariant.1 l.loop-u.invariant.2)
 
-returns : tie.Need-returns invariant_loop2 decreases-loop2 invariant_loop decreases-loop
+returns : tie.Need-returns invariant-loop-u decreases-loop-u invariant-loop-v decreases-loop-v
 returns c =
     let a = c.before in
-    rows_all 8 8 _ _ _ _ c.loop-test.false a.loop.invariant.0 a.loop.invariant.1
-    ∙ ap (λ (g : List (List ℕ)). grid 8 8 (f a.before.before.args.t1 g)) a.before.scan-grid.ensures
+    rows_all 8 8 _ _ _ _ c.loop-v-test.false a.loop-v.invariant.0 a.loop-v.invariant.1
+    ∙ ap (λ (g : List (List ℕ)). grid 8 8 (f a.args.qfs g)) a.scan_grid-grid.ensures
 
 pub inverse_scan_spec : {M : Type 1} → statement M
 inverse_scan_spec =
     tie.close
     (tie.spec
-    invariant_loop2
-    decreases-loop2
-    invariant_loop
-    decreases-loop
-    scan-grid-requires
-    loop_holds
-    loop2-holds
-    mul-n
-    index-1-n
-    index-2-n
-    cast-n
-    mul-pqf
-    array-copy-out-pqf
-    mul-t22
-    mul-t25
-    index-1-pqf
-    index-2-pqf
-    add-u
-    loop2-less
-    loop2-again
-    add-v
-    loop-less
-    loop_again
+    invariant-loop-u
+    decreases-loop-u
+    invariant-loop-v
+    decreases-loop-v
+    scan_grid-grid-requires
+    loop-v-init
+    loop-u-init
+    offset_bounds-grid-v
+    bounds-grid-v
+    bounds-grid-u
+    overflow_cast-n
+    offset_bounds-qfs-n
+    bounds-qfs-n
+    offset_bounds-pqf-v
+    offset_bounds-pqf-u
+    bounds-pqf-v
+    bounds-pqf-u
+    overflow_step-u
+    loop-u-smaller
+    loop-u-preserved
+    overflow_step-v
+    loop-v-smaller
+    loop-v-preserved
     returns)

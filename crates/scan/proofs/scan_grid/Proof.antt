@@ -5,26 +5,26 @@ use Rattle.scan.specs.Scan.{grid_of, alt_horizontal, alt_vertical, zigzag}
 use Rattle.scan.proofs.scan_grid.Statement.{statement}
 use Rattle.scan.proofs.scan_grid.Tie as tie
 
-enum_told : tie.Need-enum-told
-enum_told c = search rules
+enum_told-1 : tie.Need-enum_told-1
+enum_told-1 c = search rules
 
-enum-told-2 : tie.Need-enum-told-2
-enum-told-2 c = search rules
+enum_told-in-AlternateVertical : tie.Need-enum_told-in-AlternateVertical
+enum_told-in-AlternateVertical c = search rules
 
-enum-told-3 : tie.Need-enum-told-3
-enum-told-3 c = search rules
+enum_told-in-Zigzag : tie.Need-enum_told-in-Zigzag
+enum_told-in-Zigzag c = search rules
 
-returns : tie.Need-returns
+returns-in-AlternateHorizontal : tie.Need-returns-in-AlternateHorizontal
 unfolding alt_horizontal
-returns c = ap grid_of (sym c.enum_told.given.1)
+returns-in-AlternateHorizontal c = ap grid_of (sym c.in-AlternateHorizontal.is)
 
-returns_2 : tie.Need-returns-2
+returns-in-AlternateVertical : tie.Need-returns-in-AlternateVertical
 unfolding alt_vertical
-returns_2 c = ap grid_of (sym c.enum-told2.given.1)
+returns-in-AlternateVertical c = ap grid_of (sym c.in-AlternateVertical.is)
 
-returns_3 : tie.Need-returns-3
+returns-in-Zigzag : tie.Need-returns-in-Zigzag
 unfolding zigzag
-returns_3 c = ap grid_of (sym c.enum-told3.given.1)
+returns-in-Zigzag c = ap grid_of (sym c.in-Zigzag.is)
 
 pub scan_grid_spec : {M : Type 1} → statement M
-scan_grid_spec = tie.close (tie.spec enum_told enum-told-2 enum-told-3 returns returns_2 returns_3)
+scan_grid_spec = tie.close (tie.spec enum_told-1 enum_told-in-AlternateVertical enum_told-in-Zigzag returns-in-AlternateHorizontal returns-in-AlternateVertical returns-in-Zigzag)

@@ -4,27 +4,27 @@ use borrow.Author.Tests.{not-false, not-true}
 use Rattle.scan.proofs.select_scan_type.Statement.{statement}
 use Rattle.scan.proofs.select_scan_type.Tie as tie
 
-returns : tie.Need-returns
-returns c = simp (not-true c.before.args.is-intra c.if1.true)
+returns-then-not-is_intra : tie.Need-returns-then-not-is_intra
+returns-then-not-is_intra c = simp c.if-not-is_intra.true
 
-returns_2 : tie.Need-returns-2
-returns_2 c = simp (not-false c.before.before.args.is-intra c.before.if1.false, not-true c.before.before.args.ac-pred-flag c.if2.true)
+returns-then-not-ac_pred_flag : tie.Need-returns-then-not-ac_pred_flag
+returns-then-not-ac_pred_flag c = simp (c.if-not-is_intra.false, c.if-not-ac_pred_flag.true)
 
-enum_told : tie.Need-enum-told
-enum_told c = search rules
+enum_told-1 : tie.Need-enum_told-1
+enum_told-1 c = search rules
 
-enum-told-2 : tie.Need-enum-told-2
-enum-told-2 c = search rules
+enum_told-in-FromAbove : tie.Need-enum_told-in-FromAbove
+enum_told-in-FromAbove c = search rules
 
-returns_3 : tie.Need-returns-3
-returns_3 c =
-    let s = c.before.before.before.before in
-    simp (not-false s.args.is-intra c.before.before.before.if1.false, not-false s.args.ac-pred-flag c.before.before.if2.false, c.enum_told.given.1)
+returns-in-FromLeft : tie.Need-returns-in-FromLeft
+returns-in-FromLeft c =
+    let s = c.before.before.before in
+    simp (c.if-not-is_intra.false, c.if-not-ac_pred_flag.false, c.in-FromLeft.is)
 
-returns_4 : tie.Need-returns-4
-returns_4 c =
-    let s = c.before.before.before.before in
-    simp (not-false s.args.is-intra c.before.before.before.if1.false, not-false s.args.ac-pred-flag c.before.before.if2.false, c.enum-told2.given.1)
+returns-in-FromAbove : tie.Need-returns-in-FromAbove
+returns-in-FromAbove c =
+    let s = c.before.before.before in
+    simp (c.if-not-is_intra.false, c.if-not-ac_pred_flag.false, c.in-FromAbove.is)
 
 pub select_scan_type_spec : {M : Type 1} → statement M
-select_scan_type_spec = tie.close (tie.spec returns returns_2 enum_told enum-told-2 returns_3 returns_4)
+select_scan_type_spec = tie.close (tie.spec returns-then-not-is_intra returns-then-not-ac_pred_flag enum_told-1 enum_told-in-FromAbove returns-in-FromLeft returns-in-FromAbove)

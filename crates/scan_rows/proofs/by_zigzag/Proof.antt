@@ -7,56 +7,56 @@ use Rattle.scan_rows.proofs.RowLaws.{rows_stored}
 use Rattle.scan_rows.proofs.by_zigzag.Statement.{statement}
 use Rattle.scan_rows.proofs.by_zigzag.Tie as tie
 
-row-of-requires : tie.Need-row-of-requires
-row-of-requires c κs = search rules
+row_of-first-requires : tie.Need-row_of-first-requires
+row_of-first-requires c κs = search rules
 
-array-set-from-first : tie.Need-array-set-from-first
-array-set-from-first c = search rules
+bounds-first-0 : tie.Need-bounds-first-0
+bounds-first-0 c = search rules
 
-element-set-from-qf : tie.Need-element-set-from-qf
-element-set-from-qf c = search rules
+bounds-qf-0 : tie.Need-bounds-qf-0
+bounds-qf-0 c = search rules
 
-row-of-requires-2 : tie.Need-row-of-requires-2
-row-of-requires-2 c κs = search rules
+row_of-requires : tie.Need-row_of-requires
+row_of-requires c κs = search rules
 
-element-set-from-qf-2 : tie.Need-element-set-from-qf-2
-element-set-from-qf-2 c = search rules
+bounds-qf-1 : tie.Need-bounds-qf-1
+bounds-qf-1 c = search rules
 
-row-of-requires-3 : tie.Need-row-of-requires-3
-row-of-requires-3 c κs = search rules
+row_of-requires-2 : tie.Need-row_of-requires-2
+row_of-requires-2 c κs = search rules
 
-element-set-from-qf-3 : tie.Need-element-set-from-qf-3
-element-set-from-qf-3 c = search rules
+bounds-qf-2 : tie.Need-bounds-qf-2
+bounds-qf-2 c = search rules
 
-row-of-requires-4 : tie.Need-row-of-requires-4
-row-of-requires-4 c κs = search rules
+row_of-requires-3 : tie.Need-row_of-requires-3
+row_of-requires-3 c κs = search rules
 
-element-set-from-qf-4 : tie.Need-element-set-from-qf-4
-element-set-from-qf-4 c = search rules
+bounds-qf-3 : tie.Need-bounds-qf-3
+bounds-qf-3 c = search rules
 
-row-of-requires-5 : tie.Need-row-of-requires-5
-row-of-requires-5 c κs = search rules
+row_of-requires-4 : tie.Need-row_of-requires-4
+row_of-requires-4 c κs = search rules
 
-element-set-from-qf-5 : tie.Need-element-set-from-qf-5
-element-set-from-qf-5 c = search rules
+bounds-qf-4 : tie.Need-bounds-qf-4
+bounds-qf-4 c = search rules
 
-row-of-requires-6 : tie.Need-row-of-requires-6
-row-of-requires-6 c κs = search rules
+row_of-requires-5 : tie.Need-row_of-requires-5
+row_of-requires-5 c κs = search rules
 
-element-set-from-qf-6 : tie.Need-element-set-from-qf-6
-element-set-from-qf-6 c = search rules
+bounds-qf-5 : tie.Need-bounds-qf-5
+bounds-qf-5 c = search rules
 
-row-of-requires-7 : tie.Need-row-of-requires-7
-row-of-requires-7 c κs = search rules
+row_of-requires-6 : tie.Need-row_of-requires-6
+row_of-requires-6 c κs = search rules
 
-element-set-from-qf-7 : tie.Need-element-set-from-qf-7
-element-set-from-qf-7 c = search rules
+bounds-qf-6 : tie.Need-bounds-qf-6
+bounds-qf-6 c = search rules
 
-row-of-requires-8 : tie.Need-row-of-requires-8
-row-of-requires-8 c κs = search rules
+row_of-requires-7 : tie.Need-row_of-requires-7
+row_of-requires-7 c κs = search rules
 
-element-set-from-qf-8 : tie.Need-element-set-from-qf-8
-element-set-from-qf-8 c = search rules
+bounds-qf-7 : tie.Need-bounds-qf-7
+bounds-qf-7 c = search rules
 
 returns : tie.Need-returns
 unfolding zigzag
@@ -70,34 +70,34 @@ returns c =
     let c₁ = c₂.before in
     let s = c₁.before in
     rows_stored s.args.level s.args.qfs.now Zigzag s.requires.0 s.requires.1 (to_z-of_z s.ranges.level)
-    c₁.row_of.ensures
-    c₂.row-of2.ensures
-    c₃.row-of3.ensures
-    c₄.row-of4.ensures
-    c₅.row-of5.ensures
-    c₆.row-of6.ensures
-    c₇.row-of7.ensures
-    c.row-of8.ensures
+    c₁.row_of-first.ensures
+    c₂.row_of.ensures
+    c₃.row_of-2.ensures
+    c₄.row_of-3.ensures
+    c₅.row_of-4.ensures
+    c₆.row_of-5.ensures
+    c₇.row_of-6.ensures
+    c.row_of-7.ensures
 
 pub by_zigzag_spec : {M : Type 1} → statement M
 by_zigzag_spec =
     tie.close
     (tie.spec
-    row-of-requires
-    array-set-from-first
-    element-set-from-qf
-    row-of-requires-2
-    element-set-from-qf-2
-    row-of-requires-3
-    element-set-from-qf-3
-    row-of-requires-4
-    element-set-from-qf-4
-    row-of-requires-5
-    element-set-from-qf-5
-    row-of-requires-6
-    element-set-from-qf-6
-    row-of-requires-7
-    element-set-from-qf-7
-    row-of-requires-8
-    element-set-from-qf-8
+    row_of-first-requires
+    bounds-first-0
+    bounds-qf-0
+    row_of-requires
+    bounds-qf-1
+    row_of-requires-2
+    bounds-qf-2
+    row_of-requires-3
+    bounds-qf-3
+    row_of-requires-4
+    bounds-qf-4
+    row_of-requires-5
+    bounds-qf-5
+    row_of-requires-6
+    bounds-qf-6
+    row_of-requires-7
+    bounds-qf-7
     returns)

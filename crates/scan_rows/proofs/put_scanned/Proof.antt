@@ -16,88 +16,88 @@ use Rattle.scan_rows.proofs.RowLaws.{all_scanned, level-alone}
 use Rattle.scan_rows.proofs.put_scanned.Statement.{statement}
 use Rattle.scan_rows.proofs.put_scanned.Tie as tie
 
-index-1-level : tie.Need-bounds-1-level
-index-1-level c = search rules
+bounds-qf-0 : tie.Need-bounds-qf-0
+bounds-qf-0 c = search rules
 
-index-2-level : tie.Need-bounds-2-level
-index-2-level c = search rules
+bounds-qf-0-then-end-le1 : tie.Need-bounds-qf-0-then-end-le1
+bounds-qf-0-then-end-le1 c = search rules
 
-returns : tie.Need-returns
+returns-then-end-le1 : tie.Need-returns-then-end-le1
 unfolding build
-returns c =
+returns-then-end-le1 c =
     let s = c.before.before in
     let a = s.args in
-    level-alone a.level a.end a.qfs.now a.scan-type (omega arith) _ _ refl (to_z-of_z s.ranges.level)
+    level-alone a.level a.end a.qfs.now a.scan_type (omega arith) _ _ refl (to_z-of_z s.ranges.level)
 
 least-requires : tie.Need-least-requires
 least-requires c κs = search rules
 
-scanned-up-to-requires : tie.Need-scanned-up-to-requires
-scanned-up-to-requires c κs = search rules
+scanned_up_to-requires : tie.Need-scanned_up_to-requires
+scanned_up_to-requires c κs = search rules
 
-returns_2 : tie.Need-returns-2
-returns_2 c =
+returns-then-least-lt64 : tie.Need-returns-then-least-lt64
+returns-then-least-lt64 c =
     let s = c.before.before.before.before in
-    c.scanned-up-to.ensures ∙ ap (λ (z : ℤ). scanned (set (up_to s.args.end s.args.qfs.now) 0 z) s.args.scan-type) (to_z-of_z s.ranges.level)
+    c.scanned_up_to.ensures ∙ ap (λ (z : ℤ). scanned (set (up_to s.args.end s.args.qfs.now) 0 z) s.args.scan_type) (to_z-of_z s.ranges.level)
 
 -- neither the end nor the places stop before 64
-long : (c : tie.Else2) → 64 ≤ length c.before.before.before.args.qfs.now
+long : (c : tie.Else-least-lt64) → 64 ≤ length c.args.qfs.now
 long c = omega arith
 
 -- the places by the scan that an arm is of
-by_scan : (c : tie.Else2) (t : ScanType) → let a = c.before.before.before.args in a.scan-type ≡ t
-    → scanned (set a.qfs.now 0 (to_z w32 (of_z w32 a.level))) t ≡ scanned (set (up_to a.end a.qfs.now) 0 a.level) a.scan-type
+by_scan : (c : tie.Else-least-lt64) (t : ScanType) → let a = c.args in a.scan_type ≡ t
+    → scanned (set a.qfs.now 0 (to_z w32 (of_z w32 a.level))) t ≡ scanned (set (up_to a.end a.qfs.now) 0 a.level) a.scan_type
 by_scan c t e =
     let s = c.before.before.before in
     let a = s.args in
-    (λ i. scanned (set a.qfs.now 0 (to_z-of_z s.ranges.level i)) (sym e i)) ∙ all_scanned a.level a.qfs.now a.scan-type (long c) a.end (omega arith)
+    (λ i. scanned (set a.qfs.now 0 (to_z-of_z s.ranges.level i)) (sym e i)) ∙ all_scanned a.level a.qfs.now a.scan_type (long c) a.end (omega arith)
 
-enum_told : tie.Need-enum-told
-enum_told c = search rules
+enum_told-1 : tie.Need-enum_told-1
+enum_told-1 c = search rules
 
-by-horizontal-requires : tie.Need-by-horizontal-requires
+by_horizontal-requires : tie.Need-by_horizontal-requires
 unfolding build
-by-horizontal-requires c κs = (long c.before.before.before.before, refl)
+by_horizontal-requires c κs = (long c.before.before.before, refl)
 
-enum-told-2 : tie.Need-enum-told-2
-enum-told-2 c = search rules
+enum_told-in-AlternateVertical : tie.Need-enum_told-in-AlternateVertical
+enum_told-in-AlternateVertical c = search rules
 
-by-vertical-requires : tie.Need-by-vertical-requires
+by_vertical-requires : tie.Need-by_vertical-requires
 unfolding build
-by-vertical-requires c κs = (long c.before.before.before.before, refl)
+by_vertical-requires c κs = (long c.before.before.before, refl)
 
-enum-told-3 : tie.Need-enum-told-3
-enum-told-3 c = search rules
+enum_told-in-Zigzag : tie.Need-enum_told-in-Zigzag
+enum_told-in-Zigzag c = search rules
 
-by-zigzag-requires : tie.Need-by-zigzag-requires
+by_zigzag-requires : tie.Need-by_zigzag-requires
 unfolding build
-by-zigzag-requires c κs = (long c.before.before.before.before, refl)
+by_zigzag-requires c κs = (long c.before.before.before, refl)
 
-returns_3 : tie.Need-returns-3
-returns_3 c = let t = c.before.before in c.by-horizontal.ensures ∙ by_scan t.before.before.before _ t.enum_told.given.1
+returns-in-AlternateHorizontal : tie.Need-returns-in-AlternateHorizontal
+returns-in-AlternateHorizontal c = let t = c.before.before in c.by_horizontal.ensures ∙ by_scan t.before.before _ t.in-AlternateHorizontal.is
 
-returns_4 : tie.Need-returns-4
-returns_4 c = let t = c.before.before in c.by-vertical.ensures ∙ by_scan t.before.before.before _ t.enum-told2.given.1
+returns-in-AlternateVertical : tie.Need-returns-in-AlternateVertical
+returns-in-AlternateVertical c = let t = c.before.before in c.by_vertical.ensures ∙ by_scan t.before.before _ t.in-AlternateVertical.is
 
-returns_5 : tie.Need-returns-5
-returns_5 c = let t = c.before.before in c.by-zigzag.ensures ∙ by_scan t.before.before.before _ t.enum-told3.given.1
+returns-in-Zigzag : tie.Need-returns-in-Zigzag
+returns-in-Zigzag c = let t = c.before.before in c.by_zigzag.ensures ∙ by_scan t.before.before _ t.in-Zigzag.is
 
 pub put_scanned_spec : {M : Type 1} → statement M
 put_scanned_spec =
     tie.close
     (tie.spec
-    index-1-level
-    index-2-level
-    returns
+    bounds-qf-0
+    bounds-qf-0-then-end-le1
+    returns-then-end-le1
     least-requires
-    scanned-up-to-requires
-    returns_2
-    enum_told
-    by-horizontal-requires
-    enum-told-2
-    by-vertical-requires
-    enum-told-3
-    by-zigzag-requires
-    returns_3
-    returns_4
-    returns_5)
+    scanned_up_to-requires
+    returns-then-least-lt64
+    enum_told-1
+    by_horizontal-requires
+    enum_told-in-AlternateVertical
+    by_vertical-requires
+    enum_told-in-Zigzag
+    by_zigzag-requires
+    returns-in-AlternateHorizontal
+    returns-in-AlternateVertical
+    returns-in-Zigzag)

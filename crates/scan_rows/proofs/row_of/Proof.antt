@@ -11,69 +11,69 @@ use Rattle.scan_rows.proofs.RowLaws.{inside-below}
 use Rattle.scan_rows.proofs.row_of.Statement.{statement}
 use Rattle.scan_rows.proofs.row_of.Tie as tie
 
-abbrev invariant_loop : tie.invariant-loop
-invariant_loop qfs at row₀ u₀ row u = (u ≤ 8) × (row ≡ part 8 (λ (j : ℕ). get_or qfs (get_or at j 0) (pos 0)) (λ (j : ℕ). pos 0) u)
+abbrev invariant-loop-u : tie.invariant-loop-u
+invariant-loop-u qfs at row₀ u₀ row u = (u ≤ 8) × (row ≡ part 8 (λ (j : ℕ). get_or qfs (get_or at j 0) (pos 0)) (λ (j : ℕ). pos 0) u)
 
-abbrev decreases-loop : tie.decreases-loop
-decreases-loop qfs at row₀ u₀ row u = 8 - u
+abbrev decreases-loop-u : tie.decreases-loop-u
+decreases-loop-u qfs at row₀ u₀ row u = 8 - u
 
-loop_holds : tie.Need-loop-init invariant_loop decreases-loop
+loop-u-init : tie.Need-loop-u-init invariant-loop-u decreases-loop-u
 unfolding build
-loop_holds c = (omega arith, cells-none 8 _ (λ (j : ℕ). pos 0) _ refl)
+loop-u-init c = (omega arith, cells-none 8 _ (λ (j : ℕ). pos 0) _ refl)
 
-array-read-k : tie.Need-array-read-k invariant_loop decreases-loop
-array-read-k c = omega arith
+bounds-at-u : tie.Need-bounds-at-u invariant-loop-u decreases-loop-u
+bounds-at-u c = omega arith
 
-below : (c : tie.In-loop invariant_loop decreases-loop) → get_or c.before.before.args.t2 c.before.loop.u 0 < 64
-below c = inside-below c.before.before.args.t2 c.before.before.requires.1 c.before.loop.u
+below : (c : tie.In-loop-u invariant-loop-u decreases-loop-u) → get_or c.args.at c.loop-u.u 0 < 64
+below c = inside-below c.args.at c.requires.1 c.loop-u.u
 
-cast-k : tie.Need-overflow-cast-k invariant_loop decreases-loop
-cast-k c = omega (arith, below c)
+overflow_cast-k : tie.Need-overflow_cast-k invariant-loop-u decreases-loop-u
+overflow_cast-k c = omega (arith, below c)
 
-mul-row : tie.Need-overflow-mul-row invariant_loop decreases-loop
-mul-row c = omega (arith, below c)
+offset_bounds-qfs-k : tie.Need-offset_bounds-qfs-k invariant-loop-u decreases-loop-u
+offset_bounds-qfs-k c = omega (arith, below c)
 
-shared-slice-copy-out-row : tie.Need-shared-slice-copy-out-row invariant_loop decreases-loop
-shared-slice-copy-out-row c = omega (arith, below c)
+bounds-qfs-k : tie.Need-bounds-qfs-k invariant-loop-u decreases-loop-u
+bounds-qfs-k c = omega (arith, below c)
 
-mul-row-2 : tie.Need-overflow-mul-row-2 invariant_loop decreases-loop
-mul-row-2 c = omega arith
+offset_bounds-row-u : tie.Need-offset_bounds-row-u invariant-loop-u decreases-loop-u
+offset_bounds-row-u c = omega arith
 
-array-set-from-row : tie.Need-array-set-from-row invariant_loop decreases-loop
-array-set-from-row c = omega arith
+bounds-row-u : tie.Need-bounds-row-u invariant-loop-u decreases-loop-u
+bounds-row-u c = omega arith
 
-add-u : tie.Need-overflow-add-u invariant_loop decreases-loop
-add-u c = omega arith
+overflow_step-u : tie.Need-overflow_step-u invariant-loop-u decreases-loop-u
+overflow_step-u c = omega arith
 
-loop-less : tie.Need-loop-smaller invariant_loop decreases-loop
-loop-less c = omega arith
+loop-u-smaller : tie.Need-loop-u-smaller invariant-loop-u decreases-loop-u
+loop-u-smaller c = omega arith
 
-loop_again : tie.Need-loop-preserved invariant_loop decreases-loop
-loop_again c =
-    let a = c.before.before.before.args in
-    let l = c.before.before.loop in
-    let y = get_or a.qfs.now (get_or a.t2 l.u 0) (pos 0) in
-    (omega arith, cells-more 8 _ _ (pos 0) _ _ _ c.before.loop-test.true l.invariant.1 (held y c.row.given))
+loop-u-preserved : tie.Need-loop-u-preserved invariant-loop-u decreases-loop-u
+loop-u-preserved c =
+    let a = c.args in
+    let l = c.loop-u in
+    let y = get_or a.qfs.now (get_or a.at l.u 0) (pos 0) in
+    (omega arith, cells-more 8 _ _ (pos 0) _ _ _ c.loop-u-test.true l.invariant.1 (held y c.row-1.given))
 
-returns : tie.Need-returns invariant_loop decreases-loop
+returns : tie.Need-returns invariant-loop-u decreases-loop-u
 returns c =
-    let l = c.before.loop in
-    cells_all 8 _ _ _ _ c.loop-test.false l.invariant.0 l.invariant.1
+    let l = c.loop-u in
+    cells_all 8 _ _ _ _ c.loop-u-test.false l.invariant.0 l.invariant.1
 
 pub row_of_spec : {M : Type 1} → statement M
 row_of_spec =
     tie.close
     (tie.spec
-    invariant_loop
-    decreases-loop
-    loop_holds
-    array-read-k
-    cast-k
-    mul-row
-    shared-slice-copy-out-row
-    mul-row-2
-    array-set-from-row
-    add-u
-    loop-less
-    loop_again
+    invariant-loop-u
+    decreases-loop-u
+    loop-u-init
+    bounds-at-u
+    overflow_cast-k
+    offset_bounds-qfs-k
+    bounds-qfs-k
+    offset_bounds-row-u
+    bounds-row-u
+    overflow_step-u
+    loop-u-smaller
+    loop-u-preserved
     returns)

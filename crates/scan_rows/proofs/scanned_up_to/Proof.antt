@@ -7,20 +7,20 @@ use Rattle.scan.specs.Scan.{scanned}
 use Rattle.scan_rows.proofs.scanned_up_to.Statement.{statement}
 use Rattle.scan_rows.proofs.scanned_up_to.Tie as tie
 
-up-to-requires : tie.Need-up-to-requires
-up-to-requires c κs = search rules
+up_to-places-requires : tie.Need-up_to-places-requires
+up_to-places-requires c κs = search rules
 
-array-set-from-places : tie.Need-array-set-from-places
-array-set-from-places c = search rules
+bounds-places-0 : tie.Need-bounds-places-0
+bounds-places-0 c = search rules
 
-inverse-scan-requires : tie.Need-inverse-scan-requires
-inverse-scan-requires c κs = search rules
+inverse_scan-requires : tie.Need-inverse_scan-requires
+inverse_scan-requires c κs = search rules
 
 returns : tie.Need-returns
 returns c =
     let s = c.before.before in
-    c.inverse-scan.ensures ∙ (λ i. scanned (set (c.before.up_to_lem.ensures i) 0 (to_z-of_z s.ranges.level i)) s.args.scan-type)
+    c.inverse_scan.ensures ∙ (λ i. scanned (set (c.up_to-places.ensures i) 0 (to_z-of_z s.ranges.level i)) s.args.scan_type)
 
 pub scanned_up_to_spec : {M : Type 1} → statement M
 scanned_up_to_spec =
-    tie.close (tie.spec up-to-requires array-set-from-places inverse-scan-requires returns)
+    tie.close (tie.spec up_to-places-requires bounds-places-0 inverse_scan-requires returns)

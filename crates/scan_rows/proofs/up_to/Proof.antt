@@ -13,50 +13,50 @@ use Rattle.scan_rows.proofs.UpToLaws.{up_to_least, up_to_stored}
 use Rattle.scan_rows.proofs.up_to.Statement.{statement}
 use Rattle.scan_rows.proofs.up_to.Tie as tie
 
-abbrev invariant_loop : tie.invariant-loop
-invariant_loop qfs end last places₀ k₀ places k = (k ≤ last) × (places ≡ part 64 (λ (i : ℕ). get_or qfs i (pos 0)) (λ (i : ℕ). pos 0) k)
+abbrev invariant-loop-k : tie.invariant-loop-k
+invariant-loop-k qfs end last places₀ k₀ places k = (k ≤ last) × (places ≡ part 64 (λ (i : ℕ). get_or qfs i (pos 0)) (λ (i : ℕ). pos 0) k)
 
-abbrev decreases-loop : tie.decreases-loop
-decreases-loop qfs end last places₀ k₀ places k = last - k
+abbrev decreases-loop-k : tie.decreases-loop-k
+decreases-loop-k qfs end last places₀ k₀ places k = last - k
 
-least-requires : tie.Need-least-requires invariant_loop decreases-loop
+least-requires : tie.Need-least-requires invariant-loop-k decreases-loop-k
 least-requires c κs = search rules
 
-least-requires-2 : tie.Need-least-requires-2 invariant_loop decreases-loop
-least-requires-2 c κs = search rules
+least-last-requires : tie.Need-least-last-requires invariant-loop-k decreases-loop-k
+least-last-requires c κs = search rules
 
-loop_holds : tie.Need-loop-init invariant_loop decreases-loop
+loop-k-init : tie.Need-loop-k-init invariant-loop-k decreases-loop-k
 unfolding build
-loop_holds c = (omega arith, cells-none 64 _ (λ (i : ℕ). pos 0) _ refl)
+loop-k-init c = (omega arith, cells-none 64 _ (λ (i : ℕ). pos 0) _ refl)
 
-mul-places : tie.Need-overflow-mul-places invariant_loop decreases-loop
-mul-places c = omega arith
+offset_bounds-qfs-k : tie.Need-offset_bounds-qfs-k invariant-loop-k decreases-loop-k
+offset_bounds-qfs-k c = omega arith
 
-shared-slice-copy-out-places : tie.Need-shared-slice-copy-out-places invariant_loop decreases-loop
-shared-slice-copy-out-places c = omega arith
+bounds-qfs-k : tie.Need-bounds-qfs-k invariant-loop-k decreases-loop-k
+bounds-qfs-k c = omega arith
 
-mul-places-2 : tie.Need-overflow-mul-places-2 invariant_loop decreases-loop
-mul-places-2 c = omega arith
+offset_bounds-places-k : tie.Need-offset_bounds-places-k invariant-loop-k decreases-loop-k
+offset_bounds-places-k c = omega arith
 
-array-set-from-places : tie.Need-array-set-from-places invariant_loop decreases-loop
-array-set-from-places c = omega arith
+bounds-places-k : tie.Need-bounds-places-k invariant-loop-k decreases-loop-k
+bounds-places-k c = omega arith
 
-add-k : tie.Need-overflow-add-k invariant_loop decreases-loop
-add-k c = omega arith
+overflow_step-k : tie.Need-overflow_step-k invariant-loop-k decreases-loop-k
+overflow_step-k c = omega arith
 
-loop-less : tie.Need-loop-smaller invariant_loop decreases-loop
-loop-less c = omega arith
+loop-k-smaller : tie.Need-loop-k-smaller invariant-loop-k decreases-loop-k
+loop-k-smaller c = omega arith
 
-loop_again : tie.Need-loop-preserved invariant_loop decreases-loop
-loop_again c =
-    let l = c.before.before.loop in
-    let a = c.before.before.before.before.before.args in
-    (omega arith, cells-more 64 _ _ (pos 0) _ _ _ (omega arith) l.invariant.1 (held (get_or a.qfs.now l.k (pos 0)) c.places.given))
+loop-k-preserved : tie.Need-loop-k-preserved invariant-loop-k decreases-loop-k
+loop-k-preserved c =
+    let l = c.loop-k in
+    let a = c.args in
+    (omega arith, cells-more 64 _ _ (pos 0) _ _ _ (omega arith) l.invariant.1 (held (get_or a.qfs.now l.k (pos 0)) c.places-1.given))
 
-returns : tie.Need-returns invariant_loop decreases-loop
+returns : tie.Need-returns invariant-loop-k decreases-loop-k
 returns c =
-    let a = c.before.before.before.before.args in
-    let l = c.before.loop in
+    let a = c.args in
+    let l = c.loop-k in
     let e : l.k ≡ min 64 (min a.end (length a.qfs.now)) = omega arith in
     l.invariant.1 ∙ up_to_stored l.k a.qfs.now ∙ ap (λ (k : ℕ). up_to k a.qfs.now) e ∙ up_to_least a.end a.qfs.now
 
@@ -64,16 +64,16 @@ pub up_to_spec : {M : Type 1} → statement M
 up_to_spec =
     tie.close
     (tie.spec
-    invariant_loop
-    decreases-loop
+    invariant-loop-k
+    decreases-loop-k
     least-requires
-    least-requires-2
-    loop_holds
-    mul-places
-    shared-slice-copy-out-places
-    mul-places-2
-    array-set-from-places
-    add-k
-    loop-less
-    loop_again
+    least-last-requires
+    loop-k-init
+    offset_bounds-qfs-k
+    bounds-qfs-k
+    offset_bounds-places-k
+    bounds-places-k
+    overflow_step-k
+    loop-k-smaller
+    loop-k-preserved
     returns)

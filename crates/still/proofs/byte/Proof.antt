@@ -6,83 +6,83 @@ use Rattle.still_lines.proofs.StepLaws.{step_fits}
 use Rattle.still.proofs.byte.Statement.{statement}
 use Rattle.still.proofs.byte.Tie as tie
 
-step-requires : tie.Need-step-requires
-step-requires c κs = search rules
+step-s-requires : tie.Need-step-s-requires
+step-s-requires c κs = search rules
 
-enum_told : tie.Need-enum-told
-enum_told c = search rules
+enum_told-1 : tie.Need-enum_told-1
+enum_told-1 c = search rules
 
-enum-known-s : tie.Need-enum-known-s
-enum-known-s c = search rules
+enum_known-s : tie.Need-enum_known-s
+enum_known-s c = search rules
 
-slice-reshare-prefix-write-all : tie.Need-slice-reshare-prefix-write-all
-slice-reshare-prefix-write-all c =
-    let k = c.before.before.before.before.before.before.before.before.before.before.before in
-    step_fits _ _ _ c.before.s.given.1 k.step.ensures
+slice_bounds-write_all-end : tie.Need-slice_bounds-write_all-end
+slice_bounds-write_all-end c =
+    let k = c.before.before.before.before.before.before.before.before.before in
+    step_fits _ _ _ c.in-Went.is k.step-s.ensures
 
-slice-aggregate-write-all : tie.Need-slice-aggregate-write-all
-slice-aggregate-write-all c =
-    let k = c.before.before.before.before.before.before.before.before.before.before.before.before in
-    sym (length-take-le _ _ (step_fits _ _ _ c.before.before.s.given.1 k.step.ensures))
+slice_bounds-write_all-end-in-Went : tie.Need-slice_bounds-write_all-end-in-Went
+slice_bounds-write_all-end-in-Went c =
+    let k = c.before.before.before.before.before.before.before.before.before.before in
+    sym (length-take-le _ _ (step_fits _ _ _ c.s.given.1 k.step.ensures))
 
-write-all-requires : tie.Need-write-all-requires
-write-all-requires c κs = search rules
+write_all-on-requires : tie.Need-write_all-on-requires
+write_all-on-requires c κs = search rules
 
-same_length : tie.Need-same-length
-same_length c = search rules
+shape_of-line-in-TooShort : tie.Need-shape_of-line-in-TooShort
+shape_of-line-in-TooShort c = search rules
 
-same-length-2 : tie.Need-same-length-2
-same-length-2 c = search rules
+shape_of-data-in-TooShort : tie.Need-shape_of-data-in-TooShort
+shape_of-data-in-TooShort c = search rules
 
-same-length-3 : tie.Need-same-length-3
-same-length-3 c = search rules
+shape_of-samples-in-TooShort : tie.Need-shape_of-samples-in-TooShort
+shape_of-samples-in-TooShort c = search rules
 
-same-length-4 : tie.Need-same-length-4
-same-length-4 c = search rules
+shape_of-store-in-TooShort : tie.Need-shape_of-store-in-TooShort
+shape_of-store-in-TooShort c = search rules
 
-same-length-5 : tie.Need-same-length-5
-same-length-5 c = search rules
+shape_of-out-in-TooShort : tie.Need-shape_of-out-in-TooShort
+shape_of-out-in-TooShort c = search rules
 
-returns : tie.Need-returns
-returns c = search rules
+returns-in-TooShort : tie.Need-returns-in-TooShort
+returns-in-TooShort c = search rules
 
-same-length-6 : tie.Need-same-length-6
-same-length-6 c = search rules
+shape_of-line-in-Went : tie.Need-shape_of-line-in-Went
+shape_of-line-in-Went c = search rules
 
-same-length-7 : tie.Need-same-length-7
-same-length-7 c = search rules
+shape_of-data-in-Went : tie.Need-shape_of-data-in-Went
+shape_of-data-in-Went c = search rules
 
-same-length-8 : tie.Need-same-length-8
-same-length-8 c = search rules
+shape_of-samples-in-Went : tie.Need-shape_of-samples-in-Went
+shape_of-samples-in-Went c = search rules
 
-same-length-9 : tie.Need-same-length-9
-same-length-9 c = search rules
+shape_of-store-in-Went : tie.Need-shape_of-store-in-Went
+shape_of-store-in-Went c = search rules
 
-same-length-10 : tie.Need-same-length-10
-same-length-10 c = search rules
+shape_of-out-in-Went : tie.Need-shape_of-out-in-Went
+shape_of-out-in-Went c = search rules
 
-returns_2 : tie.Need-returns-2
-returns_2 c = search rules
+returns-in-Went : tie.Need-returns-in-Went
+returns-in-Went c = search rules
 
 pub byte_spec : {M : Type 1} → statement M
 byte_spec =
     tie.close
     (tie.spec
-    step-requires
-    enum_told
-    enum-known-s
-    slice-reshare-prefix-write-all
-    slice-aggregate-write-all
-    write-all-requires
-    same_length
-    same-length-2
-    same-length-3
-    same-length-4
-    same-length-5
-    returns
-    same-length-6
-    same-length-7
-    same-length-8
-    same-length-9
-    same-length-10
-    returns_2)
+    step-s-requires
+    enum_told-1
+    enum_known-s
+    slice_bounds-write_all-end
+    slice_bounds-write_all-end-in-Went
+    write_all-on-requires
+    shape_of-line-in-TooShort
+    shape_of-data-in-TooShort
+    shape_of-samples-in-TooShort
+    shape_of-store-in-TooShort
+    shape_of-out-in-TooShort
+    returns-in-TooShort
+    shape_of-line-in-Went
+    shape_of-data-in-Went
+    shape_of-samples-in-Went
+    shape_of-store-in-Went
+    shape_of-out-in-Went
+    returns-in-Went)

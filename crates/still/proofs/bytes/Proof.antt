@@ -7,93 +7,93 @@ use lib.ListN.{length}
 use Rattle.still.proofs.bytes.Statement.{statement}
 use Rattle.still.proofs.bytes.Tie as tie
 
-abbrev invariant_loop : tie.invariant-loop
-invariant_loop chunk line₀ data₀ samples₀ store₀ out₀ g₀ i₀ line «data» samples store out g i =
+abbrev invariant-loop-i : tie.invariant-loop-i
+invariant-loop-i chunk line₀ data₀ samples₀ store₀ out₀ g₀ i₀ line «data» samples store out g i =
     (i ≤ length chunk) × (length line ≡ length line₀) × (length «data» ≡ length data₀) × (length samples ≡ length samples₀) × (length store ≡ length store₀) ×
     (length out ≡ length out₀)
 
-abbrev decreases-loop : tie.decreases-loop
-decreases-loop chunk line₀ data₀ samples₀ store₀ out₀ g₀ i₀ line «data» samples store out g i = length chunk - i
+abbrev decreases-loop-i : tie.decreases-loop-i
+decreases-loop-i chunk line₀ data₀ samples₀ store₀ out₀ g₀ i₀ line «data» samples store out g i = length chunk - i
 
-loop_holds : tie.Need-loop-init invariant_loop decreases-loop
-loop_holds c = (omega arith, refl, refl, refl, refl, refl)
+loop-i-init : tie.Need-loop-i-init invariant-loop-i decreases-loop-i
+loop-i-init c = (omega arith, refl, refl, refl, refl, refl)
 
-same_length : tie.Need-same-length invariant_loop decreases-loop
-same_length c = omega arith
+shape_of-line-then-not-g : tie.Need-shape_of-line-then-not-g invariant-loop-i decreases-loop-i
+shape_of-line-then-not-g c = omega arith
 
-same-length-2 : tie.Need-same-length-2 invariant_loop decreases-loop
-same-length-2 c = omega arith
+shape_of-data-then-not-g : tie.Need-shape_of-data-then-not-g invariant-loop-i decreases-loop-i
+shape_of-data-then-not-g c = omega arith
 
-same-length-3 : tie.Need-same-length-3 invariant_loop decreases-loop
-same-length-3 c = omega arith
+shape_of-samples-then-not-g : tie.Need-shape_of-samples-then-not-g invariant-loop-i decreases-loop-i
+shape_of-samples-then-not-g c = omega arith
 
-same-length-4 : tie.Need-same-length-4 invariant_loop decreases-loop
-same-length-4 c = omega arith
+shape_of-store-then-not-g : tie.Need-shape_of-store-then-not-g invariant-loop-i decreases-loop-i
+shape_of-store-then-not-g c = omega arith
 
-same-length-5 : tie.Need-same-length-5 invariant_loop decreases-loop
-same-length-5 c = omega arith
+shape_of-out-then-not-g : tie.Need-shape_of-out-then-not-g invariant-loop-i decreases-loop-i
+shape_of-out-then-not-g c = omega arith
 
-returns : tie.Need-returns invariant_loop decreases-loop
-returns c = search rules
+returns-then-not-g : tie.Need-returns-then-not-g invariant-loop-i decreases-loop-i
+returns-then-not-g c = search rules
 
-shared-slice-read-byte : tie.Need-shared-slice-read-byte invariant_loop decreases-loop
-shared-slice-read-byte c = omega arith
+bounds-chunk-i : tie.Need-bounds-chunk-i invariant-loop-i decreases-loop-i
+bounds-chunk-i c = omega arith
 
-byte-requires : tie.Need-byte-requires invariant_loop decreases-loop
-byte-requires c κs = search rules
+byte-g-requires : tie.Need-byte-g-requires invariant-loop-i decreases-loop-i
+byte-g-requires c κs = search rules
 
 -- the next place is a place
-next : (k : tie.In-loop invariant_loop decreases-loop) → k.before.loop.i + 1 < 18446744073709551616
+next : (k : tie.In-loop-i invariant-loop-i decreases-loop-i) → k.loop-i.i + 1 < 18446744073709551616
 next k = omega arith
 
-add-i : tie.Need-overflow-add-i invariant_loop decreases-loop
-add-i c = omega (arith, next c.before.before.before.before.before.before.before.before.before.before.before.before.before.before.before.before.before.before)
+overflow_add-i : tie.Need-overflow_add-i invariant-loop-i decreases-loop-i
+overflow_add-i c = omega (arith, next c.before.before.before.before.before.before.before.before.before.before.before.before.before.before.before.before.before.before)
 
-loop-less : tie.Need-loop-smaller invariant_loop decreases-loop
-loop-less c = omega arith
+loop-i-smaller : tie.Need-loop-i-smaller invariant-loop-i decreases-loop-i
+loop-i-smaller c = omega arith
 
-loop_again : tie.Need-loop-preserved invariant_loop decreases-loop
-loop_again c = (omega arith, search rules, search rules, search rules, search rules, search rules)
+loop-i-preserved : tie.Need-loop-i-preserved invariant-loop-i decreases-loop-i
+loop-i-preserved c = (omega arith, search rules, search rules, search rules, search rules, search rules)
 
-same-length-6 : tie.Need-same-length-6 invariant_loop decreases-loop
-same-length-6 c = omega arith
+shape_of-line : tie.Need-shape_of-line invariant-loop-i decreases-loop-i
+shape_of-line c = omega arith
 
-same-length-7 : tie.Need-same-length-7 invariant_loop decreases-loop
-same-length-7 c = omega arith
+shape_of-data : tie.Need-shape_of-data invariant-loop-i decreases-loop-i
+shape_of-data c = omega arith
 
-same-length-8 : tie.Need-same-length-8 invariant_loop decreases-loop
-same-length-8 c = omega arith
+shape_of-samples : tie.Need-shape_of-samples invariant-loop-i decreases-loop-i
+shape_of-samples c = omega arith
 
-same-length-9 : tie.Need-same-length-9 invariant_loop decreases-loop
-same-length-9 c = omega arith
+shape_of-store : tie.Need-shape_of-store invariant-loop-i decreases-loop-i
+shape_of-store c = omega arith
 
-same-length-10 : tie.Need-same-length-10 invariant_loop decreases-loop
-same-length-10 c = omega arith
+shape_of-out : tie.Need-shape_of-out invariant-loop-i decreases-loop-i
+shape_of-out c = omega arith
 
-returns_2 : tie.Need-returns-2 invariant_loop decreases-loop
-returns_2 c = search rules
+returns : tie.Need-returns invariant-loop-i decreases-loop-i
+returns c = search rules
 
 pub bytes_spec : {M : Type 1} → statement M
 bytes_spec =
     tie.close
     (tie.spec
-    invariant_loop
-    decreases-loop
-    loop_holds
-    same_length
-    same-length-2
-    same-length-3
-    same-length-4
-    same-length-5
-    returns
-    shared-slice-read-byte
-    byte-requires
-    add-i
-    loop-less
-    loop_again
-    same-length-6
-    same-length-7
-    same-length-8
-    same-length-9
-    same-length-10
-    returns_2)
+    invariant-loop-i
+    decreases-loop-i
+    loop-i-init
+    shape_of-line-then-not-g
+    shape_of-data-then-not-g
+    shape_of-samples-then-not-g
+    shape_of-store-then-not-g
+    shape_of-out-then-not-g
+    returns-then-not-g
+    bounds-chunk-i
+    byte-g-requires
+    overflow_add-i
+    loop-i-smaller
+    loop-i-preserved
+    shape_of-line
+    shape_of-data
+    shape_of-samples
+    shape_of-store
+    shape_of-out
+    returns)

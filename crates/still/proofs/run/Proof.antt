@@ -6,97 +6,97 @@ use lib.ListN.{length}
 use Rattle.still.proofs.run.Statement.{statement}
 use Rattle.still.proofs.run.Tie as tie
 
-abbrev invariant_loop : tie.invariant-loop
-invariant_loop buffer₀ line₀ data₀ samples₀ store₀ out₀ g₀ turns₀ buffer line «data» samples store out g turns =
+abbrev invariant-loop-turns : tie.invariant-loop-turns
+invariant-loop-turns buffer₀ line₀ data₀ samples₀ store₀ out₀ g₀ turns₀ buffer line «data» samples store out g turns =
     (length buffer ≡ length buffer₀) × (length line ≡ length line₀) × (length «data» ≡ length data₀) × (length samples ≡ length samples₀) ×
     (length store ≡ length store₀) × (length out ≡ length out₀)
 
-abbrev decreases-loop : tie.decreases-loop
-decreases-loop buffer₀ line₀ data₀ samples₀ store₀ out₀ g₀ turns₀ buffer line «data» samples store out g turns = turns
+abbrev decreases-loop-turns : tie.decreases-loop-turns
+decreases-loop-turns buffer₀ line₀ data₀ samples₀ store₀ out₀ g₀ turns₀ buffer line «data» samples store out g turns = turns
 
-start-requires : tie.Need-start-requires invariant_loop decreases-loop
-start-requires c κs = search rules
+start-r-requires : tie.Need-start-r-requires invariant-loop-turns decreases-loop-turns
+start-r-requires c κs = search rules
 
-loop_holds : tie.Need-loop-init invariant_loop decreases-loop
-loop_holds c = (refl, refl, refl, refl, refl, refl)
+loop-turns-init : tie.Need-loop-turns-init invariant-loop-turns decreases-loop-turns
+loop-turns-init c = (refl, refl, refl, refl, refl, refl)
 
-same_length : tie.Need-same-length invariant_loop decreases-loop
-same_length c = omega arith
+shape_of-buffer-then-not-g : tie.Need-shape_of-buffer-then-not-g invariant-loop-turns decreases-loop-turns
+shape_of-buffer-then-not-g c = omega arith
 
-same-length-2 : tie.Need-same-length-2 invariant_loop decreases-loop
-same-length-2 c = omega arith
+shape_of-line-then-not-g : tie.Need-shape_of-line-then-not-g invariant-loop-turns decreases-loop-turns
+shape_of-line-then-not-g c = omega arith
 
-same-length-3 : tie.Need-same-length-3 invariant_loop decreases-loop
-same-length-3 c = omega arith
+shape_of-data-then-not-g : tie.Need-shape_of-data-then-not-g invariant-loop-turns decreases-loop-turns
+shape_of-data-then-not-g c = omega arith
 
-same-length-4 : tie.Need-same-length-4 invariant_loop decreases-loop
-same-length-4 c = omega arith
+shape_of-samples-then-not-g : tie.Need-shape_of-samples-then-not-g invariant-loop-turns decreases-loop-turns
+shape_of-samples-then-not-g c = omega arith
 
-same-length-5 : tie.Need-same-length-5 invariant_loop decreases-loop
-same-length-5 c = omega arith
+shape_of-store-then-not-g : tie.Need-shape_of-store-then-not-g invariant-loop-turns decreases-loop-turns
+shape_of-store-then-not-g c = omega arith
 
-same-length-6 : tie.Need-same-length-6 invariant_loop decreases-loop
-same-length-6 c = omega arith
+shape_of-out-then-not-g : tie.Need-shape_of-out-then-not-g invariant-loop-turns decreases-loop-turns
+shape_of-out-then-not-g c = omega arith
 
-returns : tie.Need-returns invariant_loop decreases-loop
+returns-then-not-g : tie.Need-returns-then-not-g invariant-loop-turns decreases-loop-turns
+returns-then-not-g c = search rules
+
+turn-g-requires : tie.Need-turn-g-requires invariant-loop-turns decreases-loop-turns
+turn-g-requires c κs = search rules
+
+overflow_sub-turns : tie.Need-overflow_sub-turns invariant-loop-turns decreases-loop-turns
+overflow_sub-turns c = omega arith
+
+loop-turns-smaller : tie.Need-loop-turns-smaller invariant-loop-turns decreases-loop-turns
+loop-turns-smaller c = omega arith
+
+loop-turns-preserved : tie.Need-loop-turns-preserved invariant-loop-turns decreases-loop-turns
+loop-turns-preserved c = (search rules, search rules, search rules, search rules, search rules, search rules)
+
+shape_of-buffer : tie.Need-shape_of-buffer invariant-loop-turns decreases-loop-turns
+shape_of-buffer c = omega arith
+
+shape_of-line : tie.Need-shape_of-line invariant-loop-turns decreases-loop-turns
+shape_of-line c = omega arith
+
+shape_of-data : tie.Need-shape_of-data invariant-loop-turns decreases-loop-turns
+shape_of-data c = omega arith
+
+shape_of-samples : tie.Need-shape_of-samples invariant-loop-turns decreases-loop-turns
+shape_of-samples c = omega arith
+
+shape_of-store : tie.Need-shape_of-store invariant-loop-turns decreases-loop-turns
+shape_of-store c = omega arith
+
+shape_of-out : tie.Need-shape_of-out invariant-loop-turns decreases-loop-turns
+shape_of-out c = omega arith
+
+returns : tie.Need-returns invariant-loop-turns decreases-loop-turns
 returns c = search rules
-
-turn-requires : tie.Need-turn-requires invariant_loop decreases-loop
-turn-requires c κs = search rules
-
-sub-turns : tie.Need-overflow-sub-turns invariant_loop decreases-loop
-sub-turns c = omega arith
-
-loop-less : tie.Need-loop-smaller invariant_loop decreases-loop
-loop-less c = omega arith
-
-loop_again : tie.Need-loop-preserved invariant_loop decreases-loop
-loop_again c = (search rules, search rules, search rules, search rules, search rules, search rules)
-
-same-length-7 : tie.Need-same-length-7 invariant_loop decreases-loop
-same-length-7 c = omega arith
-
-same-length-8 : tie.Need-same-length-8 invariant_loop decreases-loop
-same-length-8 c = omega arith
-
-same-length-9 : tie.Need-same-length-9 invariant_loop decreases-loop
-same-length-9 c = omega arith
-
-same-length-10 : tie.Need-same-length-10 invariant_loop decreases-loop
-same-length-10 c = omega arith
-
-same-length-11 : tie.Need-same-length-11 invariant_loop decreases-loop
-same-length-11 c = omega arith
-
-same-length-12 : tie.Need-same-length-12 invariant_loop decreases-loop
-same-length-12 c = omega arith
-
-returns_2 : tie.Need-returns-2 invariant_loop decreases-loop
-returns_2 c = search rules
 
 pub run_spec : {M : Type 1} → statement M
 run_spec =
     tie.close
     (tie.spec
-    invariant_loop
-    decreases-loop
-    start-requires
-    loop_holds
-    same_length
-    same-length-2
-    same-length-3
-    same-length-4
-    same-length-5
-    same-length-6
-    returns
-    turn-requires
-    sub-turns
-    loop-less
-    loop_again
-    same-length-7
-    same-length-8
-    same-length-9
-    same-length-10
-    same-length-11
-    same-length-12
-    returns_2)
+    invariant-loop-turns
+    decreases-loop-turns
+    start-r-requires
+    loop-turns-init
+    shape_of-buffer-then-not-g
+    shape_of-line-then-not-g
+    shape_of-data-then-not-g
+    shape_of-samples-then-not-g
+    shape_of-store-then-not-g
+    shape_of-out-then-not-g
+    returns-then-not-g
+    turn-g-requires
+    overflow_sub-turns
+    loop-turns-smaller
+    loop-turns-preserved
+    shape_of-buffer
+    shape_of-line
+    shape_of-data
+    shape_of-samples
+    shape_of-store
+    shape_of-out
+    returns)

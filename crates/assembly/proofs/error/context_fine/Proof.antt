@@ -10,32 +10,32 @@ use Rattle.assembly.proofs.error.context_fine.Tie as tie
 fine-requires : tie.Need-fine-requires
 fine-requires c κs = search rules
 
-returns : tie.Need-returns
-returns c =
-    let a = c.before.before.args in
-    sym (context_by_lem a.ctx a.w false _ _ (flag_refuses c.before.fine.ensures c.if1.true) refl refl)
+returns-then-not-fine : tie.Need-returns-then-not-fine
+returns-then-not-fine c =
+    let a = c.args in
+    sym (context_by_lem a.ctx a.w false _ _ (flag_refuses c.fine.ensures c.if-not-fine.true) refl refl)
 
 fine-requires-2 : tie.Need-fine-requires-2
 fine-requires-2 c κs = search rules
 
-returns_2 : tie.Need-returns-2
-returns_2 c =
-    let a = c.before.before.before.before.args in
-    sym (context_by_lem a.ctx a.w true false _ (flag_passes c.before.before.before.fine.ensures c.before.before.if1.false) (flag_refuses c.before.fine2.ensures c.if2.true) refl)
+returns-then-not-fine-2 : tie.Need-returns-then-not-fine-2
+returns-then-not-fine-2 c =
+    let a = c.args in
+    sym (context_by_lem a.ctx a.w true false _ (flag_passes c.fine.ensures c.if-not-fine.false) (flag_refuses c.fine-2.ensures c.if-not-fine-2.true) refl)
 
-matrix-fine-requires : tie.Need-matrix-fine-requires
-matrix-fine-requires c κs = search rules
+matrix_fine-requires : tie.Need-matrix_fine-requires
+matrix_fine-requires c κs = search rules
 
-returns_3 : tie.Need-returns-3
-returns_3 c =
-    let a = c.before.before.before.before.before.before.args in
-    c.matrix-fine.ensures
-    ∙ sym (context_by_lem a.ctx a.w true true true (flag_passes c.before.before.before.before.before.fine.ensures c.before.before.before.before.if1.false) (flag_passes c.before.before.before.fine2.ensures c.before.before.if2.false) c.before.if3.true)
+returns-then-ctx : tie.Need-returns-then-ctx
+returns-then-ctx c =
+    let a = c.args in
+    c.matrix_fine.ensures
+    ∙ sym (context_by_lem a.ctx a.w true true true (flag_passes c.fine.ensures c.if-not-fine.false) (flag_passes c.fine-2.ensures c.if-not-fine-2.false) c.if-ctx.true)
 
-returns_4 : tie.Need-returns-4
-returns_4 c =
-    let a = c.before.before.before.before.before.args in
-    sym (context_by_lem a.ctx a.w true true false (flag_passes c.before.before.before.before.fine.ensures c.before.before.before.if1.false) (flag_passes c.before.before.fine2.ensures c.before.if2.false) c.if3.false)
+returns : tie.Need-returns
+returns c =
+    let a = c.args in
+    sym (context_by_lem a.ctx a.w true true false (flag_passes c.fine.ensures c.if-not-fine.false) (flag_passes c.fine-2.ensures c.if-not-fine-2.false) c.if-ctx.false)
 
 pub context_fine_spec : {M : Type 1} → statement M
-context_fine_spec = tie.close (tie.spec fine-requires returns fine-requires-2 returns_2 matrix-fine-requires returns_3 returns_4)
+context_fine_spec = tie.close (tie.spec fine-requires returns-then-not-fine fine-requires-2 returns-then-not-fine-2 matrix_fine-requires returns-then-ctx returns)

@@ -12,20 +12,20 @@ use Rattle.bit_reader.proofs.place.read_at.Tie as tie
 told : (a b : BitsRead) (at : ℕ) → a ≡ b → (peeked_of a ≡ peeked_of b) × (position_after a at ≡ position_after b at)
 told a b at e = (ap peeked_of e, ap (λ (r : BitsRead). position_after r at) e)
 
-read-bits-requires : tie.Need-read-bits-requires
-read-bits-requires c κs = search rules
+read_bits-requires : tie.Need-read_bits-requires
+read_bits-requires c κs = search rules
 
-enum-known-e : tie.Need-enum-known-e
-enum-known-e c = search rules
+enum_known-e : tie.Need-enum_known-e
+enum_known-e c = search rules
 
-enum-known-v : tie.Need-enum-known-v
-enum-known-v c = search rules
+enum_known-v : tie.Need-enum_known-v
+enum_known-v c = search rules
 
-returns : tie.Need-returns
-returns c = told _ _ c.before.before.before.before.before.args.at (sym c.before.e.given.1 ∙ c.before.before.before.read-bits.ensures.0)
+returns-in-Refused : tie.Need-returns-in-Refused
+returns-in-Refused c = told _ _ c.args.at (sym c.in-Refused.is ∙ c.read_bits.ensures.0)
 
-returns_2 : tie.Need-returns-2
-returns_2 c = told _ _ c.before.before.before.before.before.args.at (sym c.before.v.given.1 ∙ c.before.before.before.read-bits.ensures.0)
+returns-in-Read : tie.Need-returns-in-Read
+returns-in-Read c = told _ _ c.args.at (sym c.in-Read.is ∙ c.read_bits.ensures.0)
 
 pub read_at_spec : {M : Type 1} → statement M
-read_at_spec = tie.close (tie.spec read-bits-requires enum-known-e enum-known-v returns returns_2)
+read_at_spec = tie.close (tie.spec read_bits-requires enum_known-e enum_known-v returns-in-Refused returns-in-Read)

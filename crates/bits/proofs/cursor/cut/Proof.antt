@@ -11,70 +11,70 @@ use Rattle.bits.proofs.CutLaws.{val-cut}
 use Rattle.bits.proofs.cursor.cut.Statement.{statement}
 use Rattle.bits.proofs.cursor.cut.Tie as tie
 
-mul-under : tie.Need-overflow-mul-under
-mul-under c = search rules
+overflow_mul-under : tie.Need-overflow_mul-under
+overflow_mul-under c = search rules
 
-add-under : tie.Need-overflow-add-under
-add-under c = search rules
+overflow_add-under : tie.Need-overflow_add-under
+overflow_add-under c = search rules
 
-sub-under : tie.Need-overflow-sub-under
-sub-under c = search rules
+overflow_sub-under : tie.Need-overflow_sub-under
+overflow_sub-under c = search rules
 
-gather-requires : tie.Need-gather-requires
-gather-requires c κs = search rules
+gather-v-requires : tie.Need-gather-v-requires
+gather-v-requires c κs = search rules
 
-cast_result : tie.Need-overflow-cast-result
-cast_result c = search rules
+overflow_cast-result : tie.Need-overflow_cast-result
+overflow_cast-result c = search rules
 
-cast-result-2 : tie.Need-overflow-cast-result-2
-cast-result-2 c = search rules
+overflow_cast-result-2 : tie.Need-overflow_cast-result-2
+overflow_cast-result-2 c = search rules
 
-shr-result : tie.Need-overflow-shr-result
-shr-result c = search rules
+overflow_shr-result : tie.Need-overflow_shr-result
+overflow_shr-result c = search rules
 
-cast-result-3 : tie.Need-overflow-cast-result-3
-cast-result-3 c = search rules
+overflow_cast-result-3 : tie.Need-overflow_cast-result-3
+overflow_cast-result-3 c = search rules
 
-cast-result-4 : tie.Need-overflow-cast-result-4
-cast-result-4 c = search rules
+overflow_cast-result-4 : tie.Need-overflow_cast-result-4
+overflow_cast-result-4 c = search rules
 
-shl-result : tie.Need-overflow-shl-result
-shl-result c = search rules
+overflow_shl-result : tie.Need-overflow_shl-result
+overflow_shl-result c = search rules
 
 -- the divisor
-power : (c : tie.After-gather) → (1 * 2 ^ c.before.before.args.n) % 18446744073709551616 ≡ 2 ^ c.before.before.args.n
-power c = one_shl w64 c.before.before.args.n (omega arith)
+power : (c : tie.After-gather-v) → (1 * 2 ^ c.args.n) % 18446744073709551616 ≡ 2 ^ c.args.n
+power c = one_shl w64 c.args.n (omega arith)
 
-rem-result : tie.Need-nonzero-rem-result
-rem-result c = rw (power c) (pow_pos c.before.before.args.n)
+nonzero_rem-result : tie.Need-nonzero_rem-result
+nonzero_rem-result c = rw (power c) (pow_pos c.args.n)
 
-cast-result-5 : tie.Need-overflow-cast-result-5
-cast-result-5 c =
+overflow_cast-result-5 : tie.Need-overflow_cast-result-5
+overflow_cast-result-5 c =
     let s = c.before.before in
     record { fits = rw (power c) (lt_of_lt_of_le (mod-lt _ (pow_pos s.args.n)) (pow_mono s.requires.1)) }
 
 returns : tie.Need-returns
 returns c =
-    let a = c.before.before.args in
+    let a = c.args in
     let under : ℕ = 8 * a.count - (a.at % 8 + a.n) in
-    ap (λ (m : ℕ). c.gather.result / 2 ^ under % m) (power c)
-    ∙ ap (λ (v : ℕ). v / 2 ^ under % 2 ^ a.n) c.gather.ensures
+    ap (λ (m : ℕ). c.gather-v.result / 2 ^ under % m) (power c)
+    ∙ ap (λ (v : ℕ). v / 2 ^ under % 2 ^ a.n) c.gather-v.ensures
     ∙ sym (val-cut a.«data».now a.at a.n under (8 * a.count) (omega arith) (omega arith))
 
 pub cut_spec : {M : Type 1} → statement M
 cut_spec =
     tie.close
     (tie.spec
-    mul-under
-    add-under
-    sub-under
-    gather-requires
-    cast_result
-    cast-result-2
-    shr-result
-    cast-result-3
-    cast-result-4
-    shl-result
-    rem-result
-    cast-result-5
+    overflow_mul-under
+    overflow_add-under
+    overflow_sub-under
+    gather-v-requires
+    overflow_cast-result
+    overflow_cast-result-2
+    overflow_shr-result
+    overflow_cast-result-3
+    overflow_cast-result-4
+    overflow_shl-result
+    nonzero_rem-result
+    overflow_cast-result-5
     returns)

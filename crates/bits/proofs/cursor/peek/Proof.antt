@@ -7,32 +7,32 @@ use Rattle.bits.proofs.cursor.peek.Statement.{statement}
 use Rattle.bits.specs.Bits.{val, bits_from}
 use Rattle.bits.proofs.cursor.peek.Tie as tie
 
-returns : tie.Need-returns
+returns-then-n-eq0 : tie.Need-returns-then-n-eq0
 unfolding val
-returns c = let a = c.before.before.args in sym (ap (λ (k : ℕ). val (take k (bits_from a.«data».now a.at))) c.if1.true)
+returns-then-n-eq0 c = let a = c.args in sym (ap (λ (k : ℕ). val (take k (bits_from a.«data».now a.at))) c.if-n-eq0.true)
 
-add-if2 : tie.Need-overflow-add-if2
-add-if2 c = search rules
+overflow_add-at : tie.Need-overflow_add-at
+overflow_add-at c = search rules
 
 cut-requires : tie.Need-cut-requires
 cut-requires c κs = search rules
 
-returns_2 : tie.Need-returns-2
-returns_2 c = search rules
+returns-then-at-data : tie.Need-returns-then-at-data
+returns-then-at-data c = search rules
 
-add-cut : tie.Need-overflow-add-cut
-add-cut c = search rules
+overflow_add-at-2 : tie.Need-overflow_add-at-2
+overflow_add-at-2 c = search rules
 
-add-cut-2 : tie.Need-overflow-add-cut-2
-add-cut-2 c = search rules
+overflow_add-at-3 : tie.Need-overflow_add-at-3
+overflow_add-at-3 c = search rules
 
 cut-requires-2 : tie.Need-cut-requires-2
 cut-requires-2 c κs = search rules
 
-returns_3 : tie.Need-returns-3
-returns_3 c = search rules
+returns : tie.Need-returns
+returns c = search rules
 
 pub peek_spec : {M : Type 1} → statement M
 peek_spec =
     tie.close
-    (tie.spec returns add-if2 cut-requires returns_2 add-cut add-cut-2 cut-requires-2 returns_3)
+    (tie.spec returns-then-n-eq0 overflow_add-at cut-requires returns-then-at-data overflow_add-at-2 overflow_add-at-3 cut-requires-2 returns)

@@ -14,76 +14,76 @@ use Rattle.bits.proofs.window.ahead.Statement.{statement}
 use Rattle.bits.specs.Bits.{val, bits_from}
 use Rattle.bits.proofs.window.ahead.Tie as tie
 
-abbrev invariant_loop : tie.invariant-loop
-invariant_loop «data» at first skip v₀ k₀ v k = (k ≤ 5) × (v ≡ val (take (8 * k) (bits_from (followed (first + 5) «data») (8 * first))))
+abbrev invariant-loop-k : tie.invariant-loop-k
+invariant-loop-k «data» at first skip v₀ k₀ v k = (k ≤ 5) × (v ≡ val (take (8 * k) (bits_from (followed (first + 5) «data») (8 * first))))
 
-abbrev decreases-loop : tie.decreases-loop
-decreases-loop «data» at first skip v₀ k₀ v k = 5 - k
+abbrev decreases-loop-k : tie.decreases-loop-k
+decreases-loop-k «data» at first skip v₀ k₀ v k = 5 - k
 
-cast-skip : tie.Need-overflow-cast-skip invariant_loop decreases-loop
-cast-skip c = omega arith
+overflow_cast-skip : tie.Need-overflow_cast-skip invariant-loop-k decreases-loop-k
+overflow_cast-skip c = omega arith
 
-add-if1 : tie.Need-overflow-add-if1 invariant_loop decreases-loop
-add-if1 c = omega arith
+overflow_add-first : tie.Need-overflow_add-first invariant-loop-k decreases-loop-k
+overflow_add-first c = omega arith
 
-gather-requires : tie.Need-gather-requires invariant_loop decreases-loop
-gather-requires c κs = (omega arith, c.if1.true)
+gather-v-requires : tie.Need-gather-v-requires invariant-loop-k decreases-loop-k
+gather-v-requires c κs = (omega arith, c.if-first-data.true)
 
-sub-result : tie.Need-overflow-sub-result invariant_loop decreases-loop
-sub-result c = omega arith
+overflow_sub-result : tie.Need-overflow_sub-result invariant-loop-k decreases-loop-k
+overflow_sub-result c = omega arith
 
-cast_result : tie.Need-overflow-cast-result invariant_loop decreases-loop
-cast_result c = omega arith
+overflow_cast-result : tie.Need-overflow_cast-result invariant-loop-k decreases-loop-k
+overflow_cast-result c = omega arith
 
-shr-result : tie.Need-overflow-shr-result invariant_loop decreases-loop
-shr-result c = omega arith
+overflow_shr-result : tie.Need-overflow_shr-result invariant-loop-k decreases-loop-k
+overflow_shr-result c = omega arith
 
-cast-result-2 : tie.Need-overflow-cast-result-2 invariant_loop decreases-loop
-cast-result-2 c = omega arith
+overflow_cast-result-then-first-data : tie.Need-overflow_cast-result-then-first-data invariant-loop-k decreases-loop-k
+overflow_cast-result-then-first-data c = omega arith
 
-returns : tie.Need-returns invariant_loop decreases-loop
-returns c =
-    let a = c.before.before.before.args in
+returns-then-first-data : tie.Need-returns-then-first-data invariant-loop-k decreases-loop-k
+returns-then-first-data c =
+    let a = c.args in
     let d = a.«data».now in
     let under : ℕ = 32 - a.at % 8 in
-    ap (λ (v : ℕ). v / 2 ^ under % 4294967296) c.gather.ensures
-    ∙ sym (val-cut d a.at 32 under 64 (omega arith) (omega (arith, c.before.if1.true)))
-    ∙ ap val (window_full d a.at (omega (arith, c.before.if1.true)))
+    ap (λ (v : ℕ). v / 2 ^ under % 4294967296) c.gather-v.ensures
+    ∙ sym (val-cut d a.at 32 under 64 (omega arith) (omega (arith, c.if-first-data.true)))
+    ∙ ap val (window_full d a.at (omega (arith, c.if-first-data.true)))
 
-loop_holds : tie.Need-loop-init invariant_loop decreases-loop
+loop-k-init : tie.Need-loop-k-init invariant-loop-k decreases-loop-k
 unfolding val
-loop_holds c = (omega arith, refl)
+loop-k-init c = (omega arith, refl)
 
 -- what is read so far fits with one byte more
-small : (c : tie.In-loop invariant_loop decreases-loop) → c.before.loop.v < 4294967296
+small : (c : tie.In-loop-k invariant-loop-k decreases-loop-k) → c.loop-k.v < 4294967296
 small c =
-    let l = c.before.loop in
-    let a = c.before.before.before.before.args in
+    let l = c.loop-k in
+    let a = c.args in
     let k : 8 * l.k ≤ 32 = omega arith in
     rw l.invariant.1 (lt_of_lt_of_le (val-take (8 * l.k) (bits_from (followed (a.at / 8 + 5) a.«data».now) (8 * (a.at / 8)))) (pow_mono k))
 
-mul-v : tie.Need-overflow-mul-v invariant_loop decreases-loop
-mul-v c = omega (arith, small c)
+overflow_mul-v : tie.Need-overflow_mul-v invariant-loop-k decreases-loop-k
+overflow_mul-v c = omega (arith, small c)
 
-add-byte-at : tie.Need-overflow-add-byte-at invariant_loop decreases-loop
-add-byte-at c = omega arith
+overflow_add-first-in-loop-k : tie.Need-overflow_add-first-in-loop-k invariant-loop-k decreases-loop-k
+overflow_add-first-in-loop-k c = omega arith
 
-byte-at-requires : tie.Need-byte-at-requires invariant_loop decreases-loop
-byte-at-requires c κs = search rules
+byte_at-requires : tie.Need-byte_at-requires invariant-loop-k decreases-loop-k
+byte_at-requires c κs = search rules
 
-add-v : tie.Need-overflow-add-v invariant_loop decreases-loop
-add-v c = omega (arith, small c.before, c.byte_at.ensures.1)
+overflow_add-v : tie.Need-overflow_add-v invariant-loop-k decreases-loop-k
+overflow_add-v c = omega (arith, small c.before, c.byte_at.ensures.1)
 
-add-k : tie.Need-overflow-add-k invariant_loop decreases-loop
-add-k c = omega arith
+overflow_step-k : tie.Need-overflow_step-k invariant-loop-k decreases-loop-k
+overflow_step-k c = omega arith
 
-loop-less : tie.Need-loop-smaller invariant_loop decreases-loop
-loop-less c = omega arith
+loop-k-smaller : tie.Need-loop-k-smaller invariant-loop-k decreases-loop-k
+loop-k-smaller c = omega arith
 
-loop_again : tie.Need-loop-preserved invariant_loop decreases-loop
-loop_again c =
-    let l = c.before.before.loop in
-    let a = c.before.before.before.before.before.args in
+loop-k-preserved : tie.Need-loop-k-preserved invariant-loop-k decreases-loop-k
+loop-k-preserved c =
+    let l = c.loop-k in
+    let a = c.args in
     let d = a.«data».now in
     let first : ℕ = a.at / 8 in
     let n : ℕ = first + 5 in
@@ -97,22 +97,22 @@ loop_again c =
           ∙ sym (val_byte (followed n d) first l.k (omega arith) (omega arith)),
     )
 
-sub-result-2 : tie.Need-overflow-sub-result-2 invariant_loop decreases-loop
-sub-result-2 c = omega arith
+overflow_sub-result-2 : tie.Need-overflow_sub-result-2 invariant-loop-k decreases-loop-k
+overflow_sub-result-2 c = omega arith
 
-cast-result-3 : tie.Need-overflow-cast-result-3 invariant_loop decreases-loop
-cast-result-3 c = omega arith
+overflow_cast-result-2 : tie.Need-overflow_cast-result-2 invariant-loop-k decreases-loop-k
+overflow_cast-result-2 c = omega arith
 
-shr-result-2 : tie.Need-overflow-shr-result-2 invariant_loop decreases-loop
-shr-result-2 c = omega arith
+overflow_shr-result-2 : tie.Need-overflow_shr-result-2 invariant-loop-k decreases-loop-k
+overflow_shr-result-2 c = omega arith
 
-cast-result-4 : tie.Need-overflow-cast-result-4 invariant_loop decreases-loop
-cast-result-4 c = omega arith
+overflow_cast-result-3 : tie.Need-overflow_cast-result-3 invariant-loop-k decreases-loop-k
+overflow_cast-result-3 c = omega arith
 
-returns_2 : tie.Need-returns-2 invariant_loop decreases-loop
-returns_2 c =
-    let l = c.before.loop in
-    let a = c.before.before.before.before.args in
+returns : tie.Need-returns invariant-loop-k decreases-loop-k
+returns c =
+    let l = c.loop-k in
+    let a = c.args in
     let d = a.«data».now in
     let first : ℕ = a.at / 8 in
     let n : ℕ = first + 5 in
@@ -128,26 +128,26 @@ pub ahead_spec : {M : Type 1} → statement M
 ahead_spec =
     tie.close
     (tie.spec
-    invariant_loop
-    decreases-loop
-    cast-skip
-    add-if1
-    gather-requires
-    sub-result
-    cast_result
-    shr-result
-    cast-result-2
-    returns
-    loop_holds
-    mul-v
-    add-byte-at
-    byte-at-requires
-    add-v
-    add-k
-    loop-less
-    loop_again
-    sub-result-2
-    cast-result-3
-    shr-result-2
-    cast-result-4
-    returns_2)
+    invariant-loop-k
+    decreases-loop-k
+    overflow_cast-skip
+    overflow_add-first
+    gather-v-requires
+    overflow_sub-result
+    overflow_cast-result
+    overflow_shr-result
+    overflow_cast-result-then-first-data
+    returns-then-first-data
+    loop-k-init
+    overflow_mul-v
+    overflow_add-first-in-loop-k
+    byte_at-requires
+    overflow_add-v
+    overflow_step-k
+    loop-k-smaller
+    loop-k-preserved
+    overflow_sub-result-2
+    overflow_cast-result-2
+    overflow_shr-result-2
+    overflow_cast-result-3
+    returns)

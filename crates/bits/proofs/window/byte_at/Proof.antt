@@ -6,17 +6,17 @@ use borrow.Author.Rules.{rules}
 use Rattle.bits.proofs.window.byte_at.Statement.{statement}
 use Rattle.bits.proofs.window.byte_at.Tie as tie
 
-shared-slice-read-result : tie.Need-shared-slice-read-result
-shared-slice-read-result c = search rules
+bounds-data-at : tie.Need-bounds-data-at
+bounds-data-at c = search rules
 
-cast_result : tie.Need-overflow-cast-result
-cast_result c = omega (arith, c.shared-slice-known.given c.before.before.args.at)
+overflow_cast-result : tie.Need-overflow_cast-result
+overflow_cast-result c = omega (arith, c.shared_slice_known-1.given c.args.at)
+
+returns-then-at-data : tie.Need-returns-then-at-data
+returns-then-at-data c = (refl, omega (arith, c.shared_slice_known-1.given c.args.at))
 
 returns : tie.Need-returns
-returns c = (refl, omega (arith, c.shared-slice-known.given c.before.before.args.at))
-
-returns_2 : tie.Need-returns-2
-returns_2 c = (sym (get_or-eq_default c.before.args.«data».now 0 c.if1.false), omega arith)
+returns c = (sym (get_or-eq_default c.args.«data».now 0 c.if-at-data.false), omega arith)
 
 pub byte_at_spec : {M : Type 1} → statement M
-byte_at_spec = tie.close (tie.spec shared-slice-read-result cast_result returns returns_2)
+byte_at_spec = tie.close (tie.spec bounds-data-at overflow_cast-result returns-then-at-data returns)

@@ -28,91 +28,91 @@ use Rattle.block.proofs.intra.decode_checked.Statement.{statement}
 use Rattle.block.proofs.intra.decode_checked.Tie as tie
 
 -- what was read
-parts : (k : tie.After-read-block) → let a = k.before.before.args in
-    k.read-block.result ≡ parts_at a.«data».now a.c.bit_pos a.component a.coded a.dc-coded a.reversible
+parts : (k : tie.After-read_block-one) → let a = k.args in
+    k.read_block-one.result ≡ parts_at a.«data».now a.c.bit_pos a.component a.coded a.dc_coded a.reversible
 parts k =
     let s = k.before.before in
     let a = s.args in
     let d = a.«data».now in
     let at = a.c.bit_pos in
-    k.read-block.ensures.0 ∙ answer-inside d at a.component a.coded a.dc-coded a.reversible (in_data_by (length d) at s.requires.0.1 s.requires.0.0)
+    k.read_block-one.ensures.0 ∙ answer-inside d at a.component a.coded a.dc_coded a.reversible (in_data_by (length d) at s.requires.0.1 s.requires.0.0)
 
 -- its sentence
-read : (k : tie.After-places) → let r = k.before.before.before.before in let a = r.before.before.args in
-    Sentence a.«data».now a.c.bit_pos a.component a.coded a.dc-coded a.reversible r.read-block.result.qfs k.before.before.answer2.given.0.0 k.before.before.answer2.given.0.1.0
+read : (k : tie.After-places-1) → let r = k.before.before in let a = r.args in
+    Sentence a.«data».now a.c.bit_pos a.component a.coded a.dc_coded a.reversible r.read_block-one.result.qfs k.in-Read.next k.in-Read.spellings
 read k =
-    let r = k.before.before.before.before in
-    let a = r.before.before.args in
-    sentence a.«data».now a.c.bit_pos a.component a.coded a.dc-coded a.reversible r.read-block.result (parts r) k.before.before.answer2.given.1
+    let r = k.before.before in
+    let a = r.args in
+    sentence a.«data».now a.c.bit_pos a.component a.coded a.dc_coded a.reversible r.read_block-one.result (parts r) k.in-Read.is
 
-read-block-requires : tie.Need-read-block-requires
-read-block-requires c κs = search rules
+read_block-one-requires : tie.Need-read_block-one-requires
+read_block-one-requires c κs = search rules
 
-enum-known-answer : tie.Need-enum-known-answer
-enum-known-answer c = search rules
+enum_known-answer : tie.Need-enum_known-answer
+enum_known-answer c = search rules
 
-enum-known-answer-2 : tie.Need-enum-known-answer-2
-enum-known-answer-2 c = search rules
+enum_known-answer-in-Read-1 : tie.Need-enum_known-answer-in-Read-1
+enum_known-answer-in-Read-1 c = search rules
 
 needed-requires : tie.Need-needed-requires
 needed-requires c κs = search rules
 
-slice-aggregate-rebuild-up-to : tie.Need-slice-aggregate-rebuild-up-to
-slice-aggregate-rebuild-up-to c = search rules
+slice_bounds-rebuild_up_to-end : tie.Need-slice_bounds-rebuild_up_to-end
+slice_bounds-rebuild_up_to-end c = search rules
 
-rebuild-up-to-requires : tie.Need-rebuild-up-to-requires
-rebuild-up-to-requires c κs = search rules
+rebuild_up_to-rebuilt-requires : tie.Need-rebuild_up_to-rebuilt-requires
+rebuild_up_to-rebuilt-requires c κs = search rules
 
 decoded-requires : tie.Need-decoded-requires
 decoded-requires c κs = search rules
 
 -- nothing of it is refused, and it is rebuilt by all its predictors
-whole : (c : tie.After-rebuild-up-to) → let r = c.before.before.before.before.before.before.before.before.before.before.before in let a = r.before.before.args in
-    Given a.component a.ctx a.predictors a.w r.read-block.result.qfs Fine c.rebuild-up-to.result c.rebuild-up-to.new.1.1.1.1.1.1.0 a.spatial.now c.rebuild-up-to.new.1.1.1.1.1.1.1.0 a.qf.now
+whole : (c : tie.After-rebuild_up_to-rebuilt) → let r = c.before.before.before.before.before.before.before.before.before in let a = r.args in
+    Given a.component a.ctx a.predictors a.w r.read_block-one.result.qfs Fine c.rebuild_up_to-rebuilt.result c.rebuild_up_to-rebuilt.new.1.1.1.1.1.1.0 a.spatial.now c.rebuild_up_to-rebuilt.new.1.1.1.1.1.1.1.0 a.qf.now
 whole c =
     let p = c.before.before.before.before in
     let n = p.before in
     let k = n.before.before in
-    let s = k.before.before.before.before.before.before in
+    let s = k.before.before.before.before in
     let a = s.args in
     let x = a.ctx in
-    let long = sym (slice-aggregate-rebuild-up-to p) in
+    let long = sym (slice_bounds-rebuild_up_to-end p) in
     let is = n.needed.ensures in
     let fine = numbers_fine x a.predictors s.requires.2 _ is (quantiser-fine x a.w s.requires.1) in
     given-same x a.predictors s.requires.2 _ is a.component a.w _ long _ _ a.spatial.now _ a.qf.now
-    (handed_over a.component x _ a.w _ _ _ _ _ _ fine (ap places_fine (all_places _ long) ∙ sentence_fine (read k)) c.rebuild-up-to.ensures)
+    (handed_over a.component x _ a.w _ _ _ _ _ _ fine (ap places_fine (all_places _ long) ∙ sentence_fine (read k)) c.rebuild_up_to-rebuilt.ensures)
 
-returns : tie.Need-returns
-returns c =
-    let r = c.before.before.before in
-    let a = r.before.before.args in
+returns-in-Refused : tie.Need-returns-in-Refused
+returns-in-Refused c =
+    let r = c.before in
+    let a = r.args in
     let d = a.«data».now in
-    let n = none d a.c.bit_pos a.component a.coded a.dc-coded a.reversible r.read-block.result (parts r) c.before.answer.given.1 in (
-      sym (ap (told d a.component a.dc-coded a.ctx a.predictors a.w) n),
+    let n = none d a.c.bit_pos a.component a.coded a.dc_coded a.reversible r.read_block-one.result (parts r) c.in-Refused.is in (
+      sym (ap (told d a.component a.dc_coded a.ctx a.predictors a.w) n),
       (
-        sym (ap (λ (y : Res Parts). samples_told d a.component a.dc-coded a.ctx a.predictors a.w y a.spatial.now) n),
-        sym (ap (λ (y : Res Parts). levels_told d a.component a.dc-coded a.ctx a.predictors a.w y a.qf.now) n),
+        sym (ap (λ (y : Res Parts). samples_told d a.component a.dc_coded a.ctx a.predictors a.w y a.spatial.now) n),
+        sym (ap (λ (y : Res Parts). levels_told d a.component a.dc_coded a.ctx a.predictors a.w y a.qf.now) n),
       ),
     )
 
-returns_2 : tie.Need-returns-2
-returns_2 c =
+returns-in-Read : tie.Need-returns-in-Read
+returns-in-Read c =
     let b = c.before in
     let k = b.before.before.before.before.before.before.before in
-    let r = k.before.before.before.before in
-    let a = r.before.before.args in
+    let r = k.before.before in
+    let a = r.args in
     let d = a.«data».now in
     let x = a.ctx in
     let m = a.component in
     let p = a.predictors in
     let n = read k in
     let g = whole b in (
-      c.decoded.ensures ∙ ap (λ (y : BlockRebuilt). decoded_by y k.before.before.answer2.given.0.0 k.before.before.answer2.given.0.1.0) g.0
-          ∙ ap₂ (λ (q : List ℤ) (y : Cursor). Decoded (dc_here m x p a.w q) y k.before.before.answer2.given.0.1.0) n.qfs-is n.place
-          ∙ ap (Decoded (cell (values_in d m a.dc-coded x p a.w n.parts) 0 0) (after d n.rest)) n.counts_are ∙ sym (ap (told d m a.dc-coded x p a.w) n.read),
+      c.decoded.ensures ∙ ap (λ (y : BlockRebuilt). decoded_by y k.in-Read.next k.in-Read.spellings) g.0
+          ∙ ap₂ (λ (q : List ℤ) (y : Cursor). Decoded (dc_here m x p a.w q) y k.in-Read.spellings) n.qfs-is n.place
+          ∙ ap (Decoded (cell (values_in d m a.dc_coded x p a.w n.parts) 0 0) (after d n.rest)) n.counts_are ∙ sym (ap (told d m a.dc_coded x p a.w) n.read),
       (
-        g.1.0 ∙ ap (λ (q : List ℤ). samples_of x (values_here m x p a.w q)) n.qfs-is ∙ sym (ap (λ (y : Res Parts). samples_told d m a.dc-coded x p a.w y a.spatial.now) n.read),
-        g.1.1 ∙ ap (levels_here m x p a.w) n.qfs-is ∙ sym (ap (λ (y : Res Parts). levels_told d m a.dc-coded x p a.w y a.qf.now) n.read),
+        g.1.0 ∙ ap (λ (q : List ℤ). samples_of x (values_here m x p a.w q)) n.qfs-is ∙ sym (ap (λ (y : Res Parts). samples_told d m a.dc_coded x p a.w y a.spatial.now) n.read),
+        g.1.1 ∙ ap (levels_here m x p a.w) n.qfs-is ∙ sym (ap (λ (y : Res Parts). levels_told d m a.dc_coded x p a.w y a.qf.now) n.read),
       ),
     )
 
@@ -120,12 +120,12 @@ pub decode_checked_spec : {M : Type 1} → statement M
 decode_checked_spec =
     tie.close
     (tie.spec
-    read-block-requires
-    enum-known-answer
-    enum-known-answer-2
+    read_block-one-requires
+    enum_known-answer
+    enum_known-answer-in-Read-1
     needed-requires
-    slice-aggregate-rebuild-up-to
-    rebuild-up-to-requires
+    slice_bounds-rebuild_up_to-end
+    rebuild_up_to-rebuilt-requires
     decoded-requires
-    returns
-    returns_2)
+    returns-in-Refused
+    returns-in-Read)

@@ -9,20 +9,20 @@ use Rattle.block.specs.declared.reconstruct.BlockRebuilt.{BlockRebuilt}
 use Rattle.block.proofs.intra.decoded.Statement.{statement}
 use Rattle.block.proofs.intra.decoded.Tie as tie
 
-enum-known-rebuilt : tie.Need-enum-known-rebuilt
-enum-known-rebuilt c = search rules
+enum_known-rebuilt : tie.Need-enum_known-rebuilt
+enum_known-rebuilt c = search rules
 
-enum-known-rebuilt-2 : tie.Need-enum-known-rebuilt-2
-enum-known-rebuilt-2 c = search rules
+enum_known-rebuilt-in-Rebuilt-1 : tie.Need-enum_known-rebuilt-in-Rebuilt-1
+enum_known-rebuilt-in-Rebuilt-1 c = search rules
 
-returns : tie.Need-returns
-returns c = sym (ap (λ (b : BlockRebuilt). decoded_by b c.before.before.before.args.next c.before.before.before.args.spellings) c.before.rebuilt.given.1)
+returns-in-Refused : tie.Need-returns-in-Refused
+returns-in-Refused c = sym (ap (λ (b : BlockRebuilt). decoded_by b c.args.next c.args.spellings) c.in-Refused.is)
 
-returns_2 : tie.Need-returns-2
-returns_2 c =
-    let a = c.before.before.before.args in
-    let r = c.before.rebuilt2.given in
-    ap (λ (z : ℤ). Decoded z a.next a.spellings) (held r.0.0 c.known-told2.given.0.1) ∙ sym (ap (λ (b : BlockRebuilt). decoded_by b a.next a.spellings) r.1)
+returns-in-Rebuilt : tie.Need-returns-in-Rebuilt
+returns-in-Rebuilt c =
+    let a = c.args in
+    let r = c.in-Rebuilt in
+    ap (λ (z : ℤ). Decoded z a.next a.spellings) (held r.dc c.in-Rebuilt.known_told-in-Rebuilt-1-own.given.0.1) ∙ sym (ap (λ (b : BlockRebuilt). decoded_by b a.next a.spellings) r.is)
 
 pub decoded_spec : {M : Type 1} → statement M
-decoded_spec = tie.close (tie.spec enum-known-rebuilt enum-known-rebuilt-2 returns returns_2)
+decoded_spec = tie.close (tie.spec enum_known-rebuilt enum_known-rebuilt-in-Rebuilt-1 returns-in-Refused returns-in-Rebuilt)

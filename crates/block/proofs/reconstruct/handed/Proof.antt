@@ -17,17 +17,17 @@ handed_by : (s : tie.Start) (t : Bool) → predictors_fine s.args.predictors ≡
     handed_of x s.args.predictors ≡ cond t (needed_of x.quantiser_scale x.ac_pred_flag s.args.predictors) (replicate 11 (pos 0))
 handed_by s t e = let x = s.args.ctx in ap (λ (b : Bool). cond {A = List ℤ} b (needed_of x.quantiser_scale x.ac_pred_flag s.args.predictors) (replicate 11 (pos 0))) e
 
-predictors-fine-requires : tie.Need-predictors-fine-requires
-predictors-fine-requires c κs = search rules
+predictors_fine-requires : tie.Need-predictors_fine-requires
+predictors_fine-requires c κs = search rules
 
-returns : tie.Need-returns
-returns c = sym (handed_by c.before.before _ (flag_refuses c.before.predictors-fine.ensures c.if1.true))
+returns-then-not-predictors_fine : tie.Need-returns-then-not-predictors_fine
+returns-then-not-predictors_fine c = sym (handed_by c.before.before _ (flag_refuses c.predictors_fine.ensures c.if-not-predictors_fine.true))
 
 needed-requires : tie.Need-needed-requires
 needed-requires c κs = search rules
 
-returns_2 : tie.Need-returns-2
-returns_2 c = let e = c.before.before in c.needed.ensures ∙ sym (handed_by e.before.before _ (flag_passes e.before.predictors-fine.ensures e.if1.false))
+returns : tie.Need-returns
+returns c = let e = c.before.before in c.needed.ensures ∙ sym (handed_by e.before.before _ (flag_passes e.predictors_fine.ensures e.if-not-predictors_fine.false))
 
 pub handed_spec : {M : Type 1} → statement M
-handed_spec = tie.close (tie.spec predictors-fine-requires returns needed-requires returns_2)
+handed_spec = tie.close (tie.spec predictors_fine-requires returns-then-not-predictors_fine needed-requires returns)

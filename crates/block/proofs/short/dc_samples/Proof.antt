@@ -5,11 +5,24 @@ use Rattle.block.proofs.ShortAnswers.{from-alone, from_last}
 use Rattle.block.proofs.short.dc_samples.Statement.{statement}
 use Rattle.block.proofs.short.dc_samples.Tie as tie
 
-stays-alone-requires : tie.Need-stays-alone-requires
-stays-alone-requires c κs = search rules
+stays_alone-requires : tie.Need-stays_alone-requires
+stays_alone-requires c κs = search rules
 
-idct-dc-clipped-requires : tie.Need-idct-dc-clipped-requires
-idct-dc-clipped-requires c κs = search rules
+idct_dc_clipped-requires : tie.Need-idct_dc_clipped-requires
+idct_dc_clipped-requires c κs = search rules
+
+returns-then-stays_alone : tie.Need-returns-then-stays_alone
+returns-then-stays_alone c =
+    let t = c.before.before in
+    let k = t.before in
+    let s = k.before in
+    let x = s.args.ctx in
+    let e = k.stays_alone.ensures in
+    let f = c.idct_dc_clipped.ensures in
+    from-alone x s.args.dc _ (to_z-of_z s.ranges.dc) k.stays_alone.result e s.requires.0 s.requires.1 c.idct_dc_clipped.result f.0 _ _ t.if-stays_alone.true f.1
+
+idct_dc_and_last_clipped-requires : tie.Need-idct_dc_and_last_clipped-requires
+idct_dc_and_last_clipped-requires c κs = search rules
 
 returns : tie.Need-returns
 returns c =
@@ -17,29 +30,16 @@ returns c =
     let k = t.before in
     let s = k.before in
     let x = s.args.ctx in
-    let e = k.stays-alone.ensures in
-    let f = c.idct-dc-clipped.ensures in
-    from-alone x s.args.dc _ (to_z-of_z s.ranges.dc) k.stays-alone.result e s.requires.0 s.requires.1 c.idct-dc-clipped.result f.0 _ _ t.if1.true f.1
-
-idct-dc-and-last-clipped-requires : tie.Need-idct-dc-and-last-clipped-requires
-idct-dc-and-last-clipped-requires c κs = search rules
-
-returns_2 : tie.Need-returns-2
-returns_2 c =
-    let t = c.before.before in
-    let k = t.before in
-    let s = k.before in
-    let x = s.args.ctx in
-    let e = k.stays-alone.ensures in
-    let f = c.idct-dc-and-last-clipped.ensures in
-    from_last x s.args.dc _ (to_z-of_z s.ranges.dc) k.stays-alone.result e s.requires.0 s.requires.1 c.idct-dc-and-last-clipped.result f.0 _ _ t.if1.false f.1
+    let e = k.stays_alone.ensures in
+    let f = c.idct_dc_and_last_clipped.ensures in
+    from_last x s.args.dc _ (to_z-of_z s.ranges.dc) k.stays_alone.result e s.requires.0 s.requires.1 c.idct_dc_and_last_clipped.result f.0 _ _ t.if-stays_alone.false f.1
 
 pub dc_samples_spec : {M : Type 1} → statement M
 dc_samples_spec =
     tie.close
     (tie.spec
-    stays-alone-requires
-    idct-dc-clipped-requires
-    returns
-    idct-dc-and-last-clipped-requires
-    returns_2)
+    stays_alone-requires
+    idct_dc_clipped-requires
+    returns-then-stays_alone
+    idct_dc_and_last_clipped-requires
+    returns)

@@ -15,35 +15,35 @@ use Rattle.ranges.proofs.RangeLaws.{depth_range}
 use Rattle.block.proofs.short.limited.Statement.{statement}
 use Rattle.block.proofs.short.limited.Tie as tie
 
-value-limits-requires : tie.Need-value-limits-requires
-value-limits-requires c κs = search rules
+value_limits-requires : tie.Need-value_limits-requires
+value_limits-requires c κs = search rules
 
-enum_told : tie.Need-enum-told
-enum_told c = search rules
+enum_told-1 : tie.Need-enum_told-1
+enum_told-1 c = search rules
 
-enum-known-lo : tie.Need-enum-known-lo
-enum-known-lo c = search rules
+enum_known-lo : tie.Need-enum_known-lo
+enum_known-lo c = search rules
 
 clamp-requires : tie.Need-clamp-requires
 clamp-requires c κs = search rules
 
-returns : tie.Need-returns
-returns c =
-    let l = c.before.before in
-    absurd (values_never l.before.args.bits-per-pixel _ l.before.pre l.value-limits.ensures c.enum_told.given.1)
+returns-in-OutOfRange : tie.Need-returns-in-OutOfRange
+returns-in-OutOfRange c =
+    let l = c.before in
+    absurd (values_never l.args.bits_per_pixel _ l.requires l.value_limits.ensures c.in-OutOfRange.is)
 
-returns_2 : tie.Need-returns-2
-returns_2 c =
-    let l = c.before.before.before.before in
+returns-in-Are : tie.Need-returns-in-Are
+returns-in-Are c =
+    let l = c.before.before in
     let s = l.before in
-    let d = s.args.bits-per-pixel in
-    let g = c.before.before.lo.given in
-    let e = values-are d _ s.pre l.value-limits.ensures g.0.0 g.0.1.0 g.1 in
-    let most = (depth_range d s.pre).1 in
-    held c.clamp.result c.clamp.ok ∙ c.clamp.ensures
-    ∙ (λ i. clamp_z (to_z-of_z s.fits.value i) ((ap (λ (z : ℤ). to_z w32 (of_z w32 z)) e.0 ∙ low_back (d + 3) (omega arith)) i) ((ap (λ (z : ℤ). to_z w32 (of_z w32 z)) e.1 ∙ high_back (d + 3) (omega arith)) i))
+    let d = s.args.bits_per_pixel in
+    let g = c.in-Are in
+    let e = values-are d _ s.requires l.value_limits.ensures g.lo g.hi g.is in
+    let most = (depth_range d s.requires).1 in
+    held c.clamp.result c.clamp.type_inv ∙ c.clamp.ensures
+    ∙ (λ i. clamp_z (to_z-of_z s.ranges.value i) ((ap (λ (z : ℤ). to_z w32 (of_z w32 z)) e.0 ∙ low_back (d + 3) (omega arith)) i) ((ap (λ (z : ℤ). to_z w32 (of_z w32 z)) e.1 ∙ high_back (d + 3) (omega arith)) i))
 
 pub limited_spec : {M : Type 1} → statement M
 limited_spec =
     tie.close
-    (tie.spec value-limits-requires enum_told enum-known-lo clamp-requires returns returns_2)
+    (tie.spec value_limits-requires enum_told-1 enum_known-lo clamp-requires returns-in-OutOfRange returns-in-Are)

@@ -3,11 +3,11 @@ use borrow.Author.Tests.{le-ltb, lt-ltb}
 use Rattle.block_reader.proofs.read.component.Statement.{statement}
 use Rattle.block_reader.proofs.read.component.Tie as tie
 
-returns : tie.Need-returns
-returns c = rw (lt-ltb _ _ c.if1.true)
+returns-then-i-lt4 : tie.Need-returns-then-i-lt4
+returns-then-i-lt4 c = rw (lt-ltb _ _ c.if-i-lt4.true)
 
-returns_2 : tie.Need-returns-2
-returns_2 c = rw (le-ltb _ _ c.if1.false)
+returns : tie.Need-returns
+returns c = rw (le-ltb _ _ c.if-i-lt4.false)
 
 pub component_spec : {M : Type 1} → statement M
-component_spec = tie.close (tie.spec returns returns_2)
+component_spec = tie.close (tie.spec returns-then-i-lt4 returns)

@@ -18,75 +18,75 @@ use Rattle.block_reader.proofs.read.read_block.Tie as tie
 
 -- with the answer by number
 answered : (s : tie.Start) {r : PlacesRead} → let a = s.args in let d = a.«data».now in let at = a.c.bit_pos in
-    (e : Bool) → a.dc-coded ≡ e → r ≡ places_answer d at a.component a.coded e a.reversible
-    → (r ≡ places_answer d at a.component a.coded a.dc-coded a.reversible) × (list_outcome r.answer ≡ places_due d at a.component a.coded a.dc-coded a.reversible)
+    (e : Bool) → a.dc_coded ≡ e → r ≡ places_answer d at a.component a.coded e a.reversible
+    → (r ≡ places_answer d at a.component a.coded a.dc_coded a.reversible) × (list_outcome r.answer ≡ places_due d at a.component a.coded a.dc_coded a.reversible)
 answered s e f h =
     let a = s.args in
     let d = a.«data».now in
     let at = a.c.bit_pos in
-    both (λ (one : PlacesRead). list_outcome one.answer) (h ∙ sym (ap (λ (x : Bool). places_answer d at a.component a.coded x a.reversible) f)) (places_due_lem d at a.component a.coded a.dc-coded a.reversible)
+    both (λ (one : PlacesRead). list_outcome one.answer) (h ∙ sym (ap (λ (x : Bool). places_answer d at a.component a.coded x a.reversible) f)) (places_due_lem d at a.component a.coded a.dc_coded a.reversible)
 
-read-list-requires : tie.Need-read-list-requires
-read-list-requires c κs = search rules
+read_list-requires : tie.Need-read_list-requires
+read_list-requires c κs = search rules
 
-returns : tie.Need-returns
-returns c =
+returns-then-not-dc_coded : tie.Need-returns-then-not-dc_coded
+returns-then-not-dc_coded c =
     let s = c.before.before.before in
     let a = s.args in
-    answered s false (not-true a.dc-coded c.before.if1.true) (c.read-list.ensures ∙ no-dc a.«data».now a.c.bit_pos a.dc-coded a.reversible a.component a.coded)
+    answered s false c.if-not-dc_coded.true (c.read_list.ensures ∙ no-dc a.«data».now a.c.bit_pos a.dc_coded a.reversible a.component a.coded)
 
-decode-intra-dc-requires : tie.Need-decode-intra-dc-requires
-decode-intra-dc-requires c κs = search rules
+decode_intra_dc-dc-requires : tie.Need-decode_intra_dc-dc-requires
+decode_intra_dc-dc-requires c κs = search rules
 
-enum-known-dc : tie.Need-enum-known-dc
-enum-known-dc c = search rules
+enum_known-dc : tie.Need-enum_known-dc
+enum_known-dc c = search rules
 
 refusal-requires : tie.Need-refusal-requires
 refusal-requires c κs = search rules
 
-enum-known-dc-2 : tie.Need-enum-known-dc-2
-enum-known-dc-2 c = search rules
+enum_known-dc-in-Dc-1 : tie.Need-enum_known-dc-in-Dc-1
+enum_known-dc-in-Dc-1 c = search rules
 
-read-list-requires-2 : tie.Need-read-list-requires-2
-read-list-requires-2 c κs = search rules
+read_list-one-requires : tie.Need-read_list-one-requires
+read_list-one-requires c κs = search rules
 
-with-difference-requires : tie.Need-with-difference-requires
-with-difference-requires c κs = search rules
+with_difference-requires : tie.Need-with_difference-requires
+with_difference-requires c κs = search rules
 
-returns_2 : tie.Need-returns-2
-returns_2 c =
-    let k = c.before.before in
-    let r = k.before.before in
+returns-in-Refused : tie.Need-returns-in-Refused
+returns-in-Refused c =
+    let k = c.before in
+    let r = k.before in
     let s = r.before.before.before in
     let a = s.args in
-    answered s true (not-false a.dc-coded r.before.if1.false)
-    (c.refusal.ensures ∙ dc-refused a.«data».now a.c.bit_pos a.component a.coded a.reversible _ (sym k.dc.given.1 ∙ r.decode-intra-dc.ensures.0))
+    answered s true r.if-not-dc_coded.false
+    (c.refusal.ensures ∙ dc-refused a.«data».now a.c.bit_pos a.component a.coded a.reversible _ (sym k.in-Refused.is ∙ r.decode_intra_dc-dc.ensures.0))
 
-returns_3 : tie.Need-returns-3
-returns_3 c =
+returns-in-Dc : tie.Need-returns-in-Dc
+returns-in-Dc c =
     let l = c.before.before in
-    let k = l.before.before in
-    let r = k.before.before in
+    let k = l.before in
+    let r = k.before in
     let s = r.before.before.before in
     let a = s.args in
-    let v = k.dc2.given.0.0 in
-    let n = dc-next a.«data».now a.c.bit_pos a.component a.coded a.reversible v k.dc2.given.0.1.0 (sym k.dc2.given.1 ∙ r.decode-intra-dc.ensures.0) in
-    answered s true (not-false a.dc-coded r.before.if1.false)
-    (c.with-difference.ensures
-    ∙ ap₂ (λ (x : PlacesRead) (z : ℤ). with_difference x.answer x.qfs z) l.read-list2.ensures (to_z-of_z (fits_mag 4095 tt v.differential n.low))
+    let v = k.in-Dc.v in
+    let n = dc-next a.«data».now a.c.bit_pos a.component a.coded a.reversible v k.in-Dc.next (sym k.in-Dc.is ∙ r.decode_intra_dc-dc.ensures.0) in
+    answered s true r.if-not-dc_coded.false
+    (c.with_difference.ensures
+    ∙ ap₂ (λ (x : PlacesRead) (z : ℤ). with_difference x.answer x.qfs z) l.read_list-one.ensures (to_z-of_z (fits_mag 4095 tt v.differential n.low))
     ∙ n.is)
 
 pub read_block_spec : {M : Type 1} → statement M
 read_block_spec =
     tie.close
     (tie.spec
-    read-list-requires
-    returns
-    decode-intra-dc-requires
-    enum-known-dc
+    read_list-requires
+    returns-then-not-dc_coded
+    decode_intra_dc-dc-requires
+    enum_known-dc
     refusal-requires
-    enum-known-dc-2
-    read-list-requires-2
-    with-difference-requires
-    returns_2
-    returns_3)
+    enum_known-dc-in-Dc-1
+    read_list-one-requires
+    with_difference-requires
+    returns-in-Refused
+    returns-in-Dc)

@@ -13,64 +13,64 @@ use Rattle.block_reader.proofs.OutcomeLaws.{blocks_due_lem}
 use Rattle.block_reader.proofs.read.read_blocks.Tie as tie
 
 -- the position lies in the data
-inside : (k : tie.After-filled) → let a = k.before.before.before.before.before.args in in_data (length a.«data».now) a.c.bit_pos ≡ true
+inside : (k : tie.After-filled-1) → let a = k.args in in_data (length a.«data».now) a.c.bit_pos ≡ true
 inside k =
-    let a = k.before.before.before.before.before.args in
-    counted a.«data».now a.c.bit_pos _ _ k.before.before.before.remaining-bits.ensures.0 k.before.enum-told2.given.1
+    let a = k.args in
+    counted a.«data».now a.c.bit_pos _ _ k.remaining_bits-left.ensures.0 k.in-Bits.is
 
-remaining-bits-requires : tie.Need-remaining-bits-requires
-remaining-bits-requires c κs = search rules
+remaining_bits-left-requires : tie.Need-remaining_bits-left-requires
+remaining_bits-left-requires c κs = search rules
 
-enum_told : tie.Need-enum-told
-enum_told c = search rules
+enum_told-1 : tie.Need-enum_told-1
+enum_told-1 c = search rules
 
-enum-told-2 : tie.Need-enum-told-2
-enum-told-2 c = search rules
+enum_told-in-Bits : tie.Need-enum_told-in-Bits
+enum_told-in-Bits c = search rules
 
-read-rows-requires : tie.Need-read-rows-requires
-read-rows-requires c κs =
-    let a = c.before.before.before.before.before.args in
+read_rows-answer-requires : tie.Need-read_rows-answer-requires
+read_rows-answer-requires c κs =
+    let a = c.args in
     let p = in_data_yes (length a.«data».now) a.c.bit_pos (inside c) in
     ((p.1, p.0), refl)
 
-enum-known-answer : tie.Need-enum-known-answer
-enum-known-answer c = search rules
+enum_known-answer : tie.Need-enum_known-answer
+enum_known-answer c = search rules
 
-enum-known-answer-2 : tie.Need-enum-known-answer-2
-enum-known-answer-2 c = search rules
+enum_known-answer-in-Read-1 : tie.Need-enum_known-answer-in-Read-1
+enum_known-answer-in-Read-1 c = search rules
 
-returns : tie.Need-returns
-returns c =
-    let args = c.before.before.before.before.args in
-    then list_outcome (let a = c.before.before.before.before.args in
+returns-in-Refused : tie.Need-returns-in-Refused
+returns-in-Refused c =
+    let args = c.args in
+    then list_outcome (let a = c.args in
     let d = a.«data».now in
     let at = a.c.bit_pos in
-    blocks_out d at a.pattern a.use-intra-dc-vlc a.reversible-vlc a.rows.now (not-counted d at _ _ c.before.before.remaining-bits.ensures.0 c.enum_told.given.1)) (blocks_due_lem args.«data».now args.c.bit_pos args.pattern args.use-intra-dc-vlc args.reversible-vlc)
+    blocks_out d at a.pattern a.use_intra_dc_vlc a.reversible_vlc a.rows.now (not-counted d at _ _ c.remaining_bits-left.ensures.0 c.in-Refused.is)) (blocks_due_lem args.«data».now args.c.bit_pos args.pattern args.use_intra_dc_vlc args.reversible_vlc)
 
-returns_2 : tie.Need-returns-2
-returns_2 c =
-    let args = c.before.before.before.before.before.before.before.before.before.args in
-    then list_outcome (let k = c.before.before.before in
-    let a = c.before.before.before.before.before.before.before.before.before.args in
-    blocks_refused a.«data».now a.c.bit_pos a.pattern a.use-intra-dc-vlc a.reversible-vlc (inside k.before) k.read-rows.result _ a.rows.now k.read-rows.ensures c.before.answer.given.1) (blocks_due_lem args.«data».now args.c.bit_pos args.pattern args.use-intra-dc-vlc args.reversible-vlc)
+returns-in-Refused-answer : tie.Need-returns-in-Refused-answer
+returns-in-Refused-answer c =
+    let args = c.args in
+    then list_outcome (let k = c.before in
+    let a = c.args in
+    blocks_refused a.«data».now a.c.bit_pos a.pattern a.use_intra_dc_vlc a.reversible_vlc (inside k.before) k.read_rows-answer.result _ a.rows.now k.read_rows-answer.ensures c.in-Refused-answer.is) (blocks_due_lem args.«data».now args.c.bit_pos args.pattern args.use_intra_dc_vlc args.reversible_vlc)
 
-returns_3 : tie.Need-returns-3
-returns_3 c =
-    let args = c.before.before.before.before.before.before.before.before.before.args in
-    then list_outcome (let k = c.before.before.before in
-    let a = c.before.before.before.before.before.before.before.before.before.args in
-    blocks_read a.«data».now a.c.bit_pos a.pattern a.use-intra-dc-vlc a.reversible-vlc (inside k.before) k.read-rows.result _ a.rows.now k.read-rows.ensures c.before.answer2.given.1) (blocks_due_lem args.«data».now args.c.bit_pos args.pattern args.use-intra-dc-vlc args.reversible-vlc)
+returns-in-Read : tie.Need-returns-in-Read
+returns-in-Read c =
+    let args = c.args in
+    then list_outcome (let k = c.before in
+    let a = c.args in
+    blocks_read a.«data».now a.c.bit_pos a.pattern a.use_intra_dc_vlc a.reversible_vlc (inside k.before) k.read_rows-answer.result _ a.rows.now k.read_rows-answer.ensures c.in-Read.is) (blocks_due_lem args.«data».now args.c.bit_pos args.pattern args.use_intra_dc_vlc args.reversible_vlc)
 
 pub read_blocks_spec : {M : Type 1} → statement M
 read_blocks_spec =
     tie.close
     (tie.spec
-    remaining-bits-requires
-    enum_told
-    enum-told-2
-    read-rows-requires
-    enum-known-answer
-    enum-known-answer-2
-    returns
-    returns_2
-    returns_3)
+    remaining_bits-left-requires
+    enum_told-1
+    enum_told-in-Bits
+    read_rows-answer-requires
+    enum_known-answer
+    enum_known-answer-in-Read-1
+    returns-in-Refused
+    returns-in-Refused-answer
+    returns-in-Read)

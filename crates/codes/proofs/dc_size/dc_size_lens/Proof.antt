@@ -5,19 +5,19 @@ use Rattle.codes.proofs.dc_size.dc_size_lens.Statement.{statement}
 use Rattle.codes.specs.DcSize.{dc_lens, size_chrominance, size_luminance}
 use Rattle.codes.proofs.dc_size.dc_size_lens.Tie as tie
 
-enum_told : tie.Need-enum-told
-enum_told c = search rules
+enum_told-1 : tie.Need-enum_told-1
+enum_told-1 c = search rules
 
-enum-told-2 : tie.Need-enum-told-2
-enum-told-2 c = search rules
+enum_told-in-Chrominance : tie.Need-enum_told-in-Chrominance
+enum_told-in-Chrominance c = search rules
 
-returns : tie.Need-returns
+returns-in-Luminance : tie.Need-returns-in-Luminance
 unfolding dc_lens size_luminance size_chrominance
-returns c = ap dc_lens (sym c.enum_told.given.1)
+returns-in-Luminance c = ap dc_lens (sym c.in-Luminance.is)
 
-returns_2 : tie.Need-returns-2
+returns-in-Chrominance : tie.Need-returns-in-Chrominance
 unfolding dc_lens size_luminance size_chrominance
-returns_2 c = ap dc_lens (sym c.enum-told2.given.1)
+returns-in-Chrominance c = ap dc_lens (sym c.in-Chrominance.is)
 
 pub dc_size_lens_spec : {M : Type 1} → statement M
-dc_size_lens_spec = tie.close (tie.spec enum_told enum-told-2 returns returns_2)
+dc_size_lens_spec = tie.close (tie.spec enum_told-1 enum_told-in-Chrominance returns-in-Luminance returns-in-Chrominance)

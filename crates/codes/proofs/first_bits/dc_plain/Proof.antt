@@ -11,53 +11,45 @@ use Rattle.codes.specs.FirstBits.{size_in, size_plain}
 use Rattle.codes.specs.declared.dc_size.DcComponent.{DcComponent}
 use Rattle.codes.proofs.first_bits.dc_plain.Tie as tie
 
-cast-first : tie.Need-overflow-cast-first
-cast-first c = search rules
+overflow_cast-first : tie.Need-overflow_cast-first
+overflow_cast-first c = search rules
 
-enum_told : tie.Need-enum-told
-enum_told c = search rules
+enum_told-1 : tie.Need-enum_told-1
+enum_told-1 c = search rules
 
-slice-aggregate-small-number : tie.Need-slice-aggregate-small-number
-slice-aggregate-small-number c = search rules
+small_number-requires : tie.Need-small_number-requires
+small_number-requires c κs = search rules
 
-small-number-requires : tie.Need-small-number-requires
-small-number-requires c κs = search rules
+enum_told-in-Chrominance : tie.Need-enum_told-in-Chrominance
+enum_told-in-Chrominance c = search rules
 
-enum-told-2 : tie.Need-enum-told-2
-enum-told-2 c = search rules
+small_number-requires-in-Chrominance : tie.Need-small_number-requires-in-Chrominance
+small_number-requires-in-Chrominance c κs = search rules
 
-slice-aggregate-small-number-2 : tie.Need-slice-aggregate-small-number-2
-slice-aggregate-small-number-2 c = search rules
-
-small-number-requires-2 : tie.Need-small-number-requires-2
-small-number-requires-2 c κs = search rules
-
-returns : tie.Need-returns
+returns-in-Luminance : tie.Need-returns-in-Luminance
 unfolding build size_in size_luminance
-returns c =
-    let a = c.before.before.before.before.args in
-    c.small-number.ensures
+returns-in-Luminance c =
+    let a = c.args in
+    c.small_number.ensures
     ∙ get_or-build 64 (λ (k : ℕ). size_in size_luminance k) (a.window / 67108864) 0 (omega arith)
-    ∙ ap (λ (t : DcComponent). size_plain t a.window) (sym c.before.before.enum_told.given.1)
+    ∙ ap (λ (t : DcComponent). size_plain t a.window) (sym c.in-Luminance.is)
 
-returns_2 : tie.Need-returns-2
+returns-in-Chrominance : tie.Need-returns-in-Chrominance
 unfolding build size_in size_chrominance
-returns_2 c =
-    let a = c.before.before.before.before.args in
-    c.small-number2.ensures
+returns-in-Chrominance c =
+    let a = c.args in
+    c.small_number-in-Chrominance.ensures
     ∙ get_or-build 64 (λ (k : ℕ). size_in size_chrominance k) (a.window / 67108864) 0 (omega arith)
-    ∙ ap (λ (t : DcComponent). size_plain t a.window) (sym c.before.before.enum-told2.given.1)
+    ∙ ap (λ (t : DcComponent). size_plain t a.window) (sym c.in-Chrominance.is)
 
 pub dc_plain_spec : {M : Type 1} → statement M
 dc_plain_spec =
     tie.close
     (tie.spec
-    cast-first
-    enum_told
-    slice-aggregate-small-number
-    small-number-requires
-    enum-told-2
-    slice-aggregate-small-number-2
-    small-number-requires-2
-    returns
-    returns_2)
+    overflow_cast-first
+    enum_told-1
+    small_number-requires
+    enum_told-in-Chrominance
+    small_number-requires-in-Chrominance
+    returns-in-Luminance
+    returns-in-Chrominance)

@@ -6,15 +6,12 @@ use borrow.Author.Rules.{rules}
 use Rattle.codes.proofs.first_bits.lmax_intra.Statement.{statement}
 use Rattle.codes.proofs.first_bits.lmax_intra.Tie as tie
 
-slice-aggregate-small-number : tie.Need-slice-aggregate-small-number
-slice-aggregate-small-number c = search rules
-
-small-number-requires : tie.Need-small-number-requires
-small-number-requires c κs = search rules
+small_number-requires : tie.Need-small_number-requires
+small_number-requires c κs = search rules
 
 returns : tie.Need-returns
 unfolding lmax_rows build lmax_of tcoef_intra
-returns c = c.small-number.ensures
+returns c = c.small_number.ensures
 
 pub lmax_intra_spec : {M : Type 1} → statement M
-lmax_intra_spec = tie.close (tie.spec slice-aggregate-small-number small-number-requires returns)
+lmax_intra_spec = tie.close (tie.spec small_number-requires returns)

@@ -6,21 +6,21 @@ use borrow.Author.Rules.{rules}
 use Rattle.codes.proofs.first_bits.number.Statement.{statement}
 use Rattle.codes.proofs.first_bits.number.Tie as tie
 
-mul-result : tie.Need-overflow-mul-result
-mul-result c = search rules
+offset_bounds-rows-at : tie.Need-offset_bounds-rows-at
+offset_bounds-rows-at c = search rules
 
-shared-slice-read-result : tie.Need-shared-slice-read-result
-shared-slice-read-result c = search rules
+bounds-rows-at : tie.Need-bounds-rows-at
+bounds-rows-at c = search rules
 
-cast_result : tie.Need-overflow-cast-result
-cast_result c = omega (arith, c.shared-slice-known.given c.before.before.args.at)
+overflow_cast-result : tie.Need-overflow_cast-result
+overflow_cast-result c = omega (arith, c.shared_slice_known-1.given c.args.at)
+
+returns-then-at-rows : tie.Need-returns-then-at-rows
+returns-then-at-rows c = search rules
 
 returns : tie.Need-returns
-returns c = search rules
-
-returns_2 : tie.Need-returns-2
-returns_2 c = sym (get_or-eq_default c.before.args.rows.now 0 c.if1.false)
+returns c = sym (get_or-eq_default c.args.rows.now 0 c.if-at-rows.false)
 
 pub number_spec : {M : Type 1} → statement M
 number_spec =
-    tie.close (tie.spec mul-result shared-slice-read-result cast_result returns returns_2)
+    tie.close (tie.spec offset_bounds-rows-at bounds-rows-at overflow_cast-result returns-then-at-rows returns)

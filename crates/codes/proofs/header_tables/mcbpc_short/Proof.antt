@@ -10,20 +10,17 @@ use Rattle.codes.specs.Header.{mcbpc_codes, mcbpc_intra, mcbpc_lens, mcbpc_short
 use Rattle.codes.specs.Table.{seek}
 use Rattle.codes.proofs.header_tables.mcbpc_short.Tie as tie
 
-slice-aggregate-small-number : tie.Need-slice-aggregate-small-number
-slice-aggregate-small-number c = search rules
+overflow_cast-window : tie.Need-overflow_cast-window
+overflow_cast-window c = search rules
 
-cast-small-number : tie.Need-overflow-cast-small-number
-cast-small-number c = search rules
-
-small-number-requires : tie.Need-small-number-requires
-small-number-requires c κs = search rules
+small_number-requires : tie.Need-small_number-requires
+small_number-requires c κs = search rules
 
 returns : tie.Need-returns
 unfolding build mcbpc_short mcbpc_codes mcbpc_lens mcbpc_intra seek
 returns c =
-    let a = c.before.before.args in
-    c.small-number.ensures ∙ get_or-build 64 (λ (k : ℕ). short_row mcbpc_codes mcbpc_lens 8 k) (a.window / 67108864) 0 (omega arith)
+    let a = c.args in
+    c.small_number.ensures ∙ get_or-build 64 (λ (k : ℕ). short_row mcbpc_codes mcbpc_lens 8 k) (a.window / 67108864) 0 (omega arith)
 
 pub mcbpc_short_spec : {M : Type 1} → statement M
-mcbpc_short_spec = tie.close (tie.spec slice-aggregate-small-number cast-small-number small-number-requires returns)
+mcbpc_short_spec = tie.close (tie.spec overflow_cast-window small_number-requires returns)

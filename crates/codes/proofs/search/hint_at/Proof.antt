@@ -4,17 +4,17 @@ use borrow.Author.Rules.{rules}
 use Rattle.codes.proofs.search.hint_at.Statement.{statement}
 use Rattle.codes.proofs.search.hint_at.Tie as tie
 
-shared-slice-read-result : tie.Need-shared-slice-read-result
-shared-slice-read-result c = search rules
+bounds-hints-first : tie.Need-bounds-hints-first
+bounds-hints-first c = search rules
 
-cast_result : tie.Need-overflow-cast-result
-cast_result c = omega (arith, c.shared-slice-known.given c.before.before.args.first)
+overflow_cast-result : tie.Need-overflow_cast-result
+overflow_cast-result c = omega (arith, c.shared_slice_known-1.given c.args.first)
+
+returns-then-first-hints : tie.Need-returns-then-first-hints
+returns-then-first-hints c = search rules
 
 returns : tie.Need-returns
 returns c = search rules
 
-returns_2 : tie.Need-returns-2
-returns_2 c = search rules
-
 pub hint_at_spec : {M : Type 1} → statement M
-hint_at_spec = tie.close (tie.spec shared-slice-read-result cast_result returns returns_2)
+hint_at_spec = tie.close (tie.spec bounds-hints-first overflow_cast-result returns-then-first-hints returns)

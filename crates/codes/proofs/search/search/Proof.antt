@@ -8,55 +8,55 @@ use Rattle.codes.proofs.search.search.Statement.{statement}
 use Rattle.codes.specs.Table.{hit_at, seek}
 use Rattle.codes.proofs.search.search.Tie as tie
 
-abbrev invariant_loop : tie.invariant-loop
-invariant_loop codes lens from to window n i₀ i =
+abbrev invariant-loop-i : tie.invariant-loop-i
+invariant-loop-i codes lens from to window n i₀ i =
     (i ≤ to) × (to ≤ length codes) × (to ≤ length lens) × (seek (hit_at codes lens window n) (to - from) from ≡ seek (hit_at codes lens window n) (to - i) i)
 
-abbrev decreases-loop : tie.decreases-loop
-decreases-loop codes lens from to window n i₀ i = to - i
+abbrev decreases-loop-i : tie.decreases-loop-i
+decreases-loop-i codes lens from to window n i₀ i = to - i
 
-loop_holds : tie.Need-loop-init invariant_loop decreases-loop
-loop_holds c = let p = c.before.before.requires in (p.0, p.1, p.2, refl)
+loop-i-init : tie.Need-loop-i-init invariant-loop-i decreases-loop-i
+loop-i-init c = let p = c.requires in (p.0, p.1, p.2, refl)
 
-mul-hits : tie.Need-overflow-mul-hits invariant_loop decreases-loop
-mul-hits c = omega arith
+offset_bounds-codes-i : tie.Need-offset_bounds-codes-i invariant-loop-i decreases-loop-i
+offset_bounds-codes-i c = omega arith
 
-shared-slice-read-hits : tie.Need-shared-slice-read-hits invariant_loop decreases-loop
-shared-slice-read-hits c = omega arith
+bounds-codes-i : tie.Need-bounds-codes-i invariant-loop-i decreases-loop-i
+bounds-codes-i c = omega arith
 
-mul-hits-2 : tie.Need-overflow-mul-hits-2 invariant_loop decreases-loop
-mul-hits-2 c = omega arith
+offset_bounds-lens-i : tie.Need-offset_bounds-lens-i invariant-loop-i decreases-loop-i
+offset_bounds-lens-i c = omega arith
 
-shared-slice-read-hits-2 : tie.Need-shared-slice-read-hits-2 invariant_loop decreases-loop
-shared-slice-read-hits-2 c = omega arith
+bounds-lens-i : tie.Need-bounds-lens-i invariant-loop-i decreases-loop-i
+bounds-lens-i c = omega arith
 
-hits-requires : tie.Need-hits-requires invariant_loop decreases-loop
+hits-requires : tie.Need-hits-requires invariant-loop-i decreases-loop-i
 hits-requires c κs = tt
 
-returns : tie.Need-returns invariant_loop decreases-loop
+returns-then-hits : tie.Need-returns-then-hits invariant-loop-i decreases-loop-i
+returns-then-hits c =
+    let l = c.loop-i in
+    let a = c.args in
+    let f = hit_at a.codes.now a.lens.now a.window a.n in
+    sym (l.invariant.3 ∙ seek_yes f a.to l.i (omega arith) (sym c.hits.ensures ∙ c.if-hits.true))
+
+overflow_add-i : tie.Need-overflow_add-i invariant-loop-i decreases-loop-i
+overflow_add-i c = omega arith
+
+loop-i-smaller : tie.Need-loop-i-smaller invariant-loop-i decreases-loop-i
+loop-i-smaller c = omega arith
+
+loop-i-preserved : tie.Need-loop-i-preserved invariant-loop-i decreases-loop-i
+loop-i-preserved c =
+    let l = c.loop-i in
+    let a = c.args in
+    let f = hit_at a.codes.now a.lens.now a.window a.n in
+    (omega arith, l.invariant.1, l.invariant.2, l.invariant.3 ∙ seek-no f a.to l.i (omega arith) (sym c.hits.ensures ∙ c.if-hits.false))
+
+returns : tie.Need-returns invariant-loop-i decreases-loop-i
 returns c =
-    let l = c.before.before.before.before.before.loop in
-    let a = c.before.before.before.before.before.before.before.before.args in
-    let f = hit_at a.codes.now a.lens.now a.window a.n in
-    sym (l.invariant.3 ∙ seek_yes f a.to l.i (omega arith) (sym c.before.hits.ensures ∙ c.if1.true))
-
-add-i : tie.Need-overflow-add-i invariant_loop decreases-loop
-add-i c = omega arith
-
-loop-less : tie.Need-loop-smaller invariant_loop decreases-loop
-loop-less c = omega arith
-
-loop_again : tie.Need-loop-preserved invariant_loop decreases-loop
-loop_again c =
-    let l = c.before.before.before.before.before.loop in
-    let a = c.before.before.before.before.before.before.before.before.args in
-    let f = hit_at a.codes.now a.lens.now a.window a.n in
-    (omega arith, l.invariant.1, l.invariant.2, l.invariant.3 ∙ seek-no f a.to l.i (omega arith) (sym c.before.hits.ensures ∙ c.if1.false))
-
-returns_2 : tie.Need-returns-2 invariant_loop decreases-loop
-returns_2 c =
-    let l = c.before.loop in
-    let a = c.before.before.before.before.args in
+    let l = c.loop-i in
+    let a = c.args in
     let f = hit_at a.codes.now a.lens.now a.window a.n in
     sym (l.invariant.3 ∙ seek_end f a.to l.i (omega arith))
 
@@ -64,16 +64,16 @@ pub search_spec : {M : Type 1} → statement M
 search_spec =
     tie.close
     (tie.spec
-    invariant_loop
-    decreases-loop
-    loop_holds
-    mul-hits
-    shared-slice-read-hits
-    mul-hits-2
-    shared-slice-read-hits-2
+    invariant-loop-i
+    decreases-loop-i
+    loop-i-init
+    offset_bounds-codes-i
+    bounds-codes-i
+    offset_bounds-lens-i
+    bounds-lens-i
     hits-requires
-    returns
-    add-i
-    loop-less
-    loop_again
-    returns_2)
+    returns-then-hits
+    overflow_add-i
+    loop-i-smaller
+    loop-i-preserved
+    returns)

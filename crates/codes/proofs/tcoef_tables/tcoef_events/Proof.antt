@@ -6,19 +6,19 @@ use Rattle.codes.specs.Tcoef.{event_columns, lmax_of, rmax_of, tcoef_inter, tcoe
 use Rattle.codes.specs.declared.tcoef_tables.TcoefTable.{TcoefTable}
 use Rattle.codes.proofs.tcoef_tables.tcoef_events.Tie as tie
 
-enum_told : tie.Need-enum-told
-enum_told c = search rules
+enum_told-1 : tie.Need-enum_told-1
+enum_told-1 c = search rules
 
-enum-told-2 : tie.Need-enum-told-2
-enum-told-2 c = search rules
+enum_told-in-Inter : tie.Need-enum_told-in-Inter
+enum_told-in-Inter c = search rules
 
-returns : tie.Need-returns
+returns-in-Intra : tie.Need-returns-in-Intra
 unfolding event_columns lmax_of rmax_of tcoef_intra tcoef_inter
-returns c = ap (λ (t : TcoefTable). event_columns (tcoef_of t)) (sym c.enum_told.given.1)
+returns-in-Intra c = ap (λ (t : TcoefTable). event_columns (tcoef_of t)) (sym c.in-Intra.is)
 
-returns_2 : tie.Need-returns-2
+returns-in-Inter : tie.Need-returns-in-Inter
 unfolding event_columns lmax_of rmax_of tcoef_intra tcoef_inter
-returns_2 c = ap (λ (t : TcoefTable). event_columns (tcoef_of t)) (sym c.enum-told2.given.1)
+returns-in-Inter c = ap (λ (t : TcoefTable). event_columns (tcoef_of t)) (sym c.in-Inter.is)
 
 pub tcoef_events_spec : {M : Type 1} → statement M
-tcoef_events_spec = tie.close (tie.spec enum_told enum-told-2 returns returns_2)
+tcoef_events_spec = tie.close (tie.spec enum_told-1 enum_told-in-Inter returns-in-Intra returns-in-Inter)

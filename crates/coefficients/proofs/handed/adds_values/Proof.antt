@@ -5,14 +5,14 @@ use Rattle.coefficients.specs.Needed.{some_value}
 use Rattle.coefficients.proofs.handed.adds_values.Statement.{statement}
 use Rattle.coefficients.proofs.handed.adds_values.Tie as tie
 
-seven-in-requires : tie.Need-seven-in-requires
-seven-in-requires c κs = search rules
+seven_in-requires : tie.Need-seven_in-requires
+seven_in-requires c κs = search rules
 
-some-value-requires : tie.Need-some-value-requires
-some-value-requires c κs = search rules
+some_value-requires : tie.Need-some_value-requires
+some_value-requires c κs = search rules
 
 returns : tie.Need-returns
-returns c = c.some-value.ensures ∙ ap some_value c.before.seven-in.ensures
+returns c = c.some_value.ensures ∙ ap some_value c.seven_in.ensures
 
 pub adds_values_spec : {M : Type 1} → statement M
-adds_values_spec = tie.close (tie.spec seven-in-requires some-value-requires returns)
+adds_values_spec = tie.close (tie.spec seven_in-requires some_value-requires returns)

@@ -9,68 +9,68 @@ use Rattle.coefficients.proofs.HandedLaws.{needed_dcs, needed_none, needed_side}
 use Rattle.coefficients.proofs.handed.needed.Statement.{statement}
 use Rattle.coefficients.proofs.handed.needed.Tie as tie
 
-put-dcs-requires : tie.Need-put-dcs-requires
-put-dcs-requires c κs = search rules
+put_dcs-requires : tie.Need-put_dcs-requires
+put_dcs-requires c κs = search rules
 
-returns : tie.Need-returns
-returns c =
-    let a = c.before.before.before.args in
-    c.put-dcs.ensures ∙ sym (needed_dcs a.q a.p (not-true a.ac-pred c.before.before.if1.true))
+returns-then-not-ac_pred : tie.Need-returns-then-not-ac_pred
+returns-then-not-ac_pred c =
+    let a = c.args in
+    c.put_dcs.ensures ∙ sym (needed_dcs a.q a.p c.if-not-ac_pred.true)
 
 -- the direction is of the three DCs
-chosen : (c : tie.After-select-dc-direction) → let p = c.before.before.before.before.before.args.p in c.select-dc-direction.result ≡ direction_answer p.fa_dc p.fb_dc p.fc_dc
+chosen : (c : tie.After-select_dc_direction) → let p = c.args.p in c.select_dc_direction.result ≡ direction_answer p.fa_dc p.fb_dc p.fc_dc
 chosen c =
     let t = c.before in
-    let p = t.before.before.before.before.args.p in
-    let g = t.before.before.struct_told.given in
-    let h = t.before.struct-told2.given in
-    let k = t.struct-told3.given in
+    let p = t.args.p in
+    let g = t.struct_told-1.given in
+    let h = t.struct_told-2-1.given in
+    let k = t.struct_told-3-1.given in
     let fa : to_z w32 (of_z w32 p.fa_dc) ≡ p.fa_dc = search rules in
     let fb : to_z w32 (of_z w32 p.fb_dc) ≡ p.fb_dc = search rules in
     let fc : to_z w32 (of_z w32 p.fc_dc) ≡ p.fc_dc = search rules in
-    c.select-dc-direction.ensures.0 ∙ (λ i. direction_answer (fa i) (fb i) (fc i))
+    c.select_dc_direction.ensures.0 ∙ (λ i. direction_answer (fa i) (fb i) (fc i))
 
-select-dc-direction-requires : tie.Need-select-dc-direction-requires
-select-dc-direction-requires c κs = search rules
+select_dc_direction-requires : tie.Need-select_dc_direction-requires
+select_dc_direction-requires c κs = search rules
 
-enum_told : tie.Need-enum-told
-enum_told c = search rules
+enum_told-1 : tie.Need-enum_told-1
+enum_told-1 c = search rules
 
-put-dcs-requires-2 : tie.Need-put-dcs-requires-2
-put-dcs-requires-2 c κs = search rules
+put_dcs-requires-in-Refused : tie.Need-put_dcs-requires-in-Refused
+put_dcs-requires-in-Refused c κs = search rules
 
-enum-known-direction : tie.Need-enum-known-direction
-enum-known-direction c = search rules
+enum_known-direction : tie.Need-enum_known-direction
+enum_known-direction c = search rules
 
-put-side-requires : tie.Need-put-side-requires
-put-side-requires c κs = search rules
+put_side-requires : tie.Need-put_side-requires
+put_side-requires c κs = search rules
 
-returns_2 : tie.Need-returns-2
-returns_2 c =
+returns-in-Refused : tie.Need-returns-in-Refused
+returns-in-Refused c =
     let e = c.before.before in
-    let k = e.before.before in
+    let k = e.before in
     let x = k.before.before.before.before in
-    let a = x.before.args in
-    c.put-dcs2.ensures ∙ sym (needed_none a.q a.p _ (not-false a.ac-pred x.if1.false) (sym (chosen k) ∙ e.enum_told.given.1))
+    let a = x.args in
+    c.put_dcs-in-Refused.ensures ∙ sym (needed_none a.q a.p _ x.if-not-ac_pred.false (sym (chosen k) ∙ e.in-Refused.is))
 
-returns_3 : tie.Need-returns-3
-returns_3 c =
-    let d = c.before.before.before in
-    let k = d.before.before in
+returns-in-Is : tie.Need-returns-in-Is
+returns-in-Is c =
+    let d = c.before.before in
+    let k = d.before in
     let x = k.before.before.before.before in
-    let a = x.before.args in
-    c.put-side.ensures ∙ sym (needed_side a.q a.p _ (not-false a.ac-pred x.if1.false) (sym (chosen k) ∙ d.direction.given.1))
+    let a = x.args in
+    c.put_side.ensures ∙ sym (needed_side a.q a.p _ x.if-not-ac_pred.false (sym (chosen k) ∙ d.in-Is.is))
 
 pub needed_spec : {M : Type 1} → statement M
 needed_spec =
     tie.close
     (tie.spec
-    put-dcs-requires
-    returns
-    select-dc-direction-requires
-    enum_told
-    put-dcs-requires-2
-    enum-known-direction
-    put-side-requires
-    returns_2
-    returns_3)
+    put_dcs-requires
+    returns-then-not-ac_pred
+    select_dc_direction-requires
+    enum_told-1
+    put_dcs-requires-in-Refused
+    enum_known-direction
+    put_side-requires
+    returns-in-Refused
+    returns-in-Is)

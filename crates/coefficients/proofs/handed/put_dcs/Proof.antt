@@ -9,21 +9,21 @@ use Rattle.coefficients.specs.Needed.{numbers_of}
 use Rattle.coefficients.proofs.handed.put_dcs.Statement.{statement}
 use Rattle.coefficients.proofs.handed.put_dcs.Tie as tie
 
-put-numbers-requires : tie.Need-put-numbers-requires
-put-numbers-requires c κs = search rules
+put_numbers-requires : tie.Need-put_numbers-requires
+put_numbers-requires c κs = search rules
 
 returns : tie.Need-returns
 returns c =
     let t = c.before in
-    let a = t.before.before.before.before.args in
+    let a = t.args in
     let p = a.p in
-    let g = t.before.before.struct_told.given in
-    let h = t.before.struct-told2.given in
-    let k = t.struct-told3.given in
+    let g = t.struct_told-1.given in
+    let h = t.struct_told-2-1.given in
+    let k = t.struct_told-3-1.given in
     let fa : to_z w32 (of_z w32 p.fa_dc) ≡ p.fa_dc = search rules in
     let fb : to_z w32 (of_z w32 p.fb_dc) ≡ p.fb_dc = search rules in
     let fc : to_z w32 (of_z w32 p.fc_dc) ≡ p.fc_dc = search rules in
-    c.put-numbers.ensures ∙ (λ i. numbers_of (fa i) (fb i) (fc i) a.q (replicate 7 (pos 0)))
+    c.put_numbers.ensures ∙ (λ i. numbers_of (fa i) (fb i) (fc i) a.q (replicate 7 (pos 0)))
 
 pub put_dcs_spec : {M : Type 1} → statement M
-put_dcs_spec = tie.close (tie.spec put-numbers-requires returns)
+put_dcs_spec = tie.close (tie.spec put_numbers-requires returns)

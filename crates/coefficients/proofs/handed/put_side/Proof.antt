@@ -8,81 +8,81 @@ use Rattle.coefficients.specs.Needed.{numbers_of}
 use Rattle.coefficients.proofs.handed.put_side.Statement.{statement}
 use Rattle.coefficients.proofs.handed.put_side.Tie as tie
 
-enum_told : tie.Need-enum-told
-enum_told c = search rules
+enum_told-1 : tie.Need-enum_told-1
+enum_told-1 c = search rules
 
-put-dcs-requires : tie.Need-put-dcs-requires
-put-dcs-requires c κs = search rules
+put_dcs-requires : tie.Need-put_dcs-requires
+put_dcs-requires c κs = search rules
 
-returns : tie.Need-returns
-returns c =
+returns-then-not-p : tie.Need-returns-then-not-p
+returns-then-not-p c =
     let e = c.before.before.before.before in
-    let a = e.before.before.args in
-    c.put-dcs.ensures ∙ (rw (e.enum_told.given.1, not-true a.p.a_has_column c.before.before.if1.true))
+    let a = e.args in
+    c.put_dcs.ensures ∙ (rw (e.in-FromLeft.is, c.if-not-p.true))
 
-put-numbers-requires : tie.Need-put-numbers-requires
-put-numbers-requires c κs = search rules
+put_numbers-requires : tie.Need-put_numbers-requires
+put_numbers-requires c κs = search rules
 
-enum-told-2 : tie.Need-enum-told-2
-enum-told-2 c = search rules
+enum_told-in-FromAbove : tie.Need-enum_told-in-FromAbove
+enum_told-in-FromAbove c = search rules
 
-put-dcs-requires-2 : tie.Need-put-dcs-requires-2
-put-dcs-requires-2 c κs = search rules
+put_dcs-requires-then-not-p-2 : tie.Need-put_dcs-requires-then-not-p-2
+put_dcs-requires-then-not-p-2 c κs = search rules
 
-returns_2 : tie.Need-returns-2
-returns_2 c =
+returns-then-not-p-2 : tie.Need-returns-then-not-p-2
+returns-then-not-p-2 c =
     let e = c.before.before.before.before in
-    let a = e.before.before.args in
-    c.put-dcs2.ensures ∙ (rw (e.enum-told2.given.1, not-true a.p.c_has_row c.before.before.if2.true))
+    let a = e.args in
+    c.put_dcs-then-not-p-2.ensures ∙ (rw (e.in-FromAbove.is, c.if-not-p-2.true))
 
-put-numbers-requires-2 : tie.Need-put-numbers-requires-2
-put-numbers-requires-2 c κs = search rules
+put_numbers-requires-in-FromAbove : tie.Need-put_numbers-requires-in-FromAbove
+put_numbers-requires-in-FromAbove c κs = search rules
 
-returns_3 : tie.Need-returns-3
-returns_3 c =
+returns-else-not-p : tie.Need-returns-else-not-p
+returns-else-not-p c =
     let t = c.before in
     let l = t.before.before.before.before.before in
     let e = l.before.before in
-    let a = e.before.before.args in
+    let a = e.args in
     let p = a.p in
-    let g = t.before.before.struct_told.given in
-    let h = t.before.struct-told2.given in
-    let k = t.struct-told3.given in
+    let g = t.struct_told-1.given in
+    let h = t.struct_told-in-FromLeft-1.given in
+    let k = t.struct_told-in-FromLeft-2-1.given in
     let fa : to_z w32 (of_z w32 p.fa_dc) ≡ p.fa_dc = search rules in
     let fb : to_z w32 (of_z w32 p.fb_dc) ≡ p.fb_dc = search rules in
     let fc : to_z w32 (of_z w32 p.fc_dc) ≡ p.fc_dc = search rules in
-    c.put-numbers.ensures
+    c.put_numbers.ensures
     ∙ (λ i. numbers_of (fa i) (fb i) (fc i) p.qp_a p.a_first_column)
-    ∙ (rw (e.enum_told.given.1, not-false p.a_has_column l.if1.false))
+    ∙ (rw (e.in-FromLeft.is, l.if-not-p.false))
 
-returns_4 : tie.Need-returns-4
-returns_4 c =
+returns-else-not-p-2 : tie.Need-returns-else-not-p-2
+returns-else-not-p-2 c =
     let t = c.before in
     let l = t.before.before.before.before.before in
     let e = l.before.before in
-    let a = e.before.before.args in
+    let a = e.args in
     let p = a.p in
-    let g = t.before.before.struct-told4.given in
-    let h = t.before.struct-told5.given in
-    let k = t.struct-told6.given in
+    let g = t.struct_told-in-FromAbove-1.given in
+    let h = t.struct_told-in-FromAbove-2-1.given in
+    let k = t.struct_told-in-FromAbove-3-1.given in
     let fa : to_z w32 (of_z w32 p.fa_dc) ≡ p.fa_dc = search rules in
     let fb : to_z w32 (of_z w32 p.fb_dc) ≡ p.fb_dc = search rules in
     let fc : to_z w32 (of_z w32 p.fc_dc) ≡ p.fc_dc = search rules in
-    c.put-numbers2.ensures
+    c.put_numbers-in-FromAbove.ensures
     ∙ (λ i. numbers_of (fa i) (fb i) (fc i) p.qp_c p.c_first_row)
-    ∙ (rw (e.enum-told2.given.1, not-false p.c_has_row l.if2.false))
+    ∙ (rw (e.in-FromAbove.is, l.if-not-p-2.false))
 
 pub put_side_spec : {M : Type 1} → statement M
 put_side_spec =
     tie.close
     (tie.spec
-    enum_told
-    put-dcs-requires
-    returns
-    put-numbers-requires
-    enum-told-2
-    put-dcs-requires-2
-    returns_2
-    put-numbers-requires-2
-    returns_3
-    returns_4)
+    enum_told-1
+    put_dcs-requires
+    returns-then-not-p
+    put_numbers-requires
+    enum_told-in-FromAbove
+    put_dcs-requires-then-not-p-2
+    returns-then-not-p-2
+    put_numbers-requires-in-FromAbove
+    returns-else-not-p
+    returns-else-not-p-2)

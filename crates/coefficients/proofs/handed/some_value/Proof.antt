@@ -19,56 +19,56 @@ use Rattle.coefficients.proofs.handed.some_value.Tie as tie
 abbrev none : ℤ → Bool
 none z = eqb (nat_abs z) 0
 
-abbrev invariant_loop : tie.invariant-loop
-invariant_loop values zeros₀ k₀ zeros k = (k ≤ 7) × (every none values ≡ (zeros && every none (drop k values)))
+abbrev invariant-loop-k : tie.invariant-loop-k
+invariant-loop-k values zeros₀ k₀ zeros k = (k ≤ 7) × (every none values ≡ (zeros && every none (drop k values)))
 
-abbrev decreases-loop : tie.decreases-loop
-decreases-loop values zeros₀ k₀ zeros k = 7 - k
+abbrev decreases-loop-k : tie.decreases-loop-k
+decreases-loop-k values zeros₀ k₀ zeros k = 7 - k
 
-seven : (s : tie.Start invariant_loop decreases-loop) → length s.args.t1 ≡ 7
-seven s = good_length (e_s_int w32) 7 s.args.t1 _ s.well-formed.0
+seven : (s : tie.Start invariant-loop-k decreases-loop-k) → length s.args.values ≡ 7
+seven s = good_length (e_s_int w32) 7 s.args.values _ s.well_formed.0
 
-loop_holds : tie.Need-loop-init invariant_loop decreases-loop
-loop_holds c = (omega arith, refl)
+loop-k-init : tie.Need-loop-k-init invariant-loop-k decreases-loop-k
+loop-k-init c = (omega arith, refl)
 
-mul-zero : tie.Need-overflow-mul-zero invariant_loop decreases-loop
-mul-zero c = omega arith
+offset_bounds-values-k : tie.Need-offset_bounds-values-k invariant-loop-k decreases-loop-k
+offset_bounds-values-k c = omega arith
 
-array-copy-out-zero : tie.Need-array-copy-out-zero invariant_loop decreases-loop
-array-copy-out-zero c = omega arith
+bounds-values-k : tie.Need-bounds-values-k invariant-loop-k decreases-loop-k
+bounds-values-k c = omega arith
 
-add-k : tie.Need-overflow-add-k invariant_loop decreases-loop
-add-k c = omega arith
+overflow_step-k : tie.Need-overflow_step-k invariant-loop-k decreases-loop-k
+overflow_step-k c = omega arith
 
-loop-less : tie.Need-loop-smaller invariant_loop decreases-loop
-loop-less c = omega arith
+loop-k-smaller : tie.Need-loop-k-smaller invariant-loop-k decreases-loop-k
+loop-k-smaller c = omega arith
 
-loop_again : tie.Need-loop-preserved invariant_loop decreases-loop
-loop_again c =
+loop-k-preserved : tie.Need-loop-k-preserved invariant-loop-k decreases-loop-k
+loop-k-preserved c =
     let a = c.before.before in
     let s = a.before in
-    let z = get_or s.args.t1 a.loop.k (pos 0) in (
+    let z = get_or s.args.values a.loop-k.k (pos 0) in (
       omega arith,
-      test_more none (pos 0) s.args.t1 (every none s.args.t1) a.loop.k a.loop.zeros (eqb (of_z w32 z) 0) (omega (arith, seven s)) a.loop.invariant.1
-          (zero_bits z (fits_ok w32 z c.zero.given)),
+      test_more none (pos 0) s.args.values (every none s.args.values) a.loop-k.k a.loop-k.zeros (eqb (of_z w32 z) 0) (omega (arith, seven s)) a.loop-k.invariant.1
+          (zero_bits z (fits_ok w32 z c.zero-1.given)),
     )
 
-returns : tie.Need-returns invariant_loop decreases-loop
+returns : tie.Need-returns invariant-loop-k decreases-loop-k
 returns c =
     let a = c.before in
     let s = a.before in
-    ap not (test_done none (pos 0) s.args.t1 (every none s.args.t1) a.loop.k a.loop.zeros (omega (arith, seven s)) a.loop.invariant.1)
+    ap not (test_done none (pos 0) s.args.values (every none s.args.values) a.loop-k.k a.loop-k.zeros (omega (arith, seven s)) a.loop-k.invariant.1)
 
 pub some_value_spec : {M : Type 1} → statement M
 some_value_spec =
     tie.close
     (tie.spec
-    invariant_loop
-    decreases-loop
-    loop_holds
-    mul-zero
-    array-copy-out-zero
-    add-k
-    loop-less
-    loop_again
+    invariant-loop-k
+    decreases-loop-k
+    loop-k-init
+    offset_bounds-values-k
+    bounds-values-k
+    overflow_step-k
+    loop-k-smaller
+    loop-k-preserved
     returns)

@@ -15,17 +15,17 @@ use Rattle.coefficients.proofs.handed.told_as.Tie as tie
 fine-requires : tie.Need-fine-requires
 fine-requires c κs = search rules
 
-fine-ok : (c : tie.Then1) → quantiser_fine c.before.before.args.q ≡ true
-fine-ok c = sym c.before.fine.ensures ∙ c.if1.taken
+fine-ok : (c : tie.Then-fine) → quantiser_fine c.args.q ≡ true
+fine-ok c = sym c.fine.ensures ∙ c.if-fine.true
 
-cast_result : tie.Need-cast-result
-cast_result c = let q = c.before.before.args.q in fits_mag 31 tt (pos q) (quantiser_range q (fine-ok c)).1
+overflow_cast-result : tie.Need-overflow_cast-result
+overflow_cast-result c = let q = c.args.q in fits_mag 31 tt (pos q) (quantiser_range q (fine-ok c)).1
+
+returns-then-fine : tie.Need-returns-then-fine
+returns-then-fine c = let r = quantiser_range c.args.q (fine-ok c) in rw (fine-ok c) (to_z_pos w32 (omega arith))
 
 returns : tie.Need-returns
-returns c = let r = quantiser_range c.before.before.args.q (fine-ok c) in rw (fine-ok c) (to_z_pos w32 (omega arith))
-
-returns_2 : tie.Need-returns-2
-returns_2 c = rw (sym c.before.fine.ensures ∙ c.if1.left)
+returns c = rw (sym c.fine.ensures ∙ c.if-fine.false)
 
 pub told_as_spec : {M : Type 1} → statement M
-told_as_spec = tie.close (tie.spec fine-requires cast_result returns returns_2)
+told_as_spec = tie.close (tie.spec fine-requires overflow_cast-result returns-then-fine returns)

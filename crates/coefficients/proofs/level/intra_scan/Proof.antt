@@ -3,14 +3,14 @@ use borrow.Author.Rules.{rules}
 use Rattle.coefficients.proofs.level.intra_scan.Statement.{statement}
 use Rattle.coefficients.proofs.level.intra_scan.Tie as tie
 
+returns-then-alternate_vertical_scan : tie.Need-returns-then-alternate_vertical_scan
+returns-then-alternate_vertical_scan c = search rules
+
+select_scan_type-requires : tie.Need-select_scan_type-requires
+select_scan_type-requires c κs = search rules
+
 returns : tie.Need-returns
-returns c = search rules
-
-select-scan-type-requires : tie.Need-select-scan-type-requires
-select-scan-type-requires c κs = search rules
-
-returns_2 : tie.Need-returns-2
-returns_2 c = rw c.before.if1.false c.select-scan-type.ensures
+returns c = rw c.if-alternate_vertical_scan.false c.select_scan_type.ensures
 
 pub intra_scan_spec : {M : Type 1} → statement M
-intra_scan_spec = tie.close (tie.spec returns select-scan-type-requires returns_2)
+intra_scan_spec = tie.close (tie.spec returns-then-alternate_vertical_scan select_scan_type-requires returns)

@@ -17,103 +17,103 @@ f b v u = saturated (cell b v u)
 abbrev z : ℕ → ℕ → ℤ
 z v u = pos 0
 
-abbrev invariant_loop2 : tie.invariant-loop2
-invariant_loop2 b out₀ v u₀ out u = (v < 8) × (u ≤ 8) × (out ≡ filled 8 8 (f b) z v u)
+abbrev invariant-loop-u : tie.invariant-loop-u
+invariant-loop-u b out₀ v u₀ out u = (v < 8) × (u ≤ 8) × (out ≡ filled 8 8 (f b) z v u)
 
-abbrev decreases-loop2 : tie.decreases-loop2
-decreases-loop2 b out₀ v u₀ out u = 8 - u
+abbrev decreases-loop-u : tie.decreases-loop-u
+decreases-loop-u b out₀ v u₀ out u = 8 - u
 
-abbrev invariant_loop : tie.invariant-loop
-invariant_loop b out₀ v₀ out v = (v ≤ 8) × (out ≡ rows 8 8 (f b) z v)
+abbrev invariant-loop-v : tie.invariant-loop-v
+invariant-loop-v b out₀ v₀ out v = (v ≤ 8) × (out ≡ rows 8 8 (f b) z v)
 
-abbrev decreases-loop : tie.decreases-loop
-decreases-loop b out₀ v₀ out v = 8 - v
+abbrev decreases-loop-v : tie.decreases-loop-v
+decreases-loop-v b out₀ v₀ out v = 8 - v
 
-loop_holds : tie.Need-loop-init invariant_loop2 decreases-loop2 invariant_loop decreases-loop
+loop-v-init : tie.Need-loop-v-init invariant-loop-u decreases-loop-u invariant-loop-v decreases-loop-v
 unfolding build
-loop_holds c = (omega arith, rows_none 8 8 (f c.args.t1) z _ refl)
+loop-v-init c = (omega arith, rows_none 8 8 (f c.args.block) z _ refl)
 
-loop2-holds : tie.Need-loop2-init invariant_loop2 decreases-loop2 invariant_loop decreases-loop
-loop2-holds c = (c.loop-test.true, omega arith, row-begins 8 8 _ _ _ _ c.loop-test.true c.before.loop.invariant.1)
+loop-u-init : tie.Need-loop-u-init invariant-loop-u decreases-loop-u invariant-loop-v decreases-loop-v
+loop-u-init c = (c.loop-v-test.true, omega arith, row-begins 8 8 _ _ _ _ c.loop-v-test.true c.loop-v.invariant.1)
 
-mul-saturate-qf : tie.Need-overflow-mul-saturate-qf invariant_loop2 decreases-loop2 invariant_loop decreases-loop
-mul-saturate-qf c = omega arith
+offset_bounds-block-v : tie.Need-offset_bounds-block-v invariant-loop-u decreases-loop-u invariant-loop-v decreases-loop-v
+offset_bounds-block-v c = omega arith
 
-mul-saturate-qf-2 : tie.Need-overflow-mul-saturate-qf-2 invariant_loop2 decreases-loop2 invariant_loop decreases-loop
-mul-saturate-qf-2 c = omega arith
+offset_bounds-block-u : tie.Need-offset_bounds-block-u invariant-loop-u decreases-loop-u invariant-loop-v decreases-loop-v
+offset_bounds-block-u c = omega arith
 
-index-1-saturate-qf : tie.Need-bounds-1-saturate-qf invariant_loop2 decreases-loop2 invariant_loop decreases-loop
-index-1-saturate-qf c = omega arith
+bounds-block-v : tie.Need-bounds-block-v invariant-loop-u decreases-loop-u invariant-loop-v decreases-loop-v
+bounds-block-v c = omega arith
 
-index-2-saturate-qf : tie.Need-bounds-2-saturate-qf invariant_loop2 decreases-loop2 invariant_loop decreases-loop
-index-2-saturate-qf c = omega arith
+bounds-block-u : tie.Need-bounds-block-u invariant-loop-u decreases-loop-u invariant-loop-v decreases-loop-v
+bounds-block-u c = omega arith
 
-saturate-qf-requires : tie.Need-saturate-qf-requires invariant_loop2 decreases-loop2 invariant_loop decreases-loop
-saturate-qf-requires c κs = tt
+saturate_qf-requires : tie.Need-saturate_qf-requires invariant-loop-u decreases-loop-u invariant-loop-v decreases-loop-v
+saturate_qf-requires c κs = tt
 
-mul-t17 : tie.Need-overflow-mul-t17 invariant_loop2 decreases-loop2 invariant_loop decreases-loop
-mul-t17 c = omega arith
+offset_bounds-out-v : tie.Need-offset_bounds-out-v invariant-loop-u decreases-loop-u invariant-loop-v decreases-loop-v
+offset_bounds-out-v c = omega arith
 
-mul-t20 : tie.Need-overflow-mul-t20 invariant_loop2 decreases-loop2 invariant_loop decreases-loop
-mul-t20 c = omega arith
+offset_bounds-out-u : tie.Need-offset_bounds-out-u invariant-loop-u decreases-loop-u invariant-loop-v decreases-loop-v
+offset_bounds-out-u c = omega arith
 
-index-1-out : tie.Need-bounds-1-out invariant_loop2 decreases-loop2 invariant_loop decreases-loop
-index-1-out c = omega arith
+bounds-out-v : tie.Need-bounds-out-v invariant-loop-u decreases-loop-u invariant-loop-v decreases-loop-v
+bounds-out-v c = omega arith
 
-index-2-out : tie.Need-bounds-2-out invariant_loop2 decreases-loop2 invariant_loop decreases-loop
-index-2-out c = omega arith
+bounds-out-u : tie.Need-bounds-out-u invariant-loop-u decreases-loop-u invariant-loop-v decreases-loop-v
+bounds-out-u c = omega arith
 
-add-u : tie.Need-overflow-add-u invariant_loop2 decreases-loop2 invariant_loop decreases-loop
-add-u c = omega arith
+overflow_step-u : tie.Need-overflow_step-u invariant-loop-u decreases-loop-u invariant-loop-v decreases-loop-v
+overflow_step-u c = omega arith
 
-loop2-less : tie.Need-loop2-smaller invariant_loop2 decreases-loop2 invariant_loop decreases-loop
-loop2-less c = omega arith
+loop-u-smaller : tie.Need-loop-u-smaller invariant-loop-u decreases-loop-u invariant-loop-v decreases-loop-v
+loop-u-smaller c = omega arith
 
-loop2-again : tie.Need-loop2-preserved invariant_loop2 decreases-loop2 invariant_loop decreases-loop
-loop2-again c =
-    let l = c.before.before.before.loop2 in
-    let z = cell c.before.before.before.before.before.before.args.t1 c.before.before.before.before.before.loop.v l.u in (
+loop-u-preserved : tie.Need-loop-u-preserved invariant-loop-u decreases-loop-u invariant-loop-v decreases-loop-v
+loop-u-preserved c =
+    let l = c.loop-u in
+    let z = cell c.args.block c.loop-v.v l.u in (
       l.invariant.0,
       omega arith,
-      fill_more 8 8 _ _ (pos 0) _ _ _ _ _ l.invariant.0 c.before.before.loop2-test.true l.invariant.2
-          (held c.saturate-qf.result c.saturate-qf.type-inv ∙ c.saturate-qf.ensures ∙ ap saturated (held z c.before.saturate-qf-arg.given)),
+      fill_more 8 8 _ _ (pos 0) _ _ _ _ _ l.invariant.0 c.loop-u-test.true l.invariant.2
+          (held c.saturate_qf.result c.saturate_qf.type_inv ∙ c.saturate_qf.ensures ∙ ap saturated (held z c.saturate_qf-arg-1.given)),
     )
 
-add-v : tie.Need-overflow-add-v invariant_loop2 decreases-loop2 invariant_loop decreases-loop
-add-v c = omega arith
+overflow_step-v : tie.Need-overflow_step-v invariant-loop-u decreases-loop-u invariant-loop-v decreases-loop-v
+overflow_step-v c = omega arith
 
-loop-less : tie.Need-loop-smaller invariant_loop2 decreases-loop2 invariant_loop decreases-loop
-loop-less c = omega arith
+loop-v-smaller : tie.Need-loop-v-smaller invariant-loop-u decreases-loop-u invariant-loop-v decreases-loop-v
+loop-v-smaller c = omega arith
 
-loop_again : tie.Need-loop-preserved invariant_loop2 decreases-loop2 invariant_loop decreases-loop
-loop_again c = (omega arith, row_ends 8 8 _ _ _ _ _ c.before.loop2.invariant.0 c.loop2-test.false c.before.loop2.invariant.1 c.before.loop2.invariant.2)
+loop-v-preserved : tie.Need-loop-v-preserved invariant-loop-u decreases-loop-u invariant-loop-v decreases-loop-v
+loop-v-preserved c = (omega arith, row_ends 8 8 _ _ _ _ _ c.loop-u.invariant.0 c.loop-u-test.false c.loop-u.invariant.1 c.loop-u.invariant.2)
 
-returns : tie.Need-returns invariant_loop2 decreases-loop2 invariant_loop decreases-loop
-returns c = rows_all 8 8 _ _ _ _ c.loop-test.false c.before.loop.invariant.0 c.before.loop.invariant.1
+returns : tie.Need-returns invariant-loop-u decreases-loop-u invariant-loop-v decreases-loop-v
+returns c = rows_all 8 8 _ _ _ _ c.loop-v-test.false c.loop-v.invariant.0 c.loop-v.invariant.1
 
 pub saturate_block_spec : {M : Type 1} → statement M
 saturate_block_spec =
     tie.close
     (tie.spec
-    invariant_loop2
-    decreases-loop2
-    invariant_loop
-    decreases-loop
-    loop_holds
-    loop2-holds
-    mul-saturate-qf
-    mul-saturate-qf-2
-    index-1-saturate-qf
-    index-2-saturate-qf
-    saturate-qf-requires
-    mul-t17
-    mul-t20
-    index-1-out
-    index-2-out
-    add-u
-    loop2-less
-    loop2-again
-    add-v
-    loop-less
-    loop_again
+    invariant-loop-u
+    decreases-loop-u
+    invariant-loop-v
+    decreases-loop-v
+    loop-v-init
+    loop-u-init
+    offset_bounds-block-v
+    offset_bounds-block-u
+    bounds-block-v
+    bounds-block-u
+    saturate_qf-requires
+    offset_bounds-out-v
+    offset_bounds-out-u
+    bounds-out-v
+    bounds-out-u
+    overflow_step-u
+    loop-u-smaller
+    loop-u-preserved
+    overflow_step-v
+    loop-v-smaller
+    loop-v-preserved
     returns)

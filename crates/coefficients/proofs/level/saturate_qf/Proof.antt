@@ -10,7 +10,7 @@ clamp-requires : tie.Need-clamp-requires
 clamp-requires c κs = search rules
 
 returns : tie.Need-returns
-returns c = held c.clamp.result c.clamp.type-inv ∙ (simp (to_z-of_z, c.before.ranges.value) at c.clamp.ensures)
+returns c = held c.clamp.result c.clamp.type_inv ∙ (simp (to_z-of_z, c.ranges.value) at c.clamp.ensures)
 
 pub saturate_qf_spec : {M : Type 1} → statement M
 saturate_qf_spec = tie.close (tie.spec clamp-requires returns)

@@ -14,102 +14,102 @@ use Rattle.coefficients.proofs.SideLaws.{row-abs, row_more, row-none}
 use Rattle.coefficients.proofs.short.add_row.Statement.{statement}
 use Rattle.coefficients.proofs.short.add_row.Tie as tie
 
-abbrev invariant_loop : tie.invariant-loop
-invariant_loop qf₀ more k₀ qf k = (k ≤ 7) × (qf ≡ row_added k more qf₀)
+abbrev invariant-loop-k : tie.invariant-loop-k
+invariant-loop-k qf₀ more k₀ qf k = (k ≤ 7) × (qf ≡ row_added k more qf₀)
 
-abbrev decreases-loop : tie.decreases-loop
-decreases-loop qf₀ more k₀ qf k = 7 - k
+abbrev decreases-loop-k : tie.decreases-loop-k
+decreases-loop-k qf₀ more k₀ qf k = 7 - k
 
-loop_holds : tie.Need-loop-init invariant_loop decreases-loop
-loop_holds c = (omega arith, row-none c.args.qf.now c.requires.0 c.args.t1)
+loop-k-init : tie.Need-loop-k-init invariant-loop-k decreases-loop-k
+loop-k-init c = (omega arith, row-none c.args.qf.now c.requires.0 c.args.more)
 
-add-saturate-qf : tie.Need-overflow-add-saturate-qf invariant_loop decreases-loop
-add-saturate-qf c = omega arith
+overflow_add-k : tie.Need-overflow_add-k invariant-loop-k decreases-loop-k
+overflow_add-k c = omega arith
 
-mul-saturate-qf : tie.Need-overflow-mul-saturate-qf invariant_loop decreases-loop
-mul-saturate-qf c = omega arith
+offset_bounds-qf-k : tie.Need-offset_bounds-qf-k invariant-loop-k decreases-loop-k
+offset_bounds-qf-k c = omega arith
 
-index-1-saturate-qf : tie.Need-bounds-1-saturate-qf invariant_loop decreases-loop
-index-1-saturate-qf c = omega arith
+bounds-qf-0 : tie.Need-bounds-qf-0 invariant-loop-k decreases-loop-k
+bounds-qf-0 c = omega arith
 
-index-2-saturate-qf : tie.Need-bounds-2-saturate-qf invariant_loop decreases-loop
-index-2-saturate-qf c = omega arith
+bounds-qf-k : tie.Need-bounds-qf-k invariant-loop-k decreases-loop-k
+bounds-qf-k c = omega arith
 
-mul-saturate-qf-2 : tie.Need-overflow-mul-saturate-qf-2 invariant_loop decreases-loop
-mul-saturate-qf-2 c = omega arith
+offset_bounds-more-k : tie.Need-offset_bounds-more-k invariant-loop-k decreases-loop-k
+offset_bounds-more-k c = omega arith
 
-array-copy-out-saturate-qf : tie.Need-array-copy-out-saturate-qf invariant_loop decreases-loop
-array-copy-out-saturate-qf c = omega arith
+bounds-more-k : tie.Need-bounds-more-k invariant-loop-k decreases-loop-k
+bounds-more-k c = omega arith
 
 -- the level, and its prediction
-abbrev sum : tie.After-saturate-qf-arg2 invariant_loop decreases-loop → Sx w32
+abbrev sum : tie.After-saturate_qf-arg-in-loop-k-1 invariant-loop-k decreases-loop-k → Sx w32
 sum c =
     let s = c.before.before.before.before in
-    let l = c.before.before.before.loop in
-    let h = c.before.before.loop-test.true in
-    loc (cell l.qf 0 (l.k + 1)) 2048 (row-abs s.args.qf.now s.requires.0 s.args.t1 l.k h l.qf l.invariant.1)
-    ⊞ loc (get_or s.args.t1 l.k (pos 0)) 1046528 (s.requires.1 l.k h)
+    let l = c.loop-k in
+    let h = c.loop-k-test.true in
+    loc (cell l.qf 0 (l.k + 1)) 2048 (row-abs s.args.qf.now s.requires.0 s.args.more l.k h l.qf l.invariant.1)
+    ⊞ loc (get_or s.args.more l.k (pos 0)) 1046528 (s.requires.1 l.k h)
 
-add-saturate-qf-2 : tie.Need-overflow-add-saturate-qf-2 invariant_loop decreases-loop
-add-saturate-qf-2 c = fits (sum c) tt
+overflow_add-qf : tie.Need-overflow_add-qf invariant-loop-k decreases-loop-k
+overflow_add-qf c = fits (sum c) tt
 
-saturate-qf-requires : tie.Need-saturate-qf-requires invariant_loop decreases-loop
-saturate-qf-requires c κs = tt
+saturate_qf-requires : tie.Need-saturate_qf-requires invariant-loop-k decreases-loop-k
+saturate_qf-requires c κs = tt
 
-add-t19 : tie.Need-overflow-add-t19 invariant_loop decreases-loop
-add-t19 c = omega arith
+overflow_add-k-in-loop-k : tie.Need-overflow_add-k-in-loop-k invariant-loop-k decreases-loop-k
+overflow_add-k-in-loop-k c = omega arith
 
-mul-t22 : tie.Need-overflow-mul-t22 invariant_loop decreases-loop
-mul-t22 c = omega arith
+offset_bounds-qf-k-in-loop-k : tie.Need-offset_bounds-qf-k-in-loop-k invariant-loop-k decreases-loop-k
+offset_bounds-qf-k-in-loop-k c = omega arith
 
-index-1-qf : tie.Need-bounds-1-qf invariant_loop decreases-loop
-index-1-qf c = omega arith
+bounds-qf-0-in-loop-k : tie.Need-bounds-qf-0-in-loop-k invariant-loop-k decreases-loop-k
+bounds-qf-0-in-loop-k c = omega arith
 
-index-2-qf : tie.Need-bounds-2-qf invariant_loop decreases-loop
-index-2-qf c = omega arith
+bounds-qf-k-in-loop-k : tie.Need-bounds-qf-k-in-loop-k invariant-loop-k decreases-loop-k
+bounds-qf-k-in-loop-k c = omega arith
 
-add-k : tie.Need-overflow-add-k invariant_loop decreases-loop
-add-k c = omega arith
+overflow_step-k : tie.Need-overflow_step-k invariant-loop-k decreases-loop-k
+overflow_step-k c = omega arith
 
-loop-less : tie.Need-loop-smaller invariant_loop decreases-loop
-loop-less c = omega arith
+loop-k-smaller : tie.Need-loop-k-smaller invariant-loop-k decreases-loop-k
+loop-k-smaller c = omega arith
 
-loop_again : tie.Need-loop-preserved invariant_loop decreases-loop
-loop_again c =
+loop-k-preserved : tie.Need-loop-k-preserved invariant-loop-k decreases-loop-k
+loop-k-preserved c =
     let s = c.before.before.before.before.before in
-    let l = c.before.before.before.before.loop in (
+    let l = c.loop-k in (
       omega arith,
-      row_more s.args.qf.now s.requires.0 s.args.t1 l.k c.before.before.before.loop-test.true l.qf _ l.invariant.1
-          (held c.saturate-qf.result c.saturate-qf.type-inv ∙ c.saturate-qf.ensures ∙ ap saturated (back (sum c.before) tt)),
+      row_more s.args.qf.now s.requires.0 s.args.more l.k c.loop-k-test.true l.qf _ l.invariant.1
+          (held c.saturate_qf.result c.saturate_qf.type_inv ∙ c.saturate_qf.ensures ∙ ap saturated (back (sum c.before) tt)),
     )
 
-returns : tie.Need-returns invariant_loop decreases-loop
+returns : tie.Need-returns invariant-loop-k decreases-loop-k
 returns c =
     let s = c.before.before in
-    let l = c.before.loop in
+    let l = c.loop-k in
     let e : l.k ≡ 7 = omega arith in
-    l.invariant.1 ∙ ap (λ (n : ℕ). row_added n s.args.t1 s.args.qf.now) e
+    l.invariant.1 ∙ ap (λ (n : ℕ). row_added n s.args.more s.args.qf.now) e
 
 pub add_row_spec : {M : Type 1} → statement M
 add_row_spec =
     tie.close
     (tie.spec
-    invariant_loop
-    decreases-loop
-    loop_holds
-    add-saturate-qf
-    mul-saturate-qf
-    index-1-saturate-qf
-    index-2-saturate-qf
-    mul-saturate-qf-2
-    array-copy-out-saturate-qf
-    add-saturate-qf-2
-    saturate-qf-requires
-    add-t19
-    mul-t22
-    index-1-qf
-    index-2-qf
-    add-k
-    loop-less
-    loop_again
+    invariant-loop-k
+    decreases-loop-k
+    loop-k-init
+    overflow_add-k
+    offset_bounds-qf-k
+    bounds-qf-0
+    bounds-qf-k
+    offset_bounds-more-k
+    bounds-more-k
+    overflow_add-qf
+    saturate_qf-requires
+    overflow_add-k-in-loop-k
+    offset_bounds-qf-k-in-loop-k
+    bounds-qf-0-in-loop-k
+    bounds-qf-k-in-loop-k
+    overflow_step-k
+    loop-k-smaller
+    loop-k-preserved
     returns)

@@ -13,63 +13,63 @@ use Rattle.numbers.proofs.EveryLaws.{test_done, test_more}
 use Rattle.coefficients.proofs.short.all_fine.Statement.{statement}
 use Rattle.coefficients.proofs.short.all_fine.Tie as tie
 
-abbrev invariant_loop : tie.invariant-loop
-invariant_loop qfs fine₀ k₀ fine k = (1 ≤ k) × (k ≤ 64) × (every level_fine (drop 1 qfs) ≡ (fine && every level_fine (drop k qfs)))
+abbrev invariant-loop-k : tie.invariant-loop-k
+invariant-loop-k qfs fine₀ k₀ fine k = (1 ≤ k) × (k ≤ 64) × (every level_fine (drop 1 qfs) ≡ (fine && every level_fine (drop k qfs)))
 
-abbrev decreases-loop : tie.decreases-loop
-decreases-loop qfs fine₀ k₀ fine k = 64 - k
+abbrev decreases-loop-k : tie.decreases-loop-k
+decreases-loop-k qfs fine₀ k₀ fine k = 64 - k
 
-returns : tie.Need-returns invariant_loop decreases-loop
-returns c = let qfs = c.before.args.qfs.now in rw (ne_eqb (length qfs) 64 c.if1.true)
+returns-then-qfs-ne64 : tie.Need-returns-then-qfs-ne64 invariant-loop-k decreases-loop-k
+returns-then-qfs-ne64 c = let qfs = c.args.qfs.now in rw (ne_eqb (length qfs) 64 c.if-qfs-ne64.true)
 
-loop_holds : tie.Need-loop-init invariant_loop decreases-loop
-loop_holds c = (omega arith, omega arith, refl)
+loop-k-init : tie.Need-loop-k-init invariant-loop-k decreases-loop-k
+loop-k-init c = (omega arith, omega arith, refl)
 
-mul-fine : tie.Need-overflow-mul-fine invariant_loop decreases-loop
-mul-fine c = omega arith
+offset_bounds-qfs-k : tie.Need-offset_bounds-qfs-k invariant-loop-k decreases-loop-k
+offset_bounds-qfs-k c = omega arith
 
-shared-slice-copy-out-fine : tie.Need-shared-slice-copy-out-fine invariant_loop decreases-loop
-shared-slice-copy-out-fine c = omega arith
+bounds-qfs-k : tie.Need-bounds-qfs-k invariant-loop-k decreases-loop-k
+bounds-qfs-k c = omega arith
 
-fine-requires : tie.Need-fine-requires invariant_loop decreases-loop
-fine-requires c κs = tt
+fine-level-requires : tie.Need-fine-level-requires invariant-loop-k decreases-loop-k
+fine-level-requires c κs = tt
 
-add-k : tie.Need-overflow-add-k invariant_loop decreases-loop
-add-k c = omega arith
+overflow_step-k : tie.Need-overflow_step-k invariant-loop-k decreases-loop-k
+overflow_step-k c = omega arith
 
-loop-less : tie.Need-loop-smaller invariant_loop decreases-loop
-loop-less c = omega arith
+loop-k-smaller : tie.Need-loop-k-smaller invariant-loop-k decreases-loop-k
+loop-k-smaller c = omega arith
 
-loop_again : tie.Need-loop-preserved invariant_loop decreases-loop
-loop_again c =
+loop-k-preserved : tie.Need-loop-k-preserved invariant-loop-k decreases-loop-k
+loop-k-preserved c =
     let e = c.before.before.before.before in
-    let qfs = e.before.args.qfs.now in
-    let l = c.before.before.before.loop in (
+    let qfs = e.args.qfs.now in
+    let l = c.loop-k in (
       omega arith,
       omega arith,
-      test_more level_fine (pos 0) qfs (every level_fine (drop 1 qfs)) l.k l.fine c.fine.result (omega arith) l.invariant.2
-          (c.fine.ensures ∙ ap level_fine (held (get_or qfs l.k (pos 0)) c.before.fine-arg.given)),
+      test_more level_fine (pos 0) qfs (every level_fine (drop 1 qfs)) l.k l.fine c.fine-level.result (omega arith) l.invariant.2
+          (c.fine-level.ensures ∙ ap level_fine (held (get_or qfs l.k (pos 0)) c.fine-arg-1.given)),
     )
 
-returns_2 : tie.Need-returns-2 invariant_loop decreases-loop
-returns_2 c =
+returns : tie.Need-returns invariant-loop-k decreases-loop-k
+returns c =
     let e = c.before.before in
-    let qfs = e.before.args.qfs.now in
-    let l = c.before.loop in
-    rw (eq-eqb (length qfs) 64 e.if1.false) (test_done level_fine (pos 0) qfs (every level_fine (drop 1 qfs)) l.k l.fine (omega arith) l.invariant.2)
+    let qfs = e.args.qfs.now in
+    let l = c.loop-k in
+    rw (eq-eqb (length qfs) 64 e.if-qfs-ne64.false) (test_done level_fine (pos 0) qfs (every level_fine (drop 1 qfs)) l.k l.fine (omega arith) l.invariant.2)
 
 pub all_fine_spec : {M : Type 1} → statement M
 all_fine_spec =
     tie.close
     (tie.spec
-    invariant_loop
-    decreases-loop
-    returns
-    loop_holds
-    mul-fine
-    shared-slice-copy-out-fine
-    fine-requires
-    add-k
-    loop-less
-    loop_again
-    returns_2)
+    invariant-loop-k
+    decreases-loop-k
+    returns-then-qfs-ne64
+    loop-k-init
+    offset_bounds-qfs-k
+    bounds-qfs-k
+    fine-level-requires
+    overflow_step-k
+    loop-k-smaller
+    loop-k-preserved
+    returns)

@@ -15,59 +15,59 @@ use Rattle.coefficients.proofs.RefusalLaws.{numbers_passing}
 use Rattle.coefficients.proofs.short.direction_by.Statement.{statement}
 use Rattle.coefficients.proofs.short.direction_by.Tie as tie
 
-element-copy-out-select-dc-direction : tie.Need-element-copy-out-select-dc-direction
-element-copy-out-select-dc-direction c = search rules
+bounds-n-0 : tie.Need-bounds-n-0
+bounds-n-0 c = search rules
 
-element-copy-out-select-dc-direction-2 : tie.Need-element-copy-out-select-dc-direction-2
-element-copy-out-select-dc-direction-2 c = search rules
+bounds-n-1 : tie.Need-bounds-n-1
+bounds-n-1 c = search rules
 
-element-copy-out-select-dc-direction-3 : tie.Need-element-copy-out-select-dc-direction-3
-element-copy-out-select-dc-direction-3 c = search rules
+bounds-n-2 : tie.Need-bounds-n-2
+bounds-n-2 c = search rules
 
-select-dc-direction-requires : tie.Need-select-dc-direction-requires
-select-dc-direction-requires c κs = search rules
+select_dc_direction-requires : tie.Need-select_dc_direction-requires
+select_dc_direction-requires c κs = search rules
 
 -- the answer is the direction of the first three numbers
-direction_is : (c : tie.After-select-dc-direction) → c.select-dc-direction.result ≡ Is (direction_by (numbered c.before.before.before.before.args.n.now))
+direction_is : (c : tie.After-select_dc_direction) → c.select_dc_direction.result ≡ Is (direction_by (numbered c.args.n.now))
 direction_is c =
     let s = c.before.before.before.before in
     let n = s.args.n.now in
-    let a = held (get_or n 0 (pos 0)) c.before.before.before.select-dc-direction-arg.given in
-    let b = held (get_or n 1 (pos 0)) c.before.before.select-dc-direction-arg2.given in
-    let d = held (get_or n 2 (pos 0)) c.before.select-dc-direction-arg3.given in
+    let a = held (get_or n 0 (pos 0)) c.select_dc_direction-arg-1.given in
+    let b = held (get_or n 1 (pos 0)) c.select_dc_direction-arg-2-1.given in
+    let d = held (get_or n 2 (pos 0)) c.select_dc_direction-arg-3-1.given in
     let p = numbers_passing n s.requires in
-    c.select-dc-direction.ensures.0
+    c.select_dc_direction.ensures.0
     ∙ (λ i. direction_answer (a i) (b i) (d i))
     ∙ direction_given (get_or n 0 (pos 0)) (get_or n 1 (pos 0)) (get_or n 2 (pos 0)) p.a p.b p.c
 
-enum_told : tie.Need-enum-told
-enum_told c = search rules
+enum_told-1 : tie.Need-enum_told-1
+enum_told-1 c = search rules
 
-enum-known-direction : tie.Need-enum-known-direction
-enum-known-direction c = search rules
+enum_known-direction : tie.Need-enum_known-direction
+enum_known-direction c = search rules
 
-returns : tie.Need-returns
-returns c =
-    let t = c.enum_told.given.1 in
-    let u = direction_is c.before.before in
+returns-in-Refused : tie.Need-returns-in-Refused
+returns-in-Refused c =
+    let t = c.in-Refused.is in
+    let u = direction_is c.before in
     let z : ◌≡◌ {A = ℕ} 0 1 = cc in
     absurd (omega arith)
 
-returns_2 : tie.Need-returns-2
-returns_2 c =
-    let t = c.before.direction.given.1 in
-    let u = direction_is c.before.before.before in
+returns-in-Is : tie.Need-returns-in-Is
+returns-in-Is c =
+    let t = c.in-Is.is in
+    let u = direction_is c.before in
     cc
 
 pub direction_by_spec : {M : Type 1} → statement M
 direction_by_spec =
     tie.close
     (tie.spec
-    element-copy-out-select-dc-direction
-    element-copy-out-select-dc-direction-2
-    element-copy-out-select-dc-direction-3
-    select-dc-direction-requires
-    enum_told
-    enum-known-direction
-    returns
-    returns_2)
+    bounds-n-0
+    bounds-n-1
+    bounds-n-2
+    select_dc_direction-requires
+    enum_told-1
+    enum_known-direction
+    returns-in-Refused
+    returns-in-Is)

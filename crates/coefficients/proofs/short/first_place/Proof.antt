@@ -9,21 +9,21 @@ use Rattle.scan_rows.proofs.UpToLaws.{up_to_above, up_to_below}
 use Rattle.coefficients.proofs.short.first_place.Statement.{statement}
 use Rattle.coefficients.proofs.short.first_place.Tie as tie
 
-returns : tie.Need-returns
-returns c = let a = c.before.args in sym (up_to_above a.end a.qfs.now 0 (omega arith))
+returns-then-end-eq0 : tie.Need-returns-then-end-eq0
+returns-then-end-eq0 c = let a = c.args in sym (up_to_above a.end a.qfs.now 0 (omega arith))
 
-returns_2 : tie.Need-returns-2
-returns_2 c =
-    let a = c.before.before.args in
+returns-then-qfs-eq0 : tie.Need-returns-then-qfs-eq0
+returns-then-qfs-eq0 c =
+    let a = c.args in
     sym (up_to_below a.end a.qfs.now 0 (omega arith) (omega arith) ∙ get_or-eq_default a.qfs.now (pos 0) {n = 0} (omega arith))
 
-shared-slice-copy-out-result : tie.Need-shared-slice-copy-out-result
-shared-slice-copy-out-result c = search rules
+bounds-qfs-0 : tie.Need-bounds-qfs-0
+bounds-qfs-0 c = search rules
 
-returns_3 : tie.Need-returns-3
-returns_3 c =
-    let a = c.before.before.before.args in
-    held (get_or a.qfs.now 0 (pos 0)) c.result.given ∙ sym (up_to_below a.end a.qfs.now 0 (omega arith) (omega arith))
+returns : tie.Need-returns
+returns c =
+    let a = c.args in
+    held (get_or a.qfs.now 0 (pos 0)) c.result-1.given ∙ sym (up_to_below a.end a.qfs.now 0 (omega arith) (omega arith))
 
 pub first_place_spec : {M : Type 1} → statement M
-first_place_spec = tie.close (tie.spec returns returns_2 shared-slice-copy-out-result returns_3)
+first_place_spec = tie.close (tie.spec returns-then-end-eq0 returns-then-qfs-eq0 bounds-qfs-0 returns)

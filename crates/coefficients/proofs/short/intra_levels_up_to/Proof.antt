@@ -14,62 +14,62 @@ use Rattle.coefficients.proofs.short.intra_levels_up_to.Statement.{statement}
 use Rattle.coefficients.proofs.short.intra_levels_up_to.Tie as tie
 
 -- the three tests that passed
-context-ok : (c : tie.Else1) → quantiser_fine c.before.before.args.quantiser-scale ≡ true
-context-ok c = flag_passes c.before.fine.ensures c.if1.left
+context-ok : (c : tie.Else-not-fine) → quantiser_fine c.args.quantiser_scale ≡ true
+context-ok c = flag_passes c.fine.ensures c.if-not-fine.false
 
-numbers_ok : (c : tie.Else2) → predictors_fine (numbered c.before.before.before.before.args.numbers.now) ≡ true
-numbers_ok c = flag_passes c.before.needed-fine.ensures c.if2.left
+numbers_ok : (c : tie.Else-not-needed_fine) → predictors_fine (numbered c.args.numbers.now) ≡ true
+numbers_ok c = flag_passes c.needed_fine.ensures c.if-not-needed_fine.false
 
-places-ok : (c : tie.Else3) → let a = c.before.before.before.before.before.before.args in places_fine (up_to a.end a.qfs.now) ≡ true
-places-ok c = flag_passes c.before.places-fine.ensures c.if3.left
+places-ok : (c : tie.Else-not-places_fine) → let a = c.args in places_fine (up_to a.end a.qfs.now) ≡ true
+places-ok c = flag_passes c.places_fine.ensures c.if-not-places_fine.false
 
 fine-requires : tie.Need-fine-requires
 fine-requires c κs = search rules
 
-returns : tie.Need-returns
-returns c =
-    let a = c.before.before.args in
-    also stage_outcome (rw (flag_refuses c.before.fine.ensures c.if1.taken) (refl, refl)) (levels_due_lem a.quantiser-scale (numbered a.numbers.now) (up_to a.end a.qfs.now))
+returns-then-not-fine : tie.Need-returns-then-not-fine
+returns-then-not-fine c =
+    let a = c.args in
+    also stage_outcome (rw (flag_refuses c.fine.ensures c.if-not-fine.true) (refl, refl)) (levels_due_lem a.quantiser_scale (numbered a.numbers.now) (up_to a.end a.qfs.now))
 
-needed-fine-requires : tie.Need-needed-fine-requires
-needed-fine-requires c κs = search rules
+needed_fine-requires : tie.Need-needed_fine-requires
+needed_fine-requires c κs = search rules
 
-returns_2 : tie.Need-returns-2
-returns_2 c =
-    let a = c.before.before.before.before.args in
-    also stage_outcome (rw (context-ok c.before.before, flag_refuses c.before.needed-fine.ensures c.if2.taken) (refl, refl)) (levels_due_lem a.quantiser-scale (numbered a.numbers.now) (up_to a.end a.qfs.now))
+returns-then-not-needed_fine : tie.Need-returns-then-not-needed_fine
+returns-then-not-needed_fine c =
+    let a = c.args in
+    also stage_outcome (rw (context-ok c.before.before, flag_refuses c.needed_fine.ensures c.if-not-needed_fine.true) (refl, refl)) (levels_due_lem a.quantiser_scale (numbered a.numbers.now) (up_to a.end a.qfs.now))
 
-places-fine-requires : tie.Need-places-fine-requires
-places-fine-requires c κs = search rules
+places_fine-requires : tie.Need-places_fine-requires
+places_fine-requires c κs = search rules
 
-returns_3 : tie.Need-returns-3
-returns_3 c =
+returns-then-not-places_fine : tie.Need-returns-then-not-places_fine
+returns-then-not-places_fine c =
     let e = c.before.before in
-    let a = e.before.before.before.before.args in
-    also stage_outcome (rw (context-ok e.before.before, numbers_ok e, flag_refuses c.before.places-fine.ensures c.if3.taken) (refl, refl)) (levels_due_lem a.quantiser-scale (numbered a.numbers.now) (up_to a.end a.qfs.now))
+    let a = e.args in
+    also stage_outcome (rw (context-ok e.before.before, numbers_ok e, flag_refuses c.places_fine.ensures c.if-not-places_fine.true) (refl, refl)) (levels_due_lem a.quantiser_scale (numbered a.numbers.now) (up_to a.end a.qfs.now))
 
-put-levels-requires : tie.Need-put-levels-requires
-put-levels-requires c κs =
+put_levels-requires : tie.Need-put_levels-requires
+put_levels-requires c κs =
     let e = c.before.before.before in
     (context-ok e.before.before, numbers_ok e, places-ok c.before)
 
-returns_4 : tie.Need-returns-4
-returns_4 c =
+returns : tie.Need-returns
+returns c =
     let l = c.before.before in
     let e = l.before.before in
-    let a = e.before.before.before.before.args in
-    also stage_outcome (rw (context-ok e.before.before, numbers_ok e, places-ok l) (refl, c.put-levels.ensures))
-    (levels_due_lem a.quantiser-scale (numbered a.numbers.now) (up_to a.end a.qfs.now))
+    let a = e.args in
+    also stage_outcome (rw (context-ok e.before.before, numbers_ok e, places-ok l) (refl, c.put_levels.ensures))
+    (levels_due_lem a.quantiser_scale (numbered a.numbers.now) (up_to a.end a.qfs.now))
 
 pub intra_levels_up_to_spec : {M : Type 1} → statement M
 intra_levels_up_to_spec =
     tie.close
     (tie.spec
     fine-requires
-    returns
-    needed-fine-requires
-    returns_2
-    places-fine-requires
-    returns_3
-    put-levels-requires
-    returns_4)
+    returns-then-not-fine
+    needed_fine-requires
+    returns-then-not-needed_fine
+    places_fine-requires
+    returns-then-not-places_fine
+    put_levels-requires
+    returns)

@@ -15,33 +15,33 @@ use Rattle.scan_rows.proofs.UpToLaws.{up_to_fine, up_to_length}
 use Rattle.coefficients.proofs.short.levels_fine.Statement.{statement}
 use Rattle.coefficients.proofs.short.levels_fine.Tie as tie
 
-all-fine-requires : tie.Need-all-fine-requires
-all-fine-requires c κs = search rules
+all_fine-requires : tie.Need-all_fine-requires
+all_fine-requires c κs = search rules
+
+returns-then-all_fine : tie.Need-returns-then-all_fine
+returns-then-all_fine c =
+    let a = c.args in
+    let f = c.all_fine in
+    sym (up_to_fine a.end a.qfs.now (both_true (eqb (length a.qfs.now) 64) (every level_fine (drop 1 a.qfs.now)) (sym f.ensures ∙ c.if-all_fine.true)).1)
+
+up_to-places-requires : tie.Need-up_to-places-requires
+up_to-places-requires c κs = search rules
+
+slice_bounds-all_fine-end : tie.Need-slice_bounds-all_fine-end
+slice_bounds-all_fine-end c = search rules
+
+all_fine-requires-2 : tie.Need-all_fine-requires-2
+all_fine-requires-2 c κs = search rules
 
 returns : tie.Need-returns
 returns c =
-    let a = c.before.before.args in
-    let f = c.before.all-fine in
-    sym (up_to_fine a.end a.qfs.now (both_true (eqb (length a.qfs.now) 64) (every level_fine (drop 1 a.qfs.now)) (sym f.ensures ∙ c.if1.taken)).1)
-
-up-to-requires : tie.Need-up-to-requires
-up-to-requires c κs = search rules
-
-slice-aggregate-all-fine : tie.Need-slice-aggregate-all-fine
-slice-aggregate-all-fine c = search rules
-
-all-fine-requires-2 : tie.Need-all-fine-requires-2
-all-fine-requires-2 c κs = search rules
-
-returns_2 : tie.Need-returns-2
-returns_2 c =
-    let a = c.before.before.before.before.before.args in
+    let a = c.args in
     let places = up_to a.end a.qfs.now in
-    c.all-fine2.ensures
-    ∙ ap (λ (l : List ℤ). eqb (length l) 64 && every level_fine (drop 1 l)) c.before.before.up_to_lem.ensures
+    c.all_fine-2.ensures
+    ∙ ap (λ (l : List ℤ). eqb (length l) 64 && every level_fine (drop 1 l)) c.up_to-places.ensures
     ∙ ap (λ (b : Bool). b && every level_fine (drop 1 places)) (eq-eqb (length places) 64 (up_to_length a.end a.qfs.now))
 
 pub levels_fine_spec : {M : Type 1} → statement M
 levels_fine_spec =
     tie.close
-    (tie.spec all-fine-requires returns up-to-requires slice-aggregate-all-fine all-fine-requires-2 returns_2)
+    (tie.spec all_fine-requires returns-then-all_fine up_to-places-requires slice_bounds-all_fine-end all_fine-requires-2 returns)

@@ -22,49 +22,49 @@ use Rattle.coefficients.proofs.ShortLaws.{levels-predicted, scanned_levelled}
 use Rattle.coefficients.proofs.short.put_levels.Statement.{statement}
 use Rattle.coefficients.proofs.short.put_levels.Tie as tie
 
-direction-by-requires : tie.Need-direction-by-requires
-direction-by-requires c κs = search rules
+direction_by-direction-requires : tie.Need-direction_by-direction-requires
+direction_by-direction-requires c κs = search rules
 
-intra-scan-requires : tie.Need-intra-scan-requires
-intra-scan-requires c κs = search rules
+intra_scan-scan_type-requires : tie.Need-intra_scan-scan_type-requires
+intra_scan-scan_type-requires c κs = search rules
 
-first-place-requires : tie.Need-first-place-requires
-first-place-requires c κs = search rules
+first_place-difference-requires : tie.Need-first_place-difference-requires
+first_place-difference-requires c κs = search rules
 
 -- the place of the DC is a difference
-difference-is : (c : tie.After-first-place) → let a = c.before.before.before.args in to_z w32 (of_z w32 c.first-place.result) ≡ get_or (up_to a.end a.qfs.now) 0 (pos 0)
-difference-is c = held c.first-place.result c.first-place.ok ∙ c.first-place.ensures
+difference-is : (c : tie.After-first_place-difference) → let a = c.args in to_z w32 (of_z w32 c.first_place-difference.result) ≡ get_or (up_to a.end a.qfs.now) 0 (pos 0)
+difference-is c = held c.first_place-difference.result c.first_place-difference.type_inv ∙ c.first_place-difference.ensures
 
-dc-level-requires : tie.Need-dc-level-requires
-dc-level-requires c κs =
+dc_level-level-requires : tie.Need-dc_level-level-requires
+dc_level-level-requires c κs =
     let s = c.before.before.before in
     let l = up_to s.args.end s.args.qfs.now in
-    (ap difference_fine (difference-is c) ∙ (both_true (difference_fine (get_or l 0 (pos 0))) (every level_fine (drop 1 l)) s.pre.2).0, s.pre.0, s.pre.1)
+    (ap difference_fine (difference-is c) ∙ (both_true (difference_fine (get_or l 0 (pos 0))) (every level_fine (drop 1 l)) s.requires.2).0, s.requires.0, s.requires.1)
 
-put-scanned-requires : tie.Need-put-scanned-requires
-put-scanned-requires c κs = search rules
+put_scanned-requires : tie.Need-put_scanned-requires
+put_scanned-requires c κs = search rules
 
-abbrev start : tie.After-dc-level → tie.Start
+abbrev start : tie.After-dc_level-level → tie.Start
 start c = c.before.before.before.before
 
-abbrev direction : tie.After-dc-level → DcPredictionDirection
-direction c = c.before.before.before.direction-by.result
+abbrev direction : tie.After-dc_level-level → DcPredictionDirection
+direction c = c.direction_by-direction.result
 
-abbrev scan_of_lem : tie.After-dc-level → ScanType
-scan_of_lem c = c.before.before.intra-scan.result
+abbrev scan_of_lem : tie.After-dc_level-level → ScanType
+scan_of_lem c = c.intra_scan-scan_type.result
 
 -- the level of the DC is the sum of its place and its prediction, limited
-abbrev unlimited : tie.After-dc-level → ℤ
+abbrev unlimited : tie.After-dc_level-level → ℤ
 unlimited c =
     let a = (start c).args in
-    get_or (up_to a.end a.qfs.now) 0 (pos 0) +ℤ dc_prediction (direction c) (get_or a.n.now 0 (pos 0)) (get_or a.n.now 2 (pos 0)) (dc_scaler a.component a.quantiser-scale)
+    get_or (up_to a.end a.qfs.now) 0 (pos 0) +ℤ dc_prediction (direction c) (get_or a.n.now 0 (pos 0)) (get_or a.n.now 2 (pos 0)) (dc_scaler a.component a.quantiser_scale)
 
-level-is : (c : tie.After-dc-level) → to_z w32 (of_z w32 c.dc-level.result) ≡ saturated (unlimited c)
+level-is : (c : tie.After-dc_level-level) → to_z w32 (of_z w32 c.dc_level-level.result) ≡ saturated (unlimited c)
 level-is c =
     let a = (start c).args in
-    held c.dc-level.result c.dc-level.ok
-    ∙ c.dc-level.ensures
-    ∙ ap (λ (z : ℤ). saturated (z +ℤ dc_prediction (direction c) (get_or a.n.now 0 (pos 0)) (get_or a.n.now 2 (pos 0)) (dc_scaler a.component a.quantiser-scale))) (difference-is c.before)
+    held c.dc_level-level.result c.dc_level-level.type_inv
+    ∙ c.dc_level-level.ensures
+    ∙ ap (λ (z : ℤ). saturated (z +ℤ dc_prediction (direction c) (get_or a.n.now 0 (pos 0)) (get_or a.n.now 2 (pos 0)) (dc_scaler a.component a.quantiser_scale))) (difference-is c.before)
 
 predict-requires : tie.Need-predict-requires
 predict-requires c κs =
@@ -73,7 +73,7 @@ predict-requires c κs =
     let a = s.args in (
       s.pre.0,
       s.pre.1,
-      subst Levelled (sym c.before.put-scanned.ensures)
+      subst Levelled (sym c.put_scanned.ensures)
           (scanned_levelled (up_to a.end a.qfs.now) (up_to_length a.end a.qfs.now) _ (scan_of_lem l) (ap level_fine (level-is l) ∙ saturated-fine (unlimited l)) s.pre.2),
     )
 
@@ -83,20 +83,20 @@ returns c =
     let l = p.before.before in
     let a = (start l).args in
     c.predict.ensures
-    ∙ ap (ac_predicted a.ac-pred-flag (direction l) (numbered a.n.now) a.quantiser-scale) p.put-scanned.ensures
-    ∙ levels-predicted (up_to a.end a.qfs.now) (up_to_length a.end a.qfs.now) a.component a.quantiser-scale a.ac-pred-flag a.alternate-vertical-scan (numbered a.n.now) (direction l) (scan_of_lem l) _
-    l.before.before.before.direction-by.ensures
-    l.before.before.intra-scan.ensures
+    ∙ ap (ac_predicted a.ac_pred_flag (direction l) (numbered a.n.now) a.quantiser_scale) p.put_scanned.ensures
+    ∙ levels-predicted (up_to a.end a.qfs.now) (up_to_length a.end a.qfs.now) a.component a.quantiser_scale a.ac_pred_flag a.alternate_vertical_scan (numbered a.n.now) (direction l) (scan_of_lem l) _
+    l.direction_by-direction.ensures
+    l.intra_scan-scan_type.ensures
     (level-is l)
 
 pub put_levels_spec : {M : Type 1} → statement M
 put_levels_spec =
     tie.close
     (tie.spec
-    direction-by-requires
-    intra-scan-requires
-    first-place-requires
-    dc-level-requires
-    put-scanned-requires
+    direction_by-direction-requires
+    intra_scan-scan_type-requires
+    first_place-difference-requires
+    dc_level-level-requires
+    put_scanned-requires
     predict-requires
     returns)

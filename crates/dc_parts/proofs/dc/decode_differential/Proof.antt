@@ -32,47 +32,47 @@ a s = loc (pos s.args.additional) 4096 (a_bound s)
 abbrev twice : tie.Start → Sx w32
 twice s = lit (pos 2) ⊠ loc (pos (h s)) 4096 (h_bound s)
 
-returns : tie.Need-returns
-returns c = simp (eq-eqb _ _ c.if1.true)
+returns-then-size-eq0 : tie.Need-returns-then-size-eq0
+returns-then-size-eq0 c = simp (eq-eqb _ _ c.if-size-eq0.true)
 
-sub-half-range : tie.Need-overflow-sub-half-range
-sub-half-range c = search rules
+overflow_sub-half_range : tie.Need-overflow_sub-half_range
+overflow_sub-half_range c = search rules
 
-shl-half-range : tie.Need-overflow-shl-half-range
-shl-half-range c = search rules
+overflow_shl-half_range : tie.Need-overflow_shl-half_range
+overflow_shl-half_range c = search rules
 
-cast_result : tie.Need-overflow-cast-result
-cast_result c = cast_us (omega (arith, a_bound c.before.before))
+overflow_cast-result : tie.Need-overflow_cast-result
+overflow_cast-result c = cast_us (omega (arith, a_bound c.before.before))
 
-returns_2 : tie.Need-returns-2
-returns_2 c =
+returns-then-half_range-additional : tie.Need-returns-then-half_range-additional
+returns-then-half_range-additional c =
     let s = c.before.before in
-    back (a s) tt ∙ simp (ne_eqb _ _ c.before.if1.false, le-leb _ _ (rw (shifted s) at c.if2.true))
+    back (a s) tt ∙ simp (ne_eqb _ _ c.if-size-eq0.false, le-leb _ _ (rw (shifted s) at c.if-half_range-additional.true))
 
-cast-result-2 : tie.Need-overflow-cast-result-2
-cast-result-2 c = cast_us (omega (arith, a_bound c.before.before))
+overflow_cast-result-2 : tie.Need-overflow_cast-result-2
+overflow_cast-result-2 c = cast_us (omega (arith, a_bound c.before.before))
 
-add-result : tie.Need-overflow-add-result
-add-result c = fits (a c.before.before ⊞ lit (pos 1)) tt
+overflow_add-result : tie.Need-overflow_add-result
+overflow_add-result c = fits (a c.before.before ⊞ lit (pos 1)) tt
 
-cast-result-3 : tie.Need-overflow-cast-result-3
-cast-result-3 c = cast_us (omega (arith, h_bound c.before.before))
+overflow_cast-result-3 : tie.Need-overflow_cast-result-3
+overflow_cast-result-3 c = cast_us (omega (arith, h_bound c.before.before))
 
-mul-result : tie.Need-overflow-mul-result
-mul-result c = fits (twice c.before.before) tt
+overflow_mul-result : tie.Need-overflow_mul-result
+overflow_mul-result c = fits (twice c.before.before) tt
 
-sub-result : tie.Need-overflow-sub-result
-sub-result c = fits (a c.before.before ⊞ lit (pos 1) ⊟ twice c.before.before) tt
+overflow_sub-result : tie.Need-overflow_sub-result
+overflow_sub-result c = fits (a c.before.before ⊞ lit (pos 1) ⊟ twice c.before.before) tt
 
 -- below the half, with the shift as the code has it
 low : (s : tie.Start) → (s.args.size ≡ 0 → ⊥) → s.args.additional < h s
     → pos s.args.additional +ℤ pos 1 -ℤ pos 2 *ℤ pos (h s) ≡ differential_of s.args.size s.args.additional
 low s n l = simp (ne_eqb _ _ n, shifted s, lt-leb _ _ (rw (shifted s) at l))
 
-returns_3 : tie.Need-returns-3
-returns_3 c =
+returns : tie.Need-returns
+returns c =
     let s = c.before.before in
-    back (a s ⊞ lit (pos 1) ⊟ twice s) tt ∙ low s c.before.if1.false c.if2.false
+    back (a s ⊞ lit (pos 1) ⊟ twice s) tt ∙ low s c.if-size-eq0.false c.if-half_range-additional.false
 
 pub decode_differential_spec : {M : Type 1} → statement M
-decode_differential_spec = tie.close (tie.spec returns sub-half-range shl-half-range cast_result returns_2 cast-result-2 add-result cast-result-3 mul-result sub-result returns_3)
+decode_differential_spec = tie.close (tie.spec returns-then-size-eq0 overflow_sub-half_range overflow_shl-half_range overflow_cast-result returns-then-half_range-additional overflow_cast-result-2 overflow_add-result overflow_cast-result-3 overflow_mul-result overflow_sub-result returns)

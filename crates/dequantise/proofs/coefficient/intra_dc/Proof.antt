@@ -20,72 +20,72 @@ abbrev short : tie.Start → Sx w32
 short s = qf s ⊠ lit (pos 8)
 
 -- the quantiser is one, so its scaler is told
-scaler_is : (c : tie.After-dc-scaler) → c.dc-scaler.result ≡ Is (dc_scaler c.before.before.args.component c.before.before.args.quantiser-scale)
+scaler_is : (c : tie.After-dc_scaler-scaler) → c.dc_scaler-scaler.result ≡ Is (dc_scaler c.args.component c.args.quantiser_scale)
 scaler_is c =
     let s = c.before.before in
-    c.dc-scaler.ensures.0 ∙ scaler_given s.args.component s.args.quantiser-scale s.requires.1 s.requires.2
+    c.dc_scaler-scaler.ensures.0 ∙ scaler_given s.args.component s.args.quantiser_scale s.requires.1 s.requires.2
 
-module _ (c : tie.After-known-told) where
+module _ (c : tie.In-Is) where
   abbrev start : tie.Start
-  start = c.before.before.before.before.before
+  start = c.before.before.before
 
   abbrev n : ℕ
-  n = c.before.scaler.given.0.0
+  n = c.in-Is.n
 
-  n_is : n ≡ dc_scaler start.args.component start.args.quantiser-scale
+  n_is : n ≡ dc_scaler start.args.component start.args.quantiser_scale
   n_is =
-      let t = c.before.scaler.given.1 in
-      let u = scaler_is c.before.before.before in
+      let t = c.in-Is.is in
+      let u = scaler_is c.before in
       cc
 
   n_small : n ≤ 1022
-  n_small = omega (arith, n_is, scaler_small start.args.component start.args.quantiser-scale (omega arith))
+  n_small = omega (arith, n_is, scaler_small start.args.component start.args.quantiser_scale (omega arith))
 
   -- by the scaler
   abbrev long : Sx w32
   long = qf start ⊠ loc (pos n) 1022 n_small
 
-mul-result : tie.Need-overflow-mul-result
-mul-result c = fits (short c.before) tt
+overflow_mul-result : tie.Need-overflow_mul-result
+overflow_mul-result c = fits (short c.before) tt
 
-returns : tie.Need-returns
-returns c = back (short c.before) tt ∙ simp c.if1.true
+returns-then-short_video_header : tie.Need-returns-then-short_video_header
+returns-then-short_video_header c = back (short c.before) tt ∙ simp c.if-short_video_header.true
 
-dc-scaler-requires : tie.Need-dc-scaler-requires
-dc-scaler-requires c κs = search rules
+dc_scaler-scaler-requires : tie.Need-dc_scaler-scaler-requires
+dc_scaler-scaler-requires c κs = search rules
 
-enum_told : tie.Need-enum-told
-enum_told c = search rules
+enum_told-1 : tie.Need-enum_told-1
+enum_told-1 c = search rules
 
-enum-known-scaler : tie.Need-enum-known-scaler
-enum-known-scaler c = search rules
+enum_known-scaler : tie.Need-enum_known-scaler
+enum_known-scaler c = search rules
 
-cast_result : tie.Need-overflow-cast-result
-cast_result c = let m : Sx w32 = loc (pos (n c)) 1022 (n_small c) in fits m tt
+overflow_cast-result : tie.Need-overflow_cast-result
+overflow_cast-result c = let m : Sx w32 = loc (pos (n c)) 1022 (n_small c) in fits m tt
 
-mul-result-2 : tie.Need-overflow-mul-result-2
-mul-result-2 c = fits (long c) tt
+overflow_mul-result-in-Is : tie.Need-overflow_mul-result-in-Is
+overflow_mul-result-in-Is c = fits (long c) tt
 
-returns_2 : tie.Need-returns-2
-returns_2 c =
-    let t = c.enum_told.given.1 in
-    let u = scaler_is c.before.before in
+returns-in-Refused : tie.Need-returns-in-Refused
+returns-in-Refused c =
+    let t = c.in-Refused.is in
+    let u = scaler_is c.before in
     let z : ◌≡◌ {A = ℕ} 0 1 = cc in
     absurd (omega arith)
 
-returns_3 : tie.Need-returns-3
-returns_3 c = back (long c) tt ∙ ap (λ (k : ℕ). (start c).args.qf00 *ℤ pos k) (n_is c) ∙ simp c.before.before.before.before.if1.false
+returns-in-Is : tie.Need-returns-in-Is
+returns-in-Is c = back (long c) tt ∙ ap (λ (k : ℕ). (start c).args.qf00 *ℤ pos k) (n_is c) ∙ simp c.if-short_video_header.false
 
 pub intra_dc_spec : {M : Type 1} → statement M
 intra_dc_spec =
     tie.close
     (tie.spec
-    mul-result
-    returns
-    dc-scaler-requires
-    enum_told
-    enum-known-scaler
-    cast_result
-    mul-result-2
-    returns_2
-    returns_3)
+    overflow_mul-result
+    returns-then-short_video_header
+    dc_scaler-scaler-requires
+    enum_told-1
+    enum_known-scaler
+    overflow_cast-result
+    overflow_mul-result-in-Is
+    returns-in-Refused
+    returns-in-Is)

@@ -20,54 +20,54 @@ use Rattle.dequantise.proofs.AnswerLaws.{method1_due_lem}
 use Rattle.dequantise.proofs.coefficient.inverse_quant_method1_coef.Tie as tie
 
 -- the quantiser is one
-quantiser : (c : tie.Else1) → quantiser_fine c.before.before.args.quantiser-scale ≡ true
-quantiser c = flag_passes c.before.fine.ensures c.if1.left
+quantiser : (c : tie.Else-not-fine) → quantiser_fine c.args.quantiser_scale ≡ true
+quantiser c = flag_passes c.fine.ensures c.if-not-fine.false
 
 -- the weight is not 0
-weight : (c : tie.Else2) → eqb c.before.before.before.args.w 0 ≡ false
-weight c = ne_eqb c.before.before.before.args.w 0 c.if2.left
+weight : (c : tie.Else-w-eq0) → eqb c.args.w 0 ≡ false
+weight c = ne_eqb c.args.w 0 c.if-w-eq0.false
 
 -- what `Level::fine` told, and that the level is one
-told : (c : tie.After-fine2) → c.fine2.result ≡ level_fine c.before.before.before.before.args.qf
-told c = c.fine2.ensures ∙ ap level_fine (to_z-of_z c.before.before.before.before.fits.qf)
+told : (c : tie.After-fine-2) → c.fine-2.result ≡ level_fine c.args.qf
+told c = c.fine-2.ensures ∙ ap level_fine (to_z-of_z c.ranges.qf)
 
-fine : (c : tie.Else3) → level_fine c.before.before.before.before.before.args.qf ≡ true
-fine c = flag_passes (told c.before) c.if3.left
+fine : (c : tie.Else-not-fine-2) → level_fine c.args.qf ≡ true
+fine c = flag_passes (told c.before) c.if-not-fine-2.false
 
 fine-requires : tie.Need-fine-requires
 fine-requires c κs = search rules
 
-returns : tie.Need-returns
-returns c =
-    let args = c.before.before.args in
-    both value_outcome (rw (flag_refuses c.before.fine.ensures c.if1.taken)) (method1_due_lem args.qf args.w args.quantiser-scale args.macroblock-intra)
+returns-then-not-fine : tie.Need-returns-then-not-fine
+returns-then-not-fine c =
+    let args = c.args in
+    both value_outcome (rw (flag_refuses c.fine.ensures c.if-not-fine.true)) (method1_due_lem args.qf args.w args.quantiser_scale args.macroblock_intra)
 
-returns_2 : tie.Need-returns-2
-returns_2 c =
-    let args = c.before.before.before.args in
-    both value_outcome (rw (quantiser c.before, c.if2.taken)) (method1_due_lem args.qf args.w args.quantiser-scale args.macroblock-intra)
+returns-then-w-eq0 : tie.Need-returns-then-w-eq0
+returns-then-w-eq0 c =
+    let args = c.args in
+    both value_outcome (rw (quantiser c.before, c.if-w-eq0.true)) (method1_due_lem args.qf args.w args.quantiser_scale args.macroblock_intra)
 
 fine-requires-2 : tie.Need-fine-requires-2
 fine-requires-2 c κs = search rules
 
-returns_3 : tie.Need-returns-3
-returns_3 c =
-    let args = c.before.before.before.before.before.args in
-    both value_outcome (rw (quantiser c.before.before.before, weight c.before.before, flag_refuses (told c.before) c.if3.taken)) (method1_due_lem args.qf args.w args.quantiser-scale args.macroblock-intra)
+returns-then-not-fine-2 : tie.Need-returns-then-not-fine-2
+returns-then-not-fine-2 c =
+    let args = c.args in
+    both value_outcome (rw (quantiser c.before.before.before, weight c.before.before, flag_refuses (told c.before) c.if-not-fine-2.true)) (method1_due_lem args.qf args.w args.quantiser_scale args.macroblock_intra)
 
-method1-coef-requires : tie.Need-method1-coef-requires
-method1-coef-requires c κs =
+method1_coef-requires : tie.Need-method1_coef-requires
+method1_coef-requires c κs =
     let s = c.before.before.before.before.before in
-    (rw (to_z-of_z s.fits.qf) (level-abs s.args.qf (fine c)), omega (arith, quantiser_range s.args.quantiser-scale (quantiser c.before.before.before)))
+    (rw (to_z-of_z s.ranges.qf) (level-abs s.args.qf (fine c)), omega (arith, quantiser_range s.args.quantiser_scale (quantiser c.before.before.before)))
 
-returns_4 : tie.Need-returns-4
-returns_4 c =
-    let args = c.before.before.before.before.before.before.args in
+returns : tie.Need-returns
+returns c =
+    let args = c.args in
     both value_outcome (let s = c.before.before.before.before.before.before in
     rw (quantiser c.before.before.before.before, weight c.before.before.before, fine c.before)
     (ap Is
-    (held c.method1-coef.result c.method1-coef.ok ∙ c.method1-coef.ensures
-    ∙ ap (λ (z : ℤ). method1 s.args.macroblock-intra z s.args.w s.args.quantiser-scale) (to_z-of_z s.fits.qf)))) (method1_due_lem args.qf args.w args.quantiser-scale args.macroblock-intra)
+    (held c.method1_coef.result c.method1_coef.type_inv ∙ c.method1_coef.ensures
+    ∙ ap (λ (z : ℤ). method1 s.args.macroblock_intra z s.args.w s.args.quantiser_scale) (to_z-of_z s.ranges.qf)))) (method1_due_lem args.qf args.w args.quantiser_scale args.macroblock_intra)
 
 pub inverse_quant_method1_coef_spec : {M : Type 1} → statement M
-inverse_quant_method1_coef_spec = tie.close (tie.spec fine-requires returns returns_2 fine-requires-2 returns_3 method1-coef-requires returns_4)
+inverse_quant_method1_coef_spec = tie.close (tie.spec fine-requires returns-then-not-fine returns-then-w-eq0 fine-requires-2 returns-then-not-fine-2 method1_coef-requires returns)

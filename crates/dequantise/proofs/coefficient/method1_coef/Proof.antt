@@ -20,7 +20,7 @@ module _ (s : tie.Start) where
   weight = loc (pos s.args.w) 255 (omega arith)
 
   abbrev scale : Sx w32
-  scale = loc (pos s.args.quantiser-scale) 511 s.pre.1
+  scale = loc (pos s.args.quantiser_scale) 511 s.requires.1
 
   -- intra
   abbrev x₁ : Sx w32
@@ -36,18 +36,18 @@ module _ (s : tie.Start) where
   x₄ = x₃ ⊘ lit (pos 16)
 
 -- and not intra
-module _ (c : tie.After-sign-of) where
+module _ (c : tie.After-sign_of-sign) where
   abbrev s : tie.Start
   s = c.before.before
 
-  sign-is : c.sign_of.result ≡ signum s.args.qf
-  sign-is = c.sign_of.ensures.0 ∙ ap signum (back (qf s) tt)
+  sign-is : c.sign_of-sign.result ≡ signum s.args.qf
+  sign-is = c.sign_of-sign.ensures.0 ∙ ap signum (back (qf s) tt)
 
   abbrev y₁ : Sx w32
   y₁ = lit (pos 2) ⊠ qf s
 
   abbrev y₂ : Sx w32
-  y₂ = y₁ ⊞ loc c.sign_of.result 1 c.sign_of.ensures.1
+  y₂ = y₁ ⊞ loc c.sign_of-sign.result 1 c.sign_of-sign.ensures.1
 
   abbrev y₃ : Sx w32
   y₃ = y₂ ⊠ weight s
@@ -58,77 +58,77 @@ module _ (c : tie.After-sign-of) where
   abbrev y₅ : Sx w32
   y₅ = y₄ ⊘ lit (pos 16)
 
-cast_result : tie.Need-overflow-cast-result
-cast_result c = search rules
+overflow_cast-result : tie.Need-overflow_cast-result
+overflow_cast-result c = search rules
 
-mul-result : tie.Need-overflow-mul-result
-mul-result c = fits (x₁ c.before) tt
+overflow_mul-result : tie.Need-overflow_mul-result
+overflow_mul-result c = fits (x₁ c.before) tt
 
-cast-result-2 : tie.Need-overflow-cast-result-2
-cast-result-2 c = search rules
+overflow_cast-result-then-macroblock_intra : tie.Need-overflow_cast-result-then-macroblock_intra
+overflow_cast-result-then-macroblock_intra c = search rules
 
-mul-result-2 : tie.Need-overflow-mul-result-2
-mul-result-2 c = fits (x₂ c.before) tt
+overflow_mul-result-then-macroblock_intra : tie.Need-overflow_mul-result-then-macroblock_intra
+overflow_mul-result-then-macroblock_intra c = fits (x₂ c.before) tt
 
-mul-result-3 : tie.Need-overflow-mul-result-3
-mul-result-3 c = fits (x₃ c.before) tt
+overflow_mul-result-then-macroblock_intra-2 : tie.Need-overflow_mul-result-then-macroblock_intra-2
+overflow_mul-result-then-macroblock_intra-2 c = fits (x₃ c.before) tt
 
-div-result : tie.Need-nonzero-div-result
-div-result c = (lit< tt, fits (x₄ c.before) tt)
+nonzero_div-result : tie.Need-nonzero_div-result
+nonzero_div-result c = (lit< tt, fits (x₄ c.before) tt)
+
+returns-then-macroblock_intra : tie.Need-returns-then-macroblock_intra
+returns-then-macroblock_intra c =
+    let s = c.before in
+    rw c.if-macroblock_intra.true (back (x₄ s) tt ∙ method1_intra_lem s.args.qf s.args.w s.args.quantiser_scale)
+
+sign_of-sign-requires : tie.Need-sign_of-sign-requires
+sign_of-sign-requires c κs = search rules
+
+overflow_mul-result-2 : tie.Need-overflow_mul-result-2
+overflow_mul-result-2 c = fits (y₁ c) tt
+
+overflow_add-result : tie.Need-overflow_add-result
+overflow_add-result c = fits (y₂ c) tt
+
+overflow_cast-result-2 : tie.Need-overflow_cast-result-2
+overflow_cast-result-2 c = search rules
+
+overflow_mul-result-3 : tie.Need-overflow_mul-result-3
+overflow_mul-result-3 c = fits (y₃ c) tt
+
+overflow_cast-result-3 : tie.Need-overflow_cast-result-3
+overflow_cast-result-3 c = search rules
+
+overflow_mul-result-4 : tie.Need-overflow_mul-result-4
+overflow_mul-result-4 c = fits (y₄ c) tt
+
+nonzero_div-result-2 : tie.Need-nonzero_div-result-2
+nonzero_div-result-2 c = (lit< tt, fits (y₅ c) tt)
 
 returns : tie.Need-returns
 returns c =
-    let s = c.before in
-    rw c.if1.true (back (x₄ s) tt ∙ method1_intra_lem s.args.qf s.args.w s.args.quantiser-scale)
-
-sign-of-requires : tie.Need-sign-of-requires
-sign-of-requires c κs = search rules
-
-mul-result-4 : tie.Need-overflow-mul-result-4
-mul-result-4 c = fits (y₁ c) tt
-
-add-result : tie.Need-overflow-add-result
-add-result c = fits (y₂ c) tt
-
-cast-result-3 : tie.Need-overflow-cast-result-3
-cast-result-3 c = search rules
-
-mul-result-5 : tie.Need-overflow-mul-result-5
-mul-result-5 c = fits (y₃ c) tt
-
-cast-result-4 : tie.Need-overflow-cast-result-4
-cast-result-4 c = search rules
-
-mul-result-6 : tie.Need-overflow-mul-result-6
-mul-result-6 c = fits (y₄ c) tt
-
-div-result-2 : tie.Need-nonzero-div-result-2
-div-result-2 c = (lit< tt, fits (y₅ c) tt)
-
-returns_2 : tie.Need-returns-2
-returns_2 c =
     let a = (s c).args in
-    rw c.before.if1.false
-    (back (y₅ c) tt ∙ ap (λ (z : ℤ). quot_z ((pos 2 *ℤ a.qf +ℤ z) *ℤ pos a.w *ℤ pos a.quantiser-scale) (pos 16)) (sign-is c)
-    ∙ method1_inter_lem a.qf a.w a.quantiser-scale)
+    rw c.if-macroblock_intra.false
+    (back (y₅ c) tt ∙ ap (λ (z : ℤ). quot_z ((pos 2 *ℤ a.qf +ℤ z) *ℤ pos a.w *ℤ pos a.quantiser_scale) (pos 16)) (sign-is c)
+    ∙ method1_inter_lem a.qf a.w a.quantiser_scale)
 
 pub method1_coef_spec : {M : Type 1} → statement M
 method1_coef_spec =
     tie.close
     (tie.spec
-    cast_result
-    mul-result
-    cast-result-2
-    mul-result-2
-    mul-result-3
-    div-result
-    returns
-    sign-of-requires
-    mul-result-4
-    add-result
-    cast-result-3
-    mul-result-5
-    cast-result-4
-    mul-result-6
-    div-result-2
-    returns_2)
+    overflow_cast-result
+    overflow_mul-result
+    overflow_cast-result-then-macroblock_intra
+    overflow_mul-result-then-macroblock_intra
+    overflow_mul-result-then-macroblock_intra-2
+    nonzero_div-result
+    returns-then-macroblock_intra
+    sign_of-sign-requires
+    overflow_mul-result-2
+    overflow_add-result
+    overflow_cast-result-2
+    overflow_mul-result-3
+    overflow_cast-result-3
+    overflow_mul-result-4
+    nonzero_div-result-2
+    returns)

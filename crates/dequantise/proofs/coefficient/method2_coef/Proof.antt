@@ -11,24 +11,24 @@ use Rattle.dequantise.proofs.MethodLaws.{method2-is}
 use Rattle.dequantise.proofs.coefficient.method2_coef.Statement.{statement}
 use Rattle.dequantise.proofs.coefficient.method2_coef.Tie as tie
 
-module _ (c : tie.After-sign-of) where
+module _ (c : tie.After-sign_of-sign) where
   abbrev s : tie.Start
   s = c.before
 
   abbrev qf : Sx w32
-  qf = loc s.args.qf 2048 s.pre.0
+  qf = loc s.args.qf 2048 s.requires.0
 
   abbrev scale : Sx w32
-  scale = loc (pos s.args.quantiser-scale) 511 s.pre.2
+  scale = loc (pos s.args.quantiser_scale) 511 s.requires.2
 
   abbrev sign : Sx w32
-  sign = loc c.sign_of.result 1 c.sign_of.ensures.1
+  sign = loc c.sign_of-sign.result 1 c.sign_of-sign.ensures.1
 
-  sign-is : c.sign_of.result ≡ signum s.args.qf
-  sign-is = c.sign_of.ensures.0 ∙ ap signum (back qf tt)
+  sign-is : c.sign_of-sign.result ≡ signum s.args.qf
+  sign-is = c.sign_of-sign.ensures.0 ∙ ap signum (back qf tt)
 
   abbrev even : Sx w32
-  even = lit (pos 1) ⊟ loc (pos (s.args.quantiser-scale % 2)) 1 (omega arith)
+  even = lit (pos 1) ⊟ loc (pos (s.args.quantiser_scale % 2)) 1 (omega arith)
 
   abbrev x₁ : Sx w32
   x₁ = lit (pos 2) ⊠ qf
@@ -45,32 +45,32 @@ module _ (c : tie.After-sign-of) where
   abbrev x₄ : Sx w32
   x₄ = x₃ ⊟ less
 
-sign-of-requires : tie.Need-sign-of-requires
-sign-of-requires c κs = search rules
+sign_of-sign-requires : tie.Need-sign_of-sign-requires
+sign_of-sign-requires c κs = search rules
 
-cast-even : tie.Need-overflow-cast-even
-cast-even c = search rules
+overflow_cast-even : tie.Need-overflow_cast-even
+overflow_cast-even c = search rules
 
-sub-even : tie.Need-overflow-sub-even
-sub-even c = fits (even c) tt
+overflow_sub-even : tie.Need-overflow_sub-even
+overflow_sub-even c = fits (even c) tt
 
-mul-result : tie.Need-overflow-mul-result
-mul-result c = fits (x₁ c) tt
+overflow_mul-result : tie.Need-overflow_mul-result
+overflow_mul-result c = fits (x₁ c) tt
 
-add-result : tie.Need-overflow-add-result
-add-result c = fits (x₂ c) tt
+overflow_add-result : tie.Need-overflow_add-result
+overflow_add-result c = fits (x₂ c) tt
 
-cast_result : tie.Need-overflow-cast-result
-cast_result c = search rules
+overflow_cast-result : tie.Need-overflow_cast-result
+overflow_cast-result c = search rules
 
-mul-result-2 : tie.Need-overflow-mul-result-2
-mul-result-2 c = fits (x₃ c) tt
+overflow_mul-result-2 : tie.Need-overflow_mul-result-2
+overflow_mul-result-2 c = fits (x₃ c) tt
 
-mul-result-3 : tie.Need-overflow-mul-result-3
-mul-result-3 c = fits (less c) tt
+overflow_mul-result-3 : tie.Need-overflow_mul-result-3
+overflow_mul-result-3 c = fits (less c) tt
 
-sub-result : tie.Need-overflow-sub-result
-sub-result c = fits (x₄ c) tt
+overflow_sub-result : tie.Need-overflow_sub-result
+overflow_sub-result c = fits (x₄ c) tt
 
 returns : tie.Need-returns
 returns c =
@@ -82,4 +82,4 @@ returns c =
 
 pub method2_coef_spec : {M : Type 1} → statement M
 method2_coef_spec =
-    tie.close (tie.spec sign-of-requires cast-even sub-even mul-result add-result cast_result mul-result-2 mul-result-3 sub-result returns)
+    tie.close (tie.spec sign_of-sign-requires overflow_cast-even overflow_sub-even overflow_mul-result overflow_add-result overflow_cast-result overflow_mul-result-2 overflow_mul-result-3 overflow_sub-result returns)

@@ -7,15 +7,15 @@ use Rattle.dequantise.proofs.context.context_fine.Tie as tie
 fine-requires : tie.Need-fine-requires
 fine-requires c κs = search rules
 
-returns : tie.Need-returns
-returns c = rw (flag_refuses c.before.fine.ensures c.if1.true)
+returns-then-not-fine : tie.Need-returns-then-not-fine
+returns-then-not-fine c = rw (flag_refuses c.fine.ensures c.if-not-fine.true)
 
 fine-requires-2 : tie.Need-fine-requires-2
 fine-requires-2 c κs = search rules
 
-returns_2 : tie.Need-returns-2
-returns_2 c =
-    rw (flag_passes c.before.before.fine.ensures c.before.if1.false) c.fine2.ensures
+returns : tie.Need-returns
+returns c =
+    rw (flag_passes c.fine.ensures c.if-not-fine.false) c.fine-2.ensures
 
 pub context_fine_spec : {M : Type 1} → statement M
-context_fine_spec = tie.close (tie.spec fine-requires returns fine-requires-2 returns_2)
+context_fine_spec = tie.close (tie.spec fine-requires returns-then-not-fine fine-requires-2 returns)

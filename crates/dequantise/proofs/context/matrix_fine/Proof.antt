@@ -15,108 +15,108 @@ use Rattle.dequantise.proofs.context.matrix_fine.Statement.{statement}
 use Rattle.dequantise.proofs.context.matrix_fine.Tie as tie
 
 -- the tests before the row and those of the row are what is told so far and the tests that are left of the row
-abbrev invariant_loop2 : tie.invariant-loop2
-invariant_loop2 w fine₀ v u₀ fine u = (v < 8) × (u ≤ 8) × ((fine₀ && every non_zero (get_or w v [])) ≡ (fine && every non_zero (drop u (get_or w v []))))
+abbrev invariant-loop-u : tie.invariant-loop-u
+invariant-loop-u w fine₀ v u₀ fine u = (v < 8) × (u ≤ 8) × ((fine₀ && every non_zero (get_or w v [])) ≡ (fine && every non_zero (drop u (get_or w v []))))
 
-abbrev decreases-loop2 : tie.decreases-loop2
-decreases-loop2 w fine₀ v u₀ fine u = 8 - u
+abbrev decreases-loop-u : tie.decreases-loop-u
+decreases-loop-u w fine₀ v u₀ fine u = 8 - u
 
-abbrev invariant_loop : tie.invariant-loop
-invariant_loop w fine₀ v₀ fine v = (v ≤ 8) × (every (every non_zero) w ≡ (fine && every (every non_zero) (drop v w)))
+abbrev invariant-loop-v : tie.invariant-loop-v
+invariant-loop-v w fine₀ v₀ fine v = (v ≤ 8) × (every (every non_zero) w ≡ (fine && every (every non_zero) (drop v w)))
 
-abbrev decreases-loop : tie.decreases-loop
-decreases-loop w fine₀ v₀ fine v = 8 - v
+abbrev decreases-loop-v : tie.decreases-loop-v
+decreases-loop-v w fine₀ v₀ fine v = 8 - v
 
-square : (s : tie.Start invariant_loop2 decreases-loop2 invariant_loop decreases-loop) → Square s.args.t1
-square s = let g = s.well-formed.0 in square_owned u8 s.args.t1 g.0 g.1.0.1 g.1.1
+square : (s : tie.Start invariant-loop-u decreases-loop-u invariant-loop-v decreases-loop-v) → Square s.args.w
+square s = let g = s.well_formed.0 in square_owned u8 s.args.w g.0 g.1.0.1 g.1.1
 
-module _ (l : tie.At-loop2 invariant_loop2 decreases-loop2 invariant_loop decreases-loop) where
+module _ (l : tie.At-loop-u invariant-loop-u decreases-loop-u invariant-loop-v decreases-loop-v) where
   abbrev w : List (List ℕ)
-  w = l.before.before.before.args.t1
+  w = l.args.w
 
   abbrev v : ℕ
-  v = l.before.before.loop.v
+  v = l.loop-v.v
 
   abbrev row : List ℕ
   row = get_or w v []
 
   abbrev before_row : Bool
-  before_row = l.before.before.loop.fine
+  before_row = l.loop-v.fine
 
   abbrev is-square : Square w
   is-square = square l.before.before.before
 
-loop_holds : tie.Need-loop-init invariant_loop2 decreases-loop2 invariant_loop decreases-loop
-loop_holds c = (omega arith, refl)
+loop-v-init : tie.Need-loop-v-init invariant-loop-u decreases-loop-u invariant-loop-v decreases-loop-v
+loop-v-init c = (omega arith, refl)
 
-loop2-holds : tie.Need-loop2-init invariant_loop2 decreases-loop2 invariant_loop decreases-loop
-loop2-holds c = (c.loop-test.true, omega arith, refl)
+loop-u-init : tie.Need-loop-u-init invariant-loop-u decreases-loop-u invariant-loop-v decreases-loop-v
+loop-u-init c = (c.loop-v-test.true, omega arith, refl)
 
-mul-nonzero : tie.Need-overflow-mul-nonzero invariant_loop2 decreases-loop2 invariant_loop decreases-loop
-mul-nonzero c = omega arith
+offset_bounds-w-v : tie.Need-offset_bounds-w-v invariant-loop-u decreases-loop-u invariant-loop-v decreases-loop-v
+offset_bounds-w-v c = omega arith
 
-index-1-nonzero : tie.Need-bounds-1-nonzero invariant_loop2 decreases-loop2 invariant_loop decreases-loop
-index-1-nonzero c = omega arith
+bounds-w-v : tie.Need-bounds-w-v invariant-loop-u decreases-loop-u invariant-loop-v decreases-loop-v
+bounds-w-v c = omega arith
 
-index-2-nonzero : tie.Need-bounds-2-nonzero invariant_loop2 decreases-loop2 invariant_loop decreases-loop
-index-2-nonzero c = omega arith
+bounds-w-u : tie.Need-bounds-w-u invariant-loop-u decreases-loop-u invariant-loop-v decreases-loop-v
+bounds-w-u c = omega arith
 
-add-u : tie.Need-overflow-add-u invariant_loop2 decreases-loop2 invariant_loop decreases-loop
-add-u c = omega arith
+overflow_step-u : tie.Need-overflow_step-u invariant-loop-u decreases-loop-u invariant-loop-v decreases-loop-v
+overflow_step-u c = omega arith
 
-loop2-less : tie.Need-loop2-smaller invariant_loop2 decreases-loop2 invariant_loop decreases-loop
-loop2-less c = omega arith
+loop-u-smaller : tie.Need-loop-u-smaller invariant-loop-u decreases-loop-u invariant-loop-v decreases-loop-v
+loop-u-smaller c = omega arith
 
-loop2-again : tie.Need-loop2-preserved invariant_loop2 decreases-loop2 invariant_loop decreases-loop
-loop2-again c =
+loop-u-preserved : tie.Need-loop-u-preserved invariant-loop-u decreases-loop-u invariant-loop-v decreases-loop-v
+loop-u-preserved c =
     let l = c.before.before in
-    let i = l.loop2.invariant in (
+    let i = l.loop-u.invariant in (
       i.0,
       omega arith,
-      test_more non_zero 0 (row l) (before_row l && every non_zero (row l)) l.loop2.u l.loop2.fine (non_zero (cell_n (w l) (v l) l.loop2.u)) (omega (arith, (is-square l).wide (v l) i.0)) i.2 refl,
+      test_more non_zero 0 (row l) (before_row l && every non_zero (row l)) l.loop-u.u l.loop-u.fine (non_zero (cell_n (w l) (v l) l.loop-u.u)) (omega (arith, (is-square l).wide (v l) i.0)) i.2 refl,
     )
 
-add-v : tie.Need-overflow-add-v invariant_loop2 decreases-loop2 invariant_loop decreases-loop
-add-v c = omega arith
+overflow_step-v : tie.Need-overflow_step-v invariant-loop-u decreases-loop-u invariant-loop-v decreases-loop-v
+overflow_step-v c = omega arith
 
-loop-less : tie.Need-loop-smaller invariant_loop2 decreases-loop2 invariant_loop decreases-loop
-loop-less c = omega arith
+loop-v-smaller : tie.Need-loop-v-smaller invariant-loop-u decreases-loop-u invariant-loop-v decreases-loop-v
+loop-v-smaller c = omega arith
 
-loop_again : tie.Need-loop-preserved invariant_loop2 decreases-loop2 invariant_loop decreases-loop
-loop_again c =
+loop-v-preserved : tie.Need-loop-v-preserved invariant-loop-u decreases-loop-u invariant-loop-v decreases-loop-v
+loop-v-preserved c =
     let l = c.before in
-    let i = l.loop2.invariant in
+    let i = l.loop-u.invariant in
     let b = before_row l in
     let whole = every (every non_zero) (w l) in
-    let told = test_done non_zero 0 (row l) (b && every non_zero (row l)) l.loop2.u l.loop2.fine (omega (arith, (is-square l).wide (v l) i.0)) i.2 in (
+    let told = test_done non_zero 0 (row l) (b && every non_zero (row l)) l.loop-u.u l.loop-u.fine (omega (arith, (is-square l).wide (v l) i.0)) i.2 in (
       omega arith,
-      test_more (every non_zero) [] (w l) whole (v l) b (every non_zero (row l)) (omega (arith, (is-square l).long)) l.before.before.loop.invariant.1 refl
+      test_more (every non_zero) [] (w l) whole (v l) b (every non_zero (row l)) (omega (arith, (is-square l).long)) l.loop-v.invariant.1 refl
           ∙ ap (λ (t : Bool). t && every (every non_zero) (drop (v l + 1) (w l))) (sym told),
     )
 
-returns : tie.Need-returns invariant_loop2 decreases-loop2 invariant_loop decreases-loop
+returns : tie.Need-returns invariant-loop-u decreases-loop-u invariant-loop-v decreases-loop-v
 returns c =
     let a = c.before in
     let s = a.before in
-    test_done (every non_zero) [] s.args.t1 (every (every non_zero) s.args.t1) a.loop.v a.loop.fine (omega (arith, (square s).long)) a.loop.invariant.1
+    test_done (every non_zero) [] s.args.w (every (every non_zero) s.args.w) a.loop-v.v a.loop-v.fine (omega (arith, (square s).long)) a.loop-v.invariant.1
 
 pub matrix_fine_spec : {M : Type 1} → statement M
 matrix_fine_spec =
     tie.close
     (tie.spec
-    invariant_loop2
-    decreases-loop2
-    invariant_loop
-    decreases-loop
-    loop_holds
-    loop2-holds
-    mul-nonzero
-    index-1-nonzero
-    index-2-nonzero
-    add-u
-    loop2-less
-    loop2-again
-    add-v
-    loop-less
-    loop_again
+    invariant-loop-u
+    decreases-loop-u
+    invariant-loop-v
+    decreases-loop-v
+    loop-v-init
+    loop-u-init
+    offset_bounds-w-v
+    bounds-w-v
+    bounds-w-u
+    overflow_step-u
+    loop-u-smaller
+    loop-u-preserved
+    overflow_step-v
+    loop-v-smaller
+    loop-v-preserved
     returns)

@@ -14,48 +14,48 @@ use Rattle.numbers.proofs.EveryLaws.{test_done, test_more}
 use Rattle.dequantise.proofs.context.row_fine.Statement.{statement}
 use Rattle.dequantise.proofs.context.row_fine.Tie as tie
 
-abbrev invariant_loop : tie.invariant-loop
-invariant_loop values fine₀ u₀ fine u = (u ≤ 8) × (every level_fine values ≡ (fine && every level_fine (drop u values)))
+abbrev invariant-loop-u : tie.invariant-loop-u
+invariant-loop-u values fine₀ u₀ fine u = (u ≤ 8) × (every level_fine values ≡ (fine && every level_fine (drop u values)))
 
-abbrev decreases-loop : tie.decreases-loop
-decreases-loop values fine₀ u₀ fine u = 8 - u
+abbrev decreases-loop-u : tie.decreases-loop-u
+decreases-loop-u values fine₀ u₀ fine u = 8 - u
 
-eight : (s : tie.Start invariant_loop decreases-loop) → length s.args.t1 ≡ 8
-eight s = good_length (e_s_int w32) 8 s.args.t1 _ s.well-formed.0
+eight : (s : tie.Start invariant-loop-u decreases-loop-u) → length s.args.row ≡ 8
+eight s = good_length (e_s_int w32) 8 s.args.row _ s.well_formed.0
 
-loop_holds : tie.Need-loop-init invariant_loop decreases-loop
-loop_holds c = (omega arith, refl)
+loop-u-init : tie.Need-loop-u-init invariant-loop-u decreases-loop-u
+loop-u-init c = (omega arith, refl)
 
-mul-fine : tie.Need-overflow-mul-fine invariant_loop decreases-loop
-mul-fine c = omega arith
+offset_bounds-row-u : tie.Need-offset_bounds-row-u invariant-loop-u decreases-loop-u
+offset_bounds-row-u c = omega arith
 
-array-copy-out-fine : tie.Need-array-copy-out-fine invariant_loop decreases-loop
-array-copy-out-fine c = omega arith
+bounds-row-u : tie.Need-bounds-row-u invariant-loop-u decreases-loop-u
+bounds-row-u c = omega arith
 
-fine-requires : tie.Need-fine-requires invariant_loop decreases-loop
-fine-requires c κs = tt
+fine-level-requires : tie.Need-fine-level-requires invariant-loop-u decreases-loop-u
+fine-level-requires c κs = tt
 
-add-u : tie.Need-overflow-add-u invariant_loop decreases-loop
-add-u c = omega arith
+overflow_step-u : tie.Need-overflow_step-u invariant-loop-u decreases-loop-u
+overflow_step-u c = omega arith
 
-loop-less : tie.Need-loop-smaller invariant_loop decreases-loop
-loop-less c = omega arith
+loop-u-smaller : tie.Need-loop-u-smaller invariant-loop-u decreases-loop-u
+loop-u-smaller c = omega arith
 
-loop_again : tie.Need-loop-preserved invariant_loop decreases-loop
-loop_again c =
+loop-u-preserved : tie.Need-loop-u-preserved invariant-loop-u decreases-loop-u
+loop-u-preserved c =
     let a = c.before.before.before in
     let s = a.before in
-    let z = get_or s.args.t1 a.loop.u (pos 0) in (
+    let z = get_or s.args.row a.loop-u.u (pos 0) in (
       omega arith,
-      test_more level_fine (pos 0) s.args.t1 (every level_fine s.args.t1) a.loop.u a.loop.fine c.fine.result (omega (arith, eight s)) a.loop.invariant.1
-          (c.fine.ensures ∙ ap level_fine (held z c.before.fine-arg.given)),
+      test_more level_fine (pos 0) s.args.row (every level_fine s.args.row) a.loop-u.u a.loop-u.fine c.fine-level.result (omega (arith, eight s)) a.loop-u.invariant.1
+          (c.fine-level.ensures ∙ ap level_fine (held z c.fine-arg-1.given)),
     )
 
-returns : tie.Need-returns invariant_loop decreases-loop
+returns : tie.Need-returns invariant-loop-u decreases-loop-u
 returns c =
     let a = c.before in
     let s = a.before in
-    test_done level_fine (pos 0) s.args.t1 (every level_fine s.args.t1) a.loop.u a.loop.fine (omega (arith, eight s)) a.loop.invariant.1
+    test_done level_fine (pos 0) s.args.row (every level_fine s.args.row) a.loop-u.u a.loop-u.fine (omega (arith, eight s)) a.loop-u.invariant.1
 
 pub row_fine_spec : {M : Type 1} → statement M
-row_fine_spec = tie.close (tie.spec invariant_loop decreases-loop loop_holds mul-fine array-copy-out-fine fine-requires add-u loop-less loop_again returns)
+row_fine_spec = tie.close (tie.spec invariant-loop-u decreases-loop-u loop-u-init offset_bounds-row-u bounds-row-u fine-level-requires overflow_step-u loop-u-smaller loop-u-preserved returns)

@@ -7,39 +7,39 @@ use Rattle.events.specs.EventReader.{level}
 use Rattle.fields.proofs.ChainLaws.{number_in, number_is}
 use Rattle.events.proofs.fixed.read_level.Tie as tie
 
-read-marked-requires : tie.Need-read-marked-requires
-read-marked-requires c κs = search rules
+read_marked-g-requires : tie.Need-read_marked-g-requires
+read_marked-g-requires c κs = search rules
 
-enum-known-g : tie.Need-enum-known-g
-enum-known-g c = search rules
+enum_known-g : tie.Need-enum_known-g
+enum_known-g c = search rules
 
-enum-known-g-2 : tie.Need-enum-known-g-2
-enum-known-g-2 c = search rules
+enum_known-g-in-Number-1 : tie.Need-enum_known-g-in-Number-1
+enum_known-g-in-Number-1 c = search rules
 
 settle-requires : tie.Need-settle-requires
 settle-requires c κs =
-    let f = c.before.before.before in
-    let a = f.before.before.args in
+    let f = c.before in
+    let a = f.args in
     let d = a.«data».now in
-    marked-lt 12 (bits_from d a.c.bit_pos) (number_is d _ _ f.read-marked.ensures c.before.g2.given.1)
+    marked-lt 12 (bits_from d a.c.bit_pos) (number_is d _ _ f.read_marked-g.ensures c.in-Number.is)
 
-returns : tie.Need-returns
+returns-in-Refused : tie.Need-returns-in-Refused
 unfolding level
-returns c =
-    let f = c.before.before.before in
-    let a = f.before.before.args in
-    refused_m a.«data».now a.table 12 _ _ _ f.read-marked.ensures c.before.g.given.1
+returns-in-Refused c =
+    let f = c.before in
+    let a = f.args in
+    refused_m a.«data».now a.table 12 _ _ _ f.read_marked-g.ensures c.in-Refused.is
 
-returns_2 : tie.Need-returns-2
+returns-in-Number : tie.Need-returns-in-Number
 unfolding level
-returns_2 c =
-    let g = c.before.before in
-    let f = g.before.before in
-    let a = f.before.before.args in
+returns-in-Number c =
+    let g = c.before in
+    let f = g.before in
+    let a = f.args in
     let d = a.«data».now in
-    let s = f.read-marked.ensures in
-    let q = g.g2.given.1 in
-    passed_m d a.table 12 _ _ _ s q (settled_says d a.table a.last a.run g.g2.given.0.0 _ _ c.settle.ensures (number_in d _ _ s q))
+    let s = f.read_marked-g.ensures in
+    let q = g.in-Number.is in
+    passed_m d a.table 12 _ _ _ s q (settled_says d a.table a.last a.run g.in-Number.v _ _ c.settle.ensures (number_in d _ _ s q))
 
 pub read_level_spec : {M : Type 1} → statement M
-read_level_spec = tie.close (tie.spec read-marked-requires enum-known-g enum-known-g-2 settle-requires returns returns_2)
+read_level_spec = tie.close (tie.spec read_marked-g-requires enum_known-g enum_known-g-in-Number-1 settle-requires returns-in-Refused returns-in-Number)

@@ -8,66 +8,66 @@ use Rattle.events.specs.declared.event.RowForm.{RowForm}
 use Rattle.events.specs.declared.spelling.Spelling.TheVariants.{Type1, Type2}
 use Rattle.events.proofs.row.event_of.Tie as tie
 
-enum_told : tie.Need-enum-told
-enum_told c = search rules
+enum_told-1 : tie.Need-enum_told-1
+enum_told-1 c = search rules
 
-row-event-requires : tie.Need-row-event-requires
-row-event-requires c κs = search rules
+row_event-requires : tie.Need-row_event-requires
+row_event-requires c κs = search rules
 
-enum-told-2 : tie.Need-enum-told-2
-enum-told-2 c = search rules
+enum_told-in-Type1 : tie.Need-enum_told-in-Type1
+enum_told-in-Type1 c = search rules
 
-add-number : tie.Need-overflow-add-number
-add-number c = search rules
+overflow_add-row : tie.Need-overflow_add-row
+overflow_add-row c = search rules
 
-number-requires : tie.Need-number-requires
-number-requires c κs = search rules
+number-more-requires : tie.Need-number-more-requires
+number-more-requires c κs = search rules
 
-row-event-requires-2 : tie.Need-row-event-requires-2
-row-event-requires-2 c κs = search rules
+row_event-requires-in-Type1 : tie.Need-row_event-requires-in-Type1
+row_event-requires-in-Type1 c κs = search rules
 
-enum-told-3 : tie.Need-enum-told-3
-enum-told-3 c = search rules
+enum_told-in-Type2 : tie.Need-enum_told-in-Type2
+enum_told-in-Type2 c = search rules
 
-add-number-2 : tie.Need-overflow-add-number-2
-add-number-2 c = search rules
+overflow_add-row-in-Type2 : tie.Need-overflow_add-row-in-Type2
+overflow_add-row-in-Type2 c = search rules
 
-number-requires-2 : tie.Need-number-requires-2
-number-requires-2 c κs = search rules
+number-more-requires-in-Type2 : tie.Need-number-more-requires-in-Type2
+number-more-requires-in-Type2 c κs = search rules
 
-add-more : tie.Need-overflow-add-more
-add-more c = search rules
+overflow_add-more : tie.Need-overflow_add-more
+overflow_add-more c = search rules
 
-row-event-requires-3 : tie.Need-row-event-requires-3
-row-event-requires-3 c κs = search rules
+row_event-requires-in-Type2 : tie.Need-row_event-requires-in-Type2
+row_event-requires-in-Type2 c κs = search rules
 
-enum-told-4 : tie.Need-enum-told-4
-enum-told-4 c = search rules
+enum_told-in-Reversible : tie.Need-enum_told-in-Reversible
+enum_told-in-Reversible c = search rules
 
-row-event-requires-4 : tie.Need-row-event-requires-4
-row-event-requires-4 c κs = search rules
+row_event-requires-in-Reversible : tie.Need-row_event-requires-in-Reversible
+row_event-requires-in-Reversible c κs = search rules
 
-returns : tie.Need-returns
-returns c =
-    let a = c.before.before.before.before.args in
-    c.row-event.ensures ∙ sym (ap (λ (k : RowForm). row_of a.events.now k a.row a.sign) c.before.enum_told.given.1)
+returns-in-Plain : tie.Need-returns-in-Plain
+returns-in-Plain c =
+    let a = c.args in
+    c.row_event.ensures ∙ sym (ap (λ (k : RowForm). row_of a.events.now k a.row a.sign) c.in-Plain.is)
 
-returns_2 : tie.Need-returns-2
-returns_2 c =
-    let a = c.before.before.before.before.before.args in
-    c.row-event2.ensures ∙ ap (λ (n : ℕ). row_event a.events.now 102 a.row a.sign n 0 Type1) c.before.number.ensures.0
-    ∙ sym (ap (λ (k : RowForm). row_of a.events.now k a.row a.sign) c.before.before.enum-told2.given.1)
+returns-in-Type1 : tie.Need-returns-in-Type1
+returns-in-Type1 c =
+    let a = c.args in
+    c.row_event-in-Type1.ensures ∙ ap (λ (n : ℕ). row_event a.events.now 102 a.row a.sign n 0 Type1) c.number-more.ensures.0
+    ∙ sym (ap (λ (k : RowForm). row_of a.events.now k a.row a.sign) c.in-Type1.is)
 
-returns_3 : tie.Need-returns-3
-returns_3 c =
-    let a = c.before.before.before.before.before.args in
-    c.row-event3.ensures ∙ ap (λ (n : ℕ). row_event a.events.now 102 a.row a.sign 0 (n + 1) Type2) c.before.number2.ensures.0
-    ∙ sym (ap (λ (k : RowForm). row_of a.events.now k a.row a.sign) c.before.before.enum-told3.given.1)
+returns-in-Type2 : tie.Need-returns-in-Type2
+returns-in-Type2 c =
+    let a = c.args in
+    c.row_event-in-Type2.ensures ∙ ap (λ (n : ℕ). row_event a.events.now 102 a.row a.sign 0 (n + 1) Type2) c.number-more-in-Type2.ensures.0
+    ∙ sym (ap (λ (k : RowForm). row_of a.events.now k a.row a.sign) c.in-Type2.is)
 
-returns_4 : tie.Need-returns-4
-returns_4 c =
-    let a = c.before.before.before.before.args in
-    c.row-event4.ensures ∙ sym (ap (λ (k : RowForm). row_of a.events.now k a.row a.sign) c.before.enum-told4.given.1)
+returns-in-Reversible : tie.Need-returns-in-Reversible
+returns-in-Reversible c =
+    let a = c.args in
+    c.row_event-in-Reversible.ensures ∙ sym (ap (λ (k : RowForm). row_of a.events.now k a.row a.sign) c.in-Reversible.is)
 
 pub event_of_spec : {M : Type 1} → statement M
-event_of_spec = tie.close (tie.spec enum_told row-event-requires enum-told-2 add-number number-requires row-event-requires-2 enum-told-3 add-number-2 number-requires-2 add-more row-event-requires-3 enum-told-4 row-event-requires-4 returns returns_2 returns_3 returns_4)
+event_of_spec = tie.close (tie.spec enum_told-1 row_event-requires enum_told-in-Type1 overflow_add-row number-more-requires row_event-requires-in-Type1 enum_told-in-Type2 overflow_add-row-in-Type2 number-more-requires-in-Type2 overflow_add-more row_event-requires-in-Type2 enum_told-in-Reversible row_event-requires-in-Reversible returns-in-Plain returns-in-Type1 returns-in-Type2 returns-in-Reversible)

@@ -6,17 +6,17 @@ use Rattle.events.proofs.RowLaws.{get_d_past}
 use Rattle.events.proofs.row.number.Statement.{statement}
 use Rattle.events.proofs.row.number.Tie as tie
 
-shared-slice-read-result : tie.Need-shared-slice-read-result
-shared-slice-read-result c = search rules
+bounds-events-at : tie.Need-bounds-events-at
+bounds-events-at c = search rules
 
-cast_result : tie.Need-overflow-cast-result
-cast_result c = omega (arith, c.shared-slice-known.given c.before.before.args.at)
+overflow_cast-result : tie.Need-overflow_cast-result
+overflow_cast-result c = omega (arith, c.shared_slice_known-1.given c.args.at)
+
+returns-then-at-events : tie.Need-returns-then-at-events
+returns-then-at-events c = (search rules, omega (arith, c.shared_slice_known-1.given c.args.at))
 
 returns : tie.Need-returns
-returns c = (search rules, omega (arith, c.shared-slice-known.given c.before.before.args.at))
-
-returns_2 : tie.Need-returns-2
-returns_2 c = (sym (get_d_past c.before.args.events.now c.before.args.at c.if1.false), omega arith)
+returns c = (sym (get_d_past c.args.events.now c.args.at c.if-at-events.false), omega arith)
 
 pub number_spec : {M : Type 1} → statement M
-number_spec = tie.close (tie.spec shared-slice-read-result cast_result returns returns_2)
+number_spec = tie.close (tie.spec bounds-events-at overflow_cast-result returns-then-at-events returns)

@@ -10,34 +10,34 @@ use Rattle.events.specs.declared.event.EventRead.TheVariants.{Event as EventIs}
 use Rattle.numbers.proofs.OutcomeLaws.{both}
 use Rattle.events.proofs.row.read_sign.Tie as tie
 
-read-field-requires : tie.Need-read-field-requires
-read-field-requires c κs = search rules
+read_field-g-requires : tie.Need-read_field-g-requires
+read_field-g-requires c κs = search rules
 
-enum-known-g : tie.Need-enum-known-g
-enum-known-g c = search rules
+enum_known-g : tie.Need-enum_known-g
+enum_known-g c = search rules
 
-enum-known-g-2 : tie.Need-enum-known-g-2
-enum-known-g-2 c = search rules
+enum_known-g-in-Number-1 : tie.Need-enum_known-g-in-Number-1
+enum_known-g-in-Number-1 c = search rules
 
-event-of-requires : tie.Need-event-of-requires
-event-of-requires c κs = search rules
+event_of-v-requires : tie.Need-event_of-v-requires
+event_of-v-requires c κs = search rules
 
-returns : tie.Need-returns
-returns c =
-    let f = c.before.before.before in
-    let a = f.before.before.before.args in
-    both event_outcome (sign-refused a.«data».now a.c.bit_pos _ f.read-field.ensures.0 a.events.now a.form a.row c.before.g.given.1)
+returns-in-Refused : tie.Need-returns-in-Refused
+returns-in-Refused c =
+    let f = c.before in
+    let a = f.args in
+    both event_outcome (sign-refused a.«data».now a.c.bit_pos _ f.read_field-g.ensures.0 a.events.now a.form a.row c.in-Refused.is)
     (sign_due_lem a.«data».now a.c.bit_pos a.events.now a.form a.row)
 
-returns_2 : tie.Need-returns-2
-returns_2 c =
-    let g = c.before.before in
-    let f = g.before.before in
-    let a = f.before.before.before.args in
+returns-in-Number : tie.Need-returns-in-Number
+returns-in-Number c =
+    let g = c.before in
+    let f = g.before in
+    let a = f.args in
     both event_outcome
-    (ap (λ (v : AcEvent). EventIs v g.g2.given.0.1.0) c.event-of.ensures
-    ∙ sign-given a.«data».now a.c.bit_pos _ f.read-field.ensures.0 a.events.now a.form a.row g.g2.given.1)
+    (ap (λ (v : AcEvent). EventIs v g.in-Number.next) c.event_of-v.ensures
+    ∙ sign-given a.«data».now a.c.bit_pos _ f.read_field-g.ensures.0 a.events.now a.form a.row g.in-Number.is)
     (sign_due_lem a.«data».now a.c.bit_pos a.events.now a.form a.row)
 
 pub read_sign_spec : {M : Type 1} → statement M
-read_sign_spec = tie.close (tie.spec read-field-requires enum-known-g enum-known-g-2 event-of-requires returns returns_2)
+read_sign_spec = tie.close (tie.spec read_field-g-requires enum_known-g enum_known-g-in-Number-1 event_of-v-requires returns-in-Refused returns-in-Number)

@@ -8,32 +8,32 @@ use Rattle.fields.specs.declared.code.CodeKind.{CodeKind}
 use Rattle.fields.specs.declared.error.TextureParseError.TheVariants.{EndedInsideCode}
 use Rattle.fields.proofs.code.no_code.Tie as tie
 
-returns : tie.Need-returns
-returns c = let a = c.before.args in ap (λ (t : Bool). cond t EndedInsideCode (invalid a.kind a.window)) (sym c.if1.true)
+returns-then-ends_inside : tie.Need-returns-then-ends_inside
+returns-then-ends_inside c = let a = c.args in ap (λ (t : Bool). cond t EndedInsideCode (invalid a.kind a.window)) (sym c.if-ends_inside.true)
 
-enum_told : tie.Need-enum-told
-enum_told c = search rules
+enum_told-1 : tie.Need-enum_told-1
+enum_told-1 c = search rules
 
-enum-told-2 : tie.Need-enum-told-2
-enum-told-2 c = search rules
+enum_told-in-Tcoef : tie.Need-enum_told-in-Tcoef
+enum_told-in-Tcoef c = search rules
 
-enum-told-3 : tie.Need-enum-told-3
-enum-told-3 c = search rules
+enum_told-in-Header : tie.Need-enum_told-in-Header
+enum_told-in-Header c = search rules
 
-returns_2 : tie.Need-returns-2
-returns_2 c =
-    let e = c.before.before in
-    ap₂ (λ (t : Bool) (k : CodeKind). cond t EndedInsideCode (invalid k e.before.args.window)) (sym e.if1.false) (sym c.enum_told.given.1)
+returns-in-DcSize : tie.Need-returns-in-DcSize
+returns-in-DcSize c =
+    let e = c.before in
+    ap₂ (λ (t : Bool) (k : CodeKind). cond t EndedInsideCode (invalid k e.args.window)) (sym e.if-ends_inside.false) (sym c.in-DcSize.is)
 
-returns_3 : tie.Need-returns-3
-returns_3 c =
-    let e = c.before.before in
-    ap₂ (λ (t : Bool) (k : CodeKind). cond t EndedInsideCode (invalid k e.before.args.window)) (sym e.if1.false) (sym c.enum-told2.given.1)
+returns-in-Tcoef : tie.Need-returns-in-Tcoef
+returns-in-Tcoef c =
+    let e = c.before in
+    ap₂ (λ (t : Bool) (k : CodeKind). cond t EndedInsideCode (invalid k e.args.window)) (sym e.if-ends_inside.false) (sym c.in-Tcoef.is)
 
-returns_4 : tie.Need-returns-4
-returns_4 c =
-    let e = c.before.before in
-    ap₂ (λ (t : Bool) (k : CodeKind). cond t EndedInsideCode (invalid k e.before.args.window)) (sym e.if1.false) (sym c.enum-told3.given.1)
+returns-in-Header : tie.Need-returns-in-Header
+returns-in-Header c =
+    let e = c.before in
+    ap₂ (λ (t : Bool) (k : CodeKind). cond t EndedInsideCode (invalid k e.args.window)) (sym e.if-ends_inside.false) (sym c.in-Header.is)
 
 pub no_code_spec : {M : Type 1} → statement M
-no_code_spec = tie.close (tie.spec returns enum_told enum-told-2 enum-told-3 returns_2 returns_3 returns_4)
+no_code_spec = tie.close (tie.spec returns-then-ends_inside enum_told-1 enum_told-in-Tcoef enum_told-in-Header returns-in-DcSize returns-in-Tcoef returns-in-Header)

@@ -8,35 +8,35 @@ use Rattle.fields.specs.Outcomes.{got_outcome}
 use Rattle.numbers.proofs.OutcomeLaws.{both}
 use Rattle.fields.proofs.field.read_marker.Tie as tie
 
-read-field-requires : tie.Need-read-field-requires
-read-field-requires c κs = search rules
+read_field-g-requires : tie.Need-read_field-g-requires
+read_field-g-requires c κs = search rules
 
-enum-known-g : tie.Need-enum-known-g
-enum-known-g c = search rules
+enum_known-g : tie.Need-enum_known-g
+enum_known-g c = search rules
 
-enum-known-g-2 : tie.Need-enum-known-g-2
-enum-known-g-2 c = search rules
+enum_known-g-in-Number-1 : tie.Need-enum_known-g-in-Number-1
+enum_known-g-in-Number-1 c = search rules
 
-returns : tie.Need-returns
-returns c =
-    let k = c.before.before in
-    let a = k.before.before.before.before.args in
-    both got_outcome (marker-there a.«data».now a.c.bit_pos a.missing _ _ c.if1.true (sym k.g2.given.1 ∙ k.before.before.read-field.ensures.0))
-    (marker_due_lem a.«data».now a.c.bit_pos a.missing)
-
-returns_2 : tie.Need-returns-2
-returns_2 c =
+returns-then-m-eq1 : tie.Need-returns-then-m-eq1
+returns-then-m-eq1 c =
     let k = c.before in
-    let a = k.before.before.before.before.args in
-    both got_outcome (marker-refused a.«data».now a.c.bit_pos a.missing _ (sym k.g.given.1 ∙ k.before.before.read-field.ensures.0))
+    let a = k.args in
+    both got_outcome (marker-there a.«data».now a.c.bit_pos a.missing _ _ c.if-m-eq1.true (sym k.in-Number.is ∙ k.read_field-g.ensures.0))
     (marker_due_lem a.«data».now a.c.bit_pos a.missing)
 
-returns_3 : tie.Need-returns-3
-returns_3 c =
-    let k = c.before.before in
-    let a = k.before.before.before.before.args in
-    both got_outcome (marker_missing a.«data».now a.c.bit_pos a.missing _ _ c.if1.false (sym k.g2.given.1 ∙ k.before.before.read-field.ensures.0))
+returns-in-Refused : tie.Need-returns-in-Refused
+returns-in-Refused c =
+    let k = c in
+    let a = k.args in
+    both got_outcome (marker-refused a.«data».now a.c.bit_pos a.missing _ (sym k.in-Refused.is ∙ k.read_field-g.ensures.0))
+    (marker_due_lem a.«data».now a.c.bit_pos a.missing)
+
+returns-else-m-eq1 : tie.Need-returns-else-m-eq1
+returns-else-m-eq1 c =
+    let k = c.before in
+    let a = k.args in
+    both got_outcome (marker_missing a.«data».now a.c.bit_pos a.missing _ _ c.if-m-eq1.false (sym k.in-Number.is ∙ k.read_field-g.ensures.0))
     (marker_due_lem a.«data».now a.c.bit_pos a.missing)
 
 pub read_marker_spec : {M : Type 1} → statement M
-read_marker_spec = tie.close (tie.spec read-field-requires enum-known-g enum-known-g-2 returns returns_2 returns_3)
+read_marker_spec = tie.close (tie.spec read_field-g-requires enum_known-g enum_known-g-in-Number-1 returns-then-m-eq1 returns-in-Refused returns-else-m-eq1)

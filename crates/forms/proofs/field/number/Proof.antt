@@ -6,51 +6,51 @@ use Rattle.forms.specs.Words.{number_in}
 use Rattle.forms.proofs.field.number.Statement.{statement}
 use Rattle.forms.proofs.field.number.Tie as tie
 
-returns : tie.Need-returns
-returns c =
-    let a = c.before.before.args in
-    says_none (number_in a.most) a.line.now a.from a.to c.if1.true
+returns-then-to-from : tie.Need-returns-then-to-from
+returns-then-to-from c =
+    let a = c.args in
+    says_none (number_in a.most) a.line.now a.from a.to c.if-to-from.true
 
-word-end-requires : tie.Need-word-end-requires
-word-end-requires c κs = search rules
+word_end-e-requires : tie.Need-word_end-e-requires
+word_end-e-requires c κs = search rules
 
-value-requires : tie.Need-value-requires
-value-requires c κs = search rules
+value-read-requires : tie.Need-value-read-requires
+value-read-requires c κs = search rules
 
-enum_told : tie.Need-enum-told
-enum_told c = search rules
+enum_told-1 : tie.Need-enum_told-1
+enum_told-1 c = search rules
 
-enum-known-read : tie.Need-enum-known-read
-enum-known-read c = search rules
+enum_known-read : tie.Need-enum_known-read
+enum_known-read c = search rules
 
-add-t10 : tie.Need-overflow-add-t10
-add-t10 c = search rules
+overflow_add-result : tie.Need-overflow_add-result
+overflow_add-result c = search rules
 
-returns_2 : tie.Need-returns-2
-returns_2 c =
-    let k = c.before.before in
+returns-in-Bad : tie.Need-returns-in-Bad
+returns-in-Bad c =
+    let k = c.before in
     let s = k.before.before.before.before in
     let a = s.args in
-    says-bad (number_in a.most) a.line.now a.from a.to k.before.before.if1.false s.requires.1.0 _ k.before.word-end.ensures.0
-    (sym c.enum_told.given.1 ∙ k.value.ensures)
+    says-bad (number_in a.most) a.line.now a.from a.to k.if-to-from.false s.requires.1.0 _ k.word_end-e.ensures.0
+    (sym c.in-Bad.is ∙ k.value-read.ensures)
 
-returns_3 : tie.Need-returns-3
-returns_3 c =
-    let k = c.before.before.before in
+returns-in-Is : tie.Need-returns-in-Is
+returns-in-Is c =
+    let k = c.before in
     let s = k.before.before.before.before in
     let a = s.args in
-    says_value (number_in a.most) a.line.now a.from a.to k.before.before.if1.false s.requires.1.0 _ k.before.word-end.ensures.0 _
-    (sym c.before.read.given.1 ∙ k.value.ensures)
+    says_value (number_in a.most) a.line.now a.from a.to k.if-to-from.false s.requires.1.0 _ k.word_end-e.ensures.0 _
+    (sym c.in-Is.is ∙ k.value-read.ensures)
 
 pub number_spec : {M : Type 1} → statement M
 number_spec =
     tie.close
     (tie.spec
-    returns
-    word-end-requires
-    value-requires
-    enum_told
-    enum-known-read
-    add-t10
-    returns_2
-    returns_3)
+    returns-then-to-from
+    word_end-e-requires
+    value-read-requires
+    enum_told-1
+    enum_known-read
+    overflow_add-result
+    returns-in-Bad
+    returns-in-Is)

@@ -7,46 +7,46 @@ use Rattle.forms.specs.Reading.{end_of}
 use Rattle.forms.proofs.field.word_end.Statement.{statement}
 use Rattle.forms.proofs.field.word_end.Tie as tie
 
-abbrev invariant_loop : tie.invariant-loop
-invariant_loop line from to e₀ e = (from ≤ e) × (e ≤ to) × (end_of line from to ≡ end_of line e to)
+abbrev invariant-loop-e : tie.invariant-loop-e
+invariant-loop-e line from to e₀ e = (from ≤ e) × (e ≤ to) × (end_of line from to ≡ end_of line e to)
 
-abbrev decreases-loop : tie.decreases-loop
-decreases-loop line from to e₀ e = to - e
+abbrev decreases-loop-e : tie.decreases-loop-e
+decreases-loop-e line from to e₀ e = to - e
 
-loop_holds : tie.Need-loop-init invariant_loop decreases-loop
-loop_holds c = (omega arith, c.requires.0, refl)
+loop-e-init : tie.Need-loop-e-init invariant-loop-e decreases-loop-e
+loop-e-init c = (omega arith, c.requires.0, refl)
 
-shared-slice-read-if1 : tie.Need-shared-slice-read-if1 invariant_loop decreases-loop
-shared-slice-read-if1 c = omega arith
+bounds-line-e : tie.Need-bounds-line-e invariant-loop-e decreases-loop-e
+bounds-line-e c = omega arith
 
-returns : tie.Need-returns invariant_loop decreases-loop
-returns c =
-    let l = c.before.before.before.loop in
+returns-then-line-e-eq32 : tie.Need-returns-then-line-e-eq32 invariant-loop-e decreases-loop-e
+returns-then-line-e-eq32 c =
+    let l = c.loop-e in
     let s = c.before.before.before.before in
     let a = s.args in (
-      sym (l.invariant.2 ∙ end_here a.line.now l.e a.to s.requires.1 c.before.before.loop-test.true c.if1.true),
+      sym (l.invariant.2 ∙ end_here a.line.now l.e a.to s.requires.1 c.loop-e-test.true c.if-line-e-eq32.true),
       (l.invariant.0, l.invariant.1),
     )
 
-add-e : tie.Need-overflow-add-e invariant_loop decreases-loop
-add-e c = omega arith
+overflow_add-e : tie.Need-overflow_add-e invariant-loop-e decreases-loop-e
+overflow_add-e c = omega arith
 
-loop-less : tie.Need-loop-smaller invariant_loop decreases-loop
-loop-less c = omega arith
+loop-e-smaller : tie.Need-loop-e-smaller invariant-loop-e decreases-loop-e
+loop-e-smaller c = omega arith
 
-loop_again : tie.Need-loop-preserved invariant_loop decreases-loop
-loop_again c =
-    let l = c.before.before.before.loop in
+loop-e-preserved : tie.Need-loop-e-preserved invariant-loop-e decreases-loop-e
+loop-e-preserved c =
+    let l = c.loop-e in
     let s = c.before.before.before.before in
     let a = s.args in (
       omega arith,
       omega arith,
-      l.invariant.2 ∙ end_later a.line.now l.e a.to s.requires.1 c.before.before.loop-test.true c.if1.false,
+      l.invariant.2 ∙ end_later a.line.now l.e a.to s.requires.1 c.loop-e-test.true c.if-line-e-eq32.false,
     )
 
-returns_2 : tie.Need-returns-2 invariant_loop decreases-loop
-returns_2 c =
-    let l = c.before.loop in
+returns : tie.Need-returns invariant-loop-e decreases-loop-e
+returns c =
+    let l = c.loop-e in
     let s = c.before.before in
     let a = s.args in
     let e : l.e ≡ a.to = omega arith in (
@@ -58,12 +58,12 @@ pub word_end_spec : {M : Type 1} → statement M
 word_end_spec =
     tie.close
     (tie.spec
-    invariant_loop
-    decreases-loop
-    loop_holds
-    shared-slice-read-if1
-    returns
-    add-e
-    loop-less
-    loop_again
-    returns_2)
+    invariant-loop-e
+    decreases-loop-e
+    loop-e-init
+    bounds-line-e
+    returns-then-line-e-eq32
+    overflow_add-e
+    loop-e-smaller
+    loop-e-preserved
+    returns)

@@ -11,57 +11,57 @@ use Rattle.forms.proofs.HexLaws.{part_fails, part_passes}
 use Rattle.forms.proofs.hex.all_hex.Statement.{statement}
 use Rattle.forms.proofs.hex.all_hex.Tie as tie
 
-abbrev invariant_loop : tie.invariant-loop
-invariant_loop line from to k₀ k = (from ≤ k) × (k ≤ to) × ((i : ℕ) → i < k → from ≤ i → is_hex (get_or line i 0) ≡ true)
+abbrev invariant-loop-k : tie.invariant-loop-k
+invariant-loop-k line from to k₀ k = (from ≤ k) × (k ≤ to) × ((i : ℕ) → i < k → from ≤ i → is_hex (get_or line i 0) ≡ true)
 
-abbrev decreases-loop : tie.decreases-loop
-decreases-loop line from to k₀ k = to - k
+abbrev decreases-loop-k : tie.decreases-loop-k
+decreases-loop-k line from to k₀ k = to - k
 
-loop_holds : tie.Need-loop-init invariant_loop decreases-loop
-loop_holds c = (omega arith, omega arith, λ i h l. absurd (omega arith))
+loop-k-init : tie.Need-loop-k-init invariant-loop-k decreases-loop-k
+loop-k-init c = (omega arith, omega arith, λ i h l. absurd (omega arith))
 
-shared-slice-read-is-hex : tie.Need-shared-slice-read-is-hex invariant_loop decreases-loop
-shared-slice-read-is-hex c = omega arith
+bounds-line-k : tie.Need-bounds-line-k invariant-loop-k decreases-loop-k
+bounds-line-k c = omega arith
 
-is-hex-requires : tie.Need-is-hex-requires invariant_loop decreases-loop
-is-hex-requires c κs = tt
+is_hex-requires : tie.Need-is_hex-requires invariant-loop-k decreases-loop-k
+is_hex-requires c κs = tt
 
-returns : tie.Need-returns invariant_loop decreases-loop
-returns c =
-    let l = c.before.before.before.before.loop in
+returns-then-not-is_hex : tie.Need-returns-then-not-is_hex invariant-loop-k decreases-loop-k
+returns-then-not-is_hex c =
+    let l = c.loop-k in
     let s = c.before.before.before.before.before.before in
     sym
-    (part_fails is_hex _ _ _ s.requires.1 l.k l.invariant.0 c.before.before.before.loop-test.true
-    (flag_refuses c.before.is-hex.ensures c.if1.true))
+    (part_fails is_hex _ _ _ s.requires.1 l.k l.invariant.0 c.loop-k-test.true
+    (flag_refuses c.is_hex.ensures c.if-not-is_hex.true))
 
-add-k : tie.Need-overflow-add-k invariant_loop decreases-loop
-add-k c = omega arith
+overflow_add-k : tie.Need-overflow_add-k invariant-loop-k decreases-loop-k
+overflow_add-k c = omega arith
 
-loop-less : tie.Need-loop-smaller invariant_loop decreases-loop
-loop-less c = omega arith
+loop-k-smaller : tie.Need-loop-k-smaller invariant-loop-k decreases-loop-k
+loop-k-smaller c = omega arith
 
-loop_again : tie.Need-loop-preserved invariant_loop decreases-loop
-loop_again c =
-    let l = c.before.before.before.before.loop in
-    (omega arith, omega arith, below_more _ _ l.invariant.2 (λ m. flag_passes c.before.is-hex.ensures c.if1.false))
+loop-k-preserved : tie.Need-loop-k-preserved invariant-loop-k decreases-loop-k
+loop-k-preserved c =
+    let l = c.loop-k in
+    (omega arith, omega arith, below_more _ _ l.invariant.2 (λ m. flag_passes c.is_hex.ensures c.if-not-is_hex.false))
 
-returns_2 : tie.Need-returns-2 invariant_loop decreases-loop
-returns_2 c =
-    let l = c.before.loop in
-    let e : l.k ≡ c.before.before.before.args.to = omega arith in
-    sym (part_passes is_hex _ _ _ c.before.before.before.requires.1 (λ i h m. l.invariant.2 i (omega arith) m))
+returns : tie.Need-returns invariant-loop-k decreases-loop-k
+returns c =
+    let l = c.loop-k in
+    let e : l.k ≡ c.args.to = omega arith in
+    sym (part_passes is_hex _ _ _ c.requires.1 (λ i h m. l.invariant.2 i (omega arith) m))
 
 pub all_hex_spec : {M : Type 1} → statement M
 all_hex_spec =
     tie.close
     (tie.spec
-    invariant_loop
-    decreases-loop
-    loop_holds
-    shared-slice-read-is-hex
-    is-hex-requires
-    returns
-    add-k
-    loop-less
-    loop_again
-    returns_2)
+    invariant-loop-k
+    decreases-loop-k
+    loop-k-init
+    bounds-line-k
+    is_hex-requires
+    returns-then-not-is_hex
+    overflow_add-k
+    loop-k-smaller
+    loop-k-preserved
+    returns)

@@ -10,59 +10,59 @@ use Rattle.forms.specs.Words.{same}
 use Rattle.forms.proofs.kind.is_word.Statement.{statement}
 use Rattle.forms.proofs.kind.is_word.Tie as tie
 
-abbrev invariant_loop : tie.invariant-loop
-invariant_loop line from to word k₀ k-end k = (k ≤ length word) × (k-end ≡ length word) × (same (part line from to) word ≡ same_from line from to word k)
+abbrev invariant-loop-k : tie.invariant-loop-k
+invariant-loop-k line from to word k₀ k-end k = (k ≤ length word) × (k-end ≡ length word) × (same (part line from to) word ≡ same_from line from to word k)
 
-abbrev decreases-loop : tie.decreases-loop
-decreases-loop line from to word k₀ k-end k = length word - k
+abbrev decreases-loop-k : tie.decreases-loop-k
+decreases-loop-k line from to word k₀ k-end k = length word - k
 
-sub-if1 : tie.Need-overflow-sub-if1 invariant_loop decreases-loop
-sub-if1 c = omega arith
+overflow_sub-to : tie.Need-overflow_sub-to invariant-loop-k decreases-loop-k
+overflow_sub-to c = omega arith
 
-returns : tie.Need-returns invariant_loop decreases-loop
-returns c =
+returns-then-to-from : tie.Need-returns-then-to-from invariant-loop-k decreases-loop-k
+returns-then-to-from c =
     let s = c.before in
     let a = s.args in
     let n = part_length a.line.now a.from a.to s.requires.1 in
-    sym (same_length (part a.line.now a.from a.to) a.word.now (λ e. c.if1.true (sym n ∙ e)))
+    sym (same_length (part a.line.now a.from a.to) a.word.now (λ e. c.if-to-from.true (sym n ∙ e)))
 
-loop_holds : tie.Need-loop-init invariant_loop decreases-loop
-loop_holds c = let a = c.before.args in (omega arith, refl, same-begins a.line.now a.from a.to a.word.now)
+loop-k-init : tie.Need-loop-k-init invariant-loop-k decreases-loop-k
+loop-k-init c = let a = c.args in (omega arith, refl, same-begins a.line.now a.from a.to a.word.now)
 
-add-if2 : tie.Need-overflow-add-if2 invariant_loop decreases-loop
-add-if2 c = omega arith
+overflow_add-from : tie.Need-overflow_add-from invariant-loop-k decreases-loop-k
+overflow_add-from c = omega arith
 
-shared-slice-read-if2 : tie.Need-shared-slice-read-if2 invariant_loop decreases-loop
-shared-slice-read-if2 c = omega arith
+bounds-line-from : tie.Need-bounds-line-from invariant-loop-k decreases-loop-k
+bounds-line-from c = omega arith
 
-shared-slice-read-if2-2 : tie.Need-shared-slice-read-if2-2 invariant_loop decreases-loop
-shared-slice-read-if2-2 c = omega arith
+bounds-word-k : tie.Need-bounds-word-k invariant-loop-k decreases-loop-k
+bounds-word-k c = omega arith
 
-returns_2 : tie.Need-returns-2 invariant_loop decreases-loop
-returns_2 c =
+returns-then-line-from : tie.Need-returns-then-line-from invariant-loop-k decreases-loop-k
+returns-then-line-from c =
     let p = c.before.before.before in
-    let l = p.before.loop in
+    let l = p.loop-k in
     let s = p.before.before.before in
     let a = s.args in
-    sym (l.invariant.2 ∙ same-no a.line.now a.from a.to a.word.now l.k s.requires.1 (omega arith) (omega arith) c.if2.true)
+    sym (l.invariant.2 ∙ same-no a.line.now a.from a.to a.word.now l.k s.requires.1 (omega arith) (omega arith) c.if-line-from.true)
 
-add-k : tie.Need-overflow-add-k invariant_loop decreases-loop
-add-k c = omega arith
+overflow_step-k : tie.Need-overflow_step-k invariant-loop-k decreases-loop-k
+overflow_step-k c = omega arith
 
-loop-less : tie.Need-loop-smaller invariant_loop decreases-loop
-loop-less c = omega arith
+loop-k-smaller : tie.Need-loop-k-smaller invariant-loop-k decreases-loop-k
+loop-k-smaller c = omega arith
 
-loop_again : tie.Need-loop-preserved invariant_loop decreases-loop
-loop_again c =
+loop-k-preserved : tie.Need-loop-k-preserved invariant-loop-k decreases-loop-k
+loop-k-preserved c =
     let p = c.before.before.before in
-    let l = p.before.loop in
+    let l = p.loop-k in
     let s = p.before.before.before in
     let a = s.args in
-    (omega arith, l.invariant.1, l.invariant.2 ∙ same_on a.line.now a.from a.to a.word.now l.k s.requires.1 (omega arith) (omega arith) c.if2.false)
+    (omega arith, l.invariant.1, l.invariant.2 ∙ same_on a.line.now a.from a.to a.word.now l.k s.requires.1 (omega arith) (omega arith) c.if-line-from.false)
 
-returns_3 : tie.Need-returns-3 invariant_loop decreases-loop
-returns_3 c =
-    let l = c.before.loop in
+returns : tie.Need-returns invariant-loop-k decreases-loop-k
+returns c =
+    let l = c.loop-k in
     let s = c.before.before.before in
     let a = s.args in
     sym (l.invariant.2 ∙ same_ends a.line.now a.from a.to a.word.now l.k s.requires.1 (omega arith) (omega arith))
@@ -71,16 +71,16 @@ pub is_word_spec : {M : Type 1} → statement M
 is_word_spec =
     tie.close
     (tie.spec
-    invariant_loop
-    decreases-loop
-    sub-if1
-    returns
-    loop_holds
-    add-if2
-    shared-slice-read-if2
-    shared-slice-read-if2-2
-    returns_2
-    add-k
-    loop-less
-    loop_again
-    returns_3)
+    invariant-loop-k
+    decreases-loop-k
+    overflow_sub-to
+    returns-then-to-from
+    loop-k-init
+    overflow_add-from
+    bounds-line-from
+    bounds-word-k
+    returns-then-line-from
+    overflow_step-k
+    loop-k-smaller
+    loop-k-preserved
+    returns)

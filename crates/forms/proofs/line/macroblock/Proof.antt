@@ -19,138 +19,138 @@ abbrev form : tie.Start → Form
 form s = mb_form (rest s s.args.from)
 
 -- the form once a word was read
-quantiser : (k : tie.After-known-told) → let s = k.before.before.before.before.before.before in let q = k.before.q.given.0 in form s ≡ after_quantiser q.0
-    (rest s q.1.0)
+quantiser : (k : tie.In-Value) → let s = k.before.before.before.before in let q = k.in-Value in form s ≡ after_quantiser q.quantiser
+    (rest s q.at_flag)
 unfolding mb_form pattern_form data_form
 quantiser k =
-    let s = k.before.before.before.before.before.before in
+    let s = k.before.before.before.before in
     let a = s.args in
-    field_is (number_in 65535) a.line.now a.from a.to k.before.before.before.number.ensures k.before.q.given.1 after_quantiser
+    field_is (number_in 65535) a.line.now a.from a.to k.number-q.ensures k.in-Value.is after_quantiser
 
-flag : (k : tie.After-known-told2) → let j = k.before.before.before.before in let s = j.before.before.before.before.before.before in
-    let q = j.before.q.given.0 in let f = k.before.a.given.0 in
-    form s ≡ after_flag q.0 f.0 (rest s f.1.0)
+flag : (k : tie.In-Value-a) → let j = k.before.before in let s = j.before.before.before.before in
+    let q = j.in-Value in let f = k.in-Value-a in
+    form s ≡ after_flag q.quantiser f.ac_pred (rest s f.at_kind)
 flag k =
-    let j = k.before.before.before.before in
-    let s = j.before.before.before.before.before.before in
+    let j = k.before.before in
+    let s = j.before.before.before.before in
     let a = s.args in
-    let q = j.before.q.given.0 in
-    quantiser j ∙ field_is (number_in 1) a.line.now q.1.0 a.to k.before.before.before.number2.ensures k.before.a.given.1 (after_flag q.0)
+    let q = j.in-Value in
+    quantiser j ∙ field_is (number_in 1) a.line.now q.at_flag a.to k.number-a.ensures k.in-Value-a.is (after_flag q.quantiser)
 
-number-requires : tie.Need-number-requires
-number-requires c κs = search rules
+number-q-requires : tie.Need-number-q-requires
+number-q-requires c κs = search rules
 
-enum_told : tie.Need-enum-told
-enum_told c = search rules
+enum_told-1 : tie.Need-enum_told-1
+enum_told-1 c = search rules
 
-enum-known-q : tie.Need-enum-known-q
-enum-known-q c = search rules
+enum_known-q : tie.Need-enum_known-q
+enum_known-q c = search rules
 
-number-requires-2 : tie.Need-number-requires-2
-number-requires-2 c κs =
-    let s = c.before.before.before.before.before.before in
+number-a-requires : tie.Need-number-a-requires
+number-a-requires c κs =
+    let s = c.before.before.before.before in
     let a = s.args in (
-      field_at (number_in 65535) a.line.now a.from a.to c.before.before.before.number.ensures c.before.q.given.1,
+      field_at (number_in 65535) a.line.now a.from a.to c.number-q.ensures c.in-Value.is,
       (s.requires.1.0, (s.requires.1.1.0, lit≤ tt)),
     )
 
-enum-told-2 : tie.Need-enum-told-2
-enum-told-2 c = search rules
+enum_told-in-Bad-a : tie.Need-enum_told-in-Bad-a
+enum_told-in-Bad-a c = search rules
 
-enum-known-a : tie.Need-enum-known-a
-enum-known-a c = search rules
+enum_known-a : tie.Need-enum_known-a
+enum_known-a c = search rules
 
-returns : tie.Need-returns
-returns c =
+returns-then-to-at_kind : tie.Need-returns-then-to-at_kind
+returns-then-to-at_kind c =
     let k = c.before in
-    let j = k.before.before.before.before in
-    let s = j.before.before.before.before.before.before in
+    let j = k.before.before in
+    let s = j.before.before.before.before in
     let a = s.args in
-    let f = k.before.a.given.0 in
-    refuses a.«data».now (flag k ∙ kind-none (pattern_form j.before.q.given.0.0 f.0) a.line.now f.1.0 a.to c.if1.true)
+    let f = k.in-Value-a in
+    refuses a.«data».now (flag k ∙ kind-none (pattern_form j.in-Value.quantiser f.ac_pred) a.line.now f.at_kind a.to c.if-to-at_kind.true)
 
-word-end-requires : tie.Need-word-end-requires
-word-end-requires c κs = search rules
+word_end-e-requires : tie.Need-word_end-e-requires
+word_end-e-requires c κs = search rules
 
-read-kind-requires : tie.Need-read-kind-requires
-read-kind-requires c κs = search rules
+read_kind-t-requires : tie.Need-read_kind-t-requires
+read_kind-t-requires c κs = search rules
 
-enum-told-3 : tie.Need-enum-told-3
-enum-told-3 c = search rules
+enum_told-in-Bad-t : tie.Need-enum_told-in-Bad-t
+enum_told-in-Bad-t c = search rules
 
-enum-known-t : tie.Need-enum-known-t
-enum-known-t c = search rules
+enum_known-t : tie.Need-enum_known-t
+enum_known-t c = search rules
 
-add-with-pattern : tie.Need-overflow-add-with-pattern
-add-with-pattern c = search rules
+overflow_add-e : tie.Need-overflow_add-e
+overflow_add-e c = search rules
 
-with-pattern-requires : tie.Need-with-pattern-requires
-with-pattern-requires c κs = search rules
+with_pattern-requires : tie.Need-with_pattern-requires
+with_pattern-requires c κs = search rules
 
-returns_2 : tie.Need-returns-2
+returns-in-Bad : tie.Need-returns-in-Bad
 unfolding mb_form pattern_form data_form
-returns_2 c =
-    let s = c.before.before.before.before.before in
+returns-in-Bad c =
+    let s = c.before.before.before.before in
     let a = s.args in
-    refuses a.«data».now (field-bad (number_in 65535) a.line.now a.from a.to c.before.before.number.ensures after_quantiser c.enum_told.given.1)
+    refuses a.«data».now (field-bad (number_in 65535) a.line.now a.from a.to c.number-q.ensures after_quantiser c.in-Bad.is)
 
-returns_3 : tie.Need-returns-3
-returns_3 c =
-    let k = c.before.before.before in
-    let s = k.before.before.before.before.before.before in
+returns-in-Bad-a : tie.Need-returns-in-Bad-a
+returns-in-Bad-a c =
+    let k = c.before.before in
+    let s = k.before.before.before.before in
     let a = s.args in
-    let q = k.before.q.given.0 in
-    let bad = field-bad (number_in 1) a.line.now q.1.0 a.to c.before.before.number2.ensures (after_flag q.0) c.enum-told2.given.1 in
+    let q = k.in-Value in
+    let bad = field-bad (number_in 1) a.line.now q.at_flag a.to c.number-a.ensures (after_flag q.quantiser) c.in-Bad-a.is in
     refuses a.«data».now (quantiser k ∙ bad)
 
-returns_4 : tie.Need-returns-4
-returns_4 c =
-    let r = c.before.before in
+returns-in-Bad-t : tie.Need-returns-in-Bad-t
+returns-in-Bad-t c =
+    let r = c.before in
     let k = r.before.before.before in
-    let j = k.before.before.before.before in
-    let s = j.before.before.before.before.before.before in
+    let j = k.before.before in
+    let s = j.before.before.before.before in
     let a = s.args in
-    let f = k.before.a.given.0 in
-    let bad = kind-bad (pattern_form j.before.q.given.0.0 f.0) a.line.now f.1.0 a.to r.before.before.if1.false s.requires.1.0 _
-    r.before.word-end.ensures.0 (sym c.enum-told3.given.1 ∙ r.read-kind.ensures) in
+    let f = k.in-Value-a in
+    let bad = kind-bad (pattern_form j.in-Value.quantiser f.ac_pred) a.line.now f.at_kind a.to r.if-to-at_kind.false s.requires.1.0 _
+    r.word_end-e.ensures.0 (sym c.in-Bad-t.is ∙ r.read_kind-t.ensures) in
     refuses a.«data».now (flag k ∙ bad)
 
-same_length : tie.Need-same-length
-same_length c = search rules
+shape_of-data : tie.Need-shape_of-data
+shape_of-data c = search rules
 
-returns_5 : tie.Need-returns-5
-returns_5 c =
+returns-in-Is : tie.Need-returns-in-Is
+returns-in-Is c =
     let d = c.before.before in
-    let t = d.before.before.before in
-    let r = t.before.before in
+    let t = d.before.before in
+    let r = t.before in
     let k = r.before.before.before in
-    let j = k.before.before.before.before in
-    let s = j.before.before.before.before.before.before in
+    let j = k.before.before in
+    let s = j.before.before.before.before in
     let a = s.args in
-    let f = k.before.a.given.0 in
-    let is = kind-is (pattern_form j.before.q.given.0.0 f.0) a.line.now f.1.0 a.to r.before.before.if1.false s.requires.1.0 _
-    r.before.word-end.ensures.0 _ (sym t.t.given.1 ∙ r.read-kind.ensures) in
-    goes_on a.«data».now (flag k ∙ is) d.with-pattern.ensures
+    let f = k.in-Value-a in
+    let is = kind-is (pattern_form j.in-Value.quantiser f.ac_pred) a.line.now f.at_kind a.to r.if-to-at_kind.false s.requires.1.0 _
+    r.word_end-e.ensures.0 _ (sym t.in-Is.is ∙ r.read_kind-t.ensures) in
+    goes_on a.«data».now (flag k ∙ is) d.with_pattern.ensures
 
 pub macroblock_spec : {M : Type 1} → statement M
 macroblock_spec =
     tie.close
     (tie.spec
-    number-requires
-    enum_told
-    enum-known-q
-    number-requires-2
-    enum-told-2
-    enum-known-a
-    returns
-    word-end-requires
-    read-kind-requires
-    enum-told-3
-    enum-known-t
-    add-with-pattern
-    with-pattern-requires
-    returns_2
-    returns_3
-    returns_4
-    same_length
-    returns_5)
+    number-q-requires
+    enum_told-1
+    enum_known-q
+    number-a-requires
+    enum_told-in-Bad-a
+    enum_known-a
+    returns-then-to-at_kind
+    word_end-e-requires
+    read_kind-t-requires
+    enum_told-in-Bad-t
+    enum_known-t
+    overflow_add-e
+    with_pattern-requires
+    returns-in-Bad
+    returns-in-Bad-a
+    returns-in-Bad-t
+    shape_of-data
+    returns-in-Is)

@@ -19,187 +19,187 @@ abbrev form : tie.Start → Form
 form s = picture_form (rest s s.args.from)
 
 -- the form once a word was read
-width : (k : tie.After-known-told) → let s = k.before.before.before.before.before in let w = k.before.w.given.0 in form s ≡ after_width w.0 (rest s w.1.0)
+width : (k : tie.In-Value) → let s = k.before.before.before in let w = k.in-Value in form s ≡ after_width w.width (rest s w.at_height)
 unfolding picture_form
 width k =
-    let a = k.before.before.before.before.before.args in
-    field_is (number_in 65535) a.line.now a.from a.to k.before.before.before.number.ensures k.before.w.given.1 after_width
+    let a = k.args in
+    field_is (number_in 65535) a.line.now a.from a.to k.number-w.ensures k.in-Value.is after_width
 
-height : (k : tie.After-known-told2) → let j = k.before.before.before.before in let s = j.before.before.before.before.before in
-    let w = j.before.w.given.0 in let h = k.before.h.given.0 in
-    form s ≡ after_height w.0 h.0 (rest s h.1.0)
+height : (k : tie.In-Value-h) → let j = k.before.before in let s = j.before.before.before in
+    let w = j.in-Value in let h = k.in-Value-h in
+    form s ≡ after_height w.width h.height (rest s h.at_depth)
 height k =
-    let j = k.before.before.before.before in
-    let a = j.before.before.before.before.before.args in
-    let w = j.before.w.given.0 in
-    width j ∙ field_is (number_in 65535) a.line.now w.1.0 a.to k.before.before.before.number2.ensures k.before.h.given.1 (after_height w.0)
+    let j = k.before.before in
+    let a = j.args in
+    let w = j.in-Value in
+    width j ∙ field_is (number_in 65535) a.line.now w.at_height a.to k.number-h.ensures k.in-Value-h.is (after_height w.width)
 
-depth : (k : tie.After-known-told3) → let j = k.before.before.before.before in let i = j.before.before.before.before in
-    let s = i.before.before.before.before.before in
-    let w = i.before.w.given.0 in let h = j.before.h.given.0 in let d = k.before.d.given.0 in form s ≡ after_depth w.0 h.0 d.0 (rest s d.1.0)
+depth : (k : tie.In-Value-d) → let j = k.before.before in let i = j.before.before in
+    let s = i.before.before.before in
+    let w = i.in-Value in let h = j.in-Value-h in let d = k.in-Value-d in form s ≡ after_depth w.width h.height d.depth (rest s d.at_method)
 depth k =
-    let j = k.before.before.before.before in
-    let i = j.before.before.before.before in
-    let a = i.before.before.before.before.before.args in
-    let w = i.before.w.given.0 in
-    let h = j.before.h.given.0 in
-    height j ∙ field_is (number_in 65535) a.line.now h.1.0 a.to k.before.before.before.number3.ensures k.before.d.given.1
-    (after_depth w.0 h.0)
+    let j = k.before.before in
+    let i = j.before.before in
+    let a = i.args in
+    let w = i.in-Value in
+    let h = j.in-Value-h in
+    height j ∙ field_is (number_in 65535) a.line.now h.at_depth a.to k.number-d.ensures k.in-Value-d.is
+    (after_depth w.width h.height)
 
-method : (c : tie.Else1) → let k = c.before in let j = k.before.before.before.before in let i = j.before.before.before.before in
-    let h = i.before.before.before.before in let s = h.before.before.before.before.before in let m = k.before.m.given.0 in
-    form s ≡ last (picture h.before.w.given.0.0 i.before.h.given.0.0 j.before.d.given.0.0 m.0) (rest s m.1.0)
+method : (c : tie.Else-method-eq0) → let k = c.before in let j = k.before.before in let i = j.before.before in
+    let h = i.before.before in let s = h.before.before.before in let m = k.in-Value-m in
+    form s ≡ last (picture h.in-Value.width i.in-Value-h.height j.in-Value-d.depth m.method) (rest s m.after)
 method c =
     let k = c.before in
-    let j = k.before.before.before.before in
-    let i = j.before.before.before.before in
-    let h = i.before.before.before.before in
-    let a = h.before.before.before.before.before.args in
-    let d = j.before.d.given.0 in
+    let j = k.before.before in
+    let i = j.before.before in
+    let h = i.before.before in
+    let a = h.args in
+    let d = j.in-Value-d in
     depth j
-    ∙ method-is a.line.now d.1.0 a.to k.before.before.before.number4.ensures
-    (λ m. last (picture h.before.w.given.0.0 i.before.h.given.0.0 d.0 m)) k.before.m.given.1 c.if1.false
+    ∙ method-is a.line.now d.at_method a.to k.number-m.ensures
+    (λ m. last (picture h.in-Value.width i.in-Value-h.height d.depth m)) k.in-Value-m.is c.if-method-eq0.false
 
-number-requires : tie.Need-number-requires
-number-requires c κs = search rules
+number-w-requires : tie.Need-number-w-requires
+number-w-requires c κs = search rules
 
-enum_told : tie.Need-enum-told
-enum_told c = search rules
+enum_told-1 : tie.Need-enum_told-1
+enum_told-1 c = search rules
 
-enum-known-w : tie.Need-enum-known-w
-enum-known-w c = search rules
+enum_known-w : tie.Need-enum_known-w
+enum_known-w c = search rules
 
-number-requires-2 : tie.Need-number-requires-2
-number-requires-2 c κs =
-    let s = c.before.before.before.before.before in
+number-h-requires : tie.Need-number-h-requires
+number-h-requires c κs =
+    let s = c.before.before.before in
     let a = s.args in (
-      field_at (number_in 65535) a.line.now a.from a.to c.before.before.before.number.ensures c.before.w.given.1,
+      field_at (number_in 65535) a.line.now a.from a.to c.number-w.ensures c.in-Value.is,
       (s.requires.1.0, (s.requires.1.1, lit≤ tt)),
     )
 
-enum-told-2 : tie.Need-enum-told-2
-enum-told-2 c = search rules
+enum_told-in-Bad-h : tie.Need-enum_told-in-Bad-h
+enum_told-in-Bad-h c = search rules
 
-enum-known-h : tie.Need-enum-known-h
-enum-known-h c = search rules
+enum_known-h : tie.Need-enum_known-h
+enum_known-h c = search rules
 
-number-requires-3 : tie.Need-number-requires-3
-number-requires-3 c κs =
-    let j = c.before.before.before.before in
+number-d-requires : tie.Need-number-d-requires
+number-d-requires c κs =
+    let j = c.before.before in
+    let s = j.before.before.before in
+    let a = s.args in (
+      field_at (number_in 65535) a.line.now j.in-Value.at_height a.to c.number-h.ensures c.in-Value-h.is,
+      (s.requires.1.0, (s.requires.1.1, lit≤ tt)),
+    )
+
+enum_told-in-Bad-d : tie.Need-enum_told-in-Bad-d
+enum_told-in-Bad-d c = search rules
+
+enum_known-d : tie.Need-enum_known-d
+enum_known-d c = search rules
+
+number-m-requires : tie.Need-number-m-requires
+number-m-requires c κs =
+    let j = c.before.before in
     let s = j.before.before.before.before.before in
     let a = s.args in (
-      field_at (number_in 65535) a.line.now j.before.w.given.0.1.0 a.to c.before.before.before.number2.ensures c.before.h.given.1,
+      field_at (number_in 65535) a.line.now j.in-Value-h.at_depth a.to c.number-d.ensures c.in-Value-d.is,
       (s.requires.1.0, (s.requires.1.1, lit≤ tt)),
     )
 
-enum-told-3 : tie.Need-enum-told-3
-enum-told-3 c = search rules
+enum_told-in-Bad-m : tie.Need-enum_told-in-Bad-m
+enum_told-in-Bad-m c = search rules
 
-enum-known-d : tie.Need-enum-known-d
-enum-known-d c = search rules
+enum_known-m : tie.Need-enum_known-m
+enum_known-m c = search rules
 
-number-requires-4 : tie.Need-number-requires-4
-number-requires-4 c κs =
-    let j = c.before.before.before.before in
-    let s = j.before.before.before.before.before.before.before.before.before in
-    let a = s.args in (
-      field_at (number_in 65535) a.line.now j.before.h.given.0.1.0 a.to c.before.before.before.number3.ensures c.before.d.given.1,
-      (s.requires.1.0, (s.requires.1.1, lit≤ tt)),
-    )
-
-enum-told-4 : tie.Need-enum-told-4
-enum-told-4 c = search rules
-
-enum-known-m : tie.Need-enum-known-m
-enum-known-m c = search rules
-
-returns : tie.Need-returns
-returns c =
+returns-then-method-eq0 : tie.Need-returns-then-method-eq0
+returns-then-method-eq0 c =
     let k = c.before in
-    let j = k.before.before.before.before in
-    let i = j.before.before.before.before in
-    let h = i.before.before.before.before in
-    let a = h.before.before.before.before.before.args in
-    let zero = method_0 a.line.now j.before.d.given.0.1.0 a.to k.before.before.before.number4.ensures
-    (λ m. last (picture h.before.w.given.0.0 i.before.h.given.0.0 j.before.d.given.0.0 m)) k.before.m.given.1 c.if1.true in
+    let j = k.before.before in
+    let i = j.before.before in
+    let h = i.before.before in
+    let a = h.args in
+    let zero = method_0 a.line.now j.in-Value-d.at_method a.to k.number-m.ensures
+    (λ m. last (picture h.in-Value.width i.in-Value-h.height j.in-Value-d.depth m)) k.in-Value-m.is c.if-method-eq0.true in
     sym (ap line_of (depth j ∙ zero))
 
-returns_2 : tie.Need-returns-2
-returns_2 c =
+returns-then-after-to : tie.Need-returns-then-after-to
+returns-then-after-to c =
     let k = c.before.before in
-    let j = k.before.before.before.before in
-    let i = j.before.before.before.before in
-    let h = i.before.before.before.before in
-    let s = h.before.before.before.before.before in
-    let m = k.before.m.given.0 in
-    sym (ap line_of (method c.before ∙ last_more (picture h.before.w.given.0.0 i.before.h.given.0.0 j.before.d.given.0.0 m.0)
-    s.args.line.now m.1.0 s.args.to c.if2.true s.requires.1.0))
+    let j = k.before.before in
+    let i = j.before.before in
+    let h = i.before.before in
+    let s = h.before.before.before in
+    let m = k.in-Value-m in
+    sym (ap line_of (method c.before ∙ last_more (picture h.in-Value.width i.in-Value-h.height j.in-Value-d.depth m.method)
+    s.args.line.now m.after s.args.to c.if-after-to.true s.requires.1.0))
 
-returns_3 : tie.Need-returns-3
+returns-in-Bad : tie.Need-returns-in-Bad
 unfolding picture_form
-returns_3 c =
-    let a = c.before.before.before.before.args in
-    sym (ap line_of (field-bad (number_in 65535) a.line.now a.from a.to c.before.before.number.ensures after_width c.enum_told.given.1))
+returns-in-Bad c =
+    let a = c.args in
+    sym (ap line_of (field-bad (number_in 65535) a.line.now a.from a.to c.number-w.ensures after_width c.in-Bad.is))
 
-returns_4 : tie.Need-returns-4
-returns_4 c =
-    let k = c.before.before.before in
-    let a = k.before.before.before.before.before.args in
-    let w = k.before.w.given.0 in
-    sym (ap line_of (width k ∙ field-bad (number_in 65535) a.line.now w.1.0 a.to c.before.before.number2.ensures (after_height w.0)
-    c.enum-told2.given.1))
+returns-in-Bad-h : tie.Need-returns-in-Bad-h
+returns-in-Bad-h c =
+    let k = c.before.before in
+    let a = k.args in
+    let w = k.in-Value in
+    sym (ap line_of (width k ∙ field-bad (number_in 65535) a.line.now w.at_height a.to c.number-h.ensures (after_height w.width)
+    c.in-Bad-h.is))
 
-returns_5 : tie.Need-returns-5
-returns_5 c =
-    let k = c.before.before.before in
-    let j = k.before.before.before.before in
-    let a = j.before.before.before.before.before.args in
-    let h = k.before.h.given.0 in
-    let bad = field-bad (number_in 65535) a.line.now h.1.0 a.to c.before.before.number3.ensures (after_depth j.before.w.given.0.0 h.0)
-    c.enum-told3.given.1 in
+returns-in-Bad-d : tie.Need-returns-in-Bad-d
+returns-in-Bad-d c =
+    let k = c.before.before in
+    let j = k.before.before in
+    let a = j.args in
+    let h = k.in-Value-h in
+    let bad = field-bad (number_in 65535) a.line.now h.at_depth a.to c.number-d.ensures (after_depth j.in-Value.width h.height)
+    c.in-Bad-d.is in
     sym (ap line_of (height k ∙ bad))
 
-returns_6 : tie.Need-returns-6
-returns_6 c =
-    let j = c.before.before.before in
-    let i = j.before.before.before.before in
-    let h = i.before.before.before.before in
-    let a = h.before.before.before.before.before.args in
-    let bad = no-method a.line.now j.before.d.given.0.1.0 a.to c.before.before.number4.ensures
-    (λ m. last (picture h.before.w.given.0.0 i.before.h.given.0.0 j.before.d.given.0.0 m)) c.enum-told4.given.1 in
+returns-in-Bad-m : tie.Need-returns-in-Bad-m
+returns-in-Bad-m c =
+    let j = c.before.before in
+    let i = j.before.before in
+    let h = i.before.before in
+    let a = h.args in
+    let bad = no-method a.line.now j.in-Value-d.at_method a.to c.number-m.ensures
+    (λ m. last (picture h.in-Value.width i.in-Value-h.height j.in-Value-d.depth m)) c.in-Bad-m.is in
     sym (ap line_of (depth j ∙ bad))
 
-returns-7 : tie.Need-returns-7
-returns-7 c =
+returns-else-after-to : tie.Need-returns-else-after-to
+returns-else-after-to c =
     let k = c.before.before in
-    let j = k.before.before.before.before in
-    let i = j.before.before.before.before in
-    let h = i.before.before.before.before in
-    let a = h.before.before.before.before.before.args in
-    let m = k.before.m.given.0 in
-    sym (ap line_of (method c.before ∙ last_none (picture h.before.w.given.0.0 i.before.h.given.0.0 j.before.d.given.0.0 m.0) a.line.now
-    m.1.0 a.to c.if2.false))
+    let j = k.before.before in
+    let i = j.before.before in
+    let h = i.before.before in
+    let a = h.args in
+    let m = k.in-Value-m in
+    sym (ap line_of (method c.before ∙ last_none (picture h.in-Value.width i.in-Value-h.height j.in-Value-d.depth m.method) a.line.now
+    m.after a.to c.if-after-to.false))
 
 pub picture_spec : {M : Type 1} → statement M
 picture_spec =
     tie.close
     (tie.spec
-    number-requires
-    enum_told
-    enum-known-w
-    number-requires-2
-    enum-told-2
-    enum-known-h
-    number-requires-3
-    enum-told-3
-    enum-known-d
-    number-requires-4
-    enum-told-4
-    enum-known-m
-    returns
-    returns_2
-    returns_3
-    returns_4
-    returns_5
-    returns_6
-    returns-7)
+    number-w-requires
+    enum_told-1
+    enum_known-w
+    number-h-requires
+    enum_told-in-Bad-h
+    enum_known-h
+    number-d-requires
+    enum_told-in-Bad-d
+    enum_known-d
+    number-m-requires
+    enum_told-in-Bad-m
+    enum_known-m
+    returns-then-method-eq0
+    returns-then-after-to
+    returns-in-Bad
+    returns-in-Bad-h
+    returns-in-Bad-d
+    returns-in-Bad-m
+    returns-else-after-to)

@@ -7,64 +7,64 @@ use Rattle.forms.specs.declared.line.Line.TheVariants.{Macroblock}
 use Rattle.forms.proofs.line.with_data.Statement.{statement}
 use Rattle.forms.proofs.line.with_data.Tie as tie
 
-returns : tie.Need-returns
-returns c =
-    let a = c.before.before.before.args in
-    refuses a.«data».now (data_none a.q a.ac-pred a.kind a.cbpy a.cbpc a.line.now a.from a.to c.if1.true)
+returns-then-to-from : tie.Need-returns-then-to-from
+returns-then-to-from c =
+    let a = c.args in
+    refuses a.«data».now (data_none a.q a.ac_pred a.kind a.cbpy a.cbpc a.line.now a.from a.to c.if-to-from.true)
 
-word-end-requires : tie.Need-word-end-requires
-word-end-requires c κs = search rules
+word_end-e-requires : tie.Need-word_end-e-requires
+word_end-e-requires c κs = search rules
 
-returns_2 : tie.Need-returns-2
-returns_2 c =
+returns-then-e-to : tie.Need-returns-then-e-to
+returns-then-e-to c =
     let k = c.before in
     let s = k.before.before.before.before in
     let a = s.args in
-    refuses a.«data».now (data_more a.q a.ac-pred a.kind a.cbpy a.cbpc a.line.now a.from a.to k.before.if1.false s.requires.1.0 _
-    k.word-end.ensures.0 c.if2.true)
+    refuses a.«data».now (data_more a.q a.ac_pred a.kind a.cbpy a.cbpc a.line.now a.from a.to k.if-to-from.false s.requires.1.0 _
+    k.word_end-e.ensures.0 c.if-e-to.true)
 
-is-data-requires : tie.Need-is-data-requires
-is-data-requires c κs = search rules
+is_data-requires : tie.Need-is_data-requires
+is_data-requires c κs = search rules
 
-returns_3 : tie.Need-returns-3
-returns_3 c =
+returns-then-not-is_data : tie.Need-returns-then-not-is_data
+returns-then-not-is_data c =
     let k = c.before.before.before in
     let s = k.before.before.before.before in
     let a = s.args in
     refuses a.«data».now
-    (data_bad a.q a.ac-pred a.kind a.cbpy a.cbpc a.line.now a.from a.to k.before.if1.false s.requires.1.0 _ k.word-end.ensures.0
-    c.before.before.if2.false (flag_refuses c.before.is-data.ensures c.if3.true))
+    (data_bad a.q a.ac_pred a.kind a.cbpy a.cbpc a.line.now a.from a.to k.if-to-from.false s.requires.1.0 _ k.word_end-e.ensures.0
+    c.if-e-to.false (flag_refuses c.is_data.ensures c.if-not-is_data.true))
 
-data-of-requires : tie.Need-data-of-requires
-data-of-requires c κs =
+data_of-n-requires : tie.Need-data_of-n-requires
+data_of-n-requires c κs =
     let k = c.before in
     let s = k.before.before.before.before.before.before.before in
-    (k.before.before.before.before.if1.false, (s.requires.1.0, (s.requires.1.1.0, (s.requires.1.1.1, flag_passes k.before.is-data.ensures k.if3.false))))
+    (k.if-to-from.false, (s.requires.1.0, (s.requires.1.1.0, (s.requires.1.1.1, flag_passes k.is_data.ensures k.if-not-is_data.false))))
 
-same_length : tie.Need-same-length
-same_length c = search rules
+shape_of-data : tie.Need-shape_of-data
+shape_of-data c = search rules
 
-returns_4 : tie.Need-returns-4
-returns_4 c =
+returns : tie.Need-returns
+returns c =
     let d = c.before.before in
     let t = d.before.before in
     let k = t.before.before.before in
     let s = k.before.before.before.before in
     let a = s.args in
     goes_on a.«data».now
-    (data_is a.q a.ac-pred a.kind a.cbpy a.cbpc a.line.now a.from a.to k.before.if1.false s.requires.1.0 _ k.word-end.ensures.0
-    t.before.before.if2.false (flag_passes t.before.is-data.ensures t.if3.false))
-    (ap (Macroblock a.q a.ac-pred a.kind a.cbpy a.cbpc) d.data_of.ensures.0, d.data_of.ensures.1)
+    (data_is a.q a.ac_pred a.kind a.cbpy a.cbpc a.line.now a.from a.to k.if-to-from.false s.requires.1.0 _ k.word_end-e.ensures.0
+    t.if-e-to.false (flag_passes t.is_data.ensures t.if-not-is_data.false))
+    (ap (Macroblock a.q a.ac_pred a.kind a.cbpy a.cbpc) d.data_of-n.ensures.0, d.data_of-n.ensures.1)
 
 pub with_data_spec : {M : Type 1} → statement M
 with_data_spec =
     tie.close
     (tie.spec
-    returns
-    word-end-requires
-    returns_2
-    is-data-requires
-    returns_3
-    data-of-requires
-    same_length
-    returns_4)
+    returns-then-to-from
+    word_end-e-requires
+    returns-then-e-to
+    is_data-requires
+    returns-then-not-is_data
+    data_of-n-requires
+    shape_of-data
+    returns)

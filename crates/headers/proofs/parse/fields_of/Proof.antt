@@ -14,22 +14,22 @@ use Rattle.headers.proofs.parse.fields_of.Tie as tie
 
 -- the quantiser and what it is changed by
 abbrev changed : tie.Start → Sx w32
-changed s = loc (pos s.args.quantiser-scale) 31 (let h = s.pre.1 in omega arith) ⊞ loc s.args.p.dquant_delta 2 s.pre.0.2
+changed s = loc (pos s.args.quantiser_scale) 31 (let h = s.requires.1 in omega arith) ⊞ loc s.args.p.dquant_delta 2 s.requires.0.2
 
-type-of-requires : tie.Need-type-of-requires
-type-of-requires c κs = c.pre.0.0
+type_of-mb_type-requires : tie.Need-type_of-mb_type-requires
+type_of-mb_type-requires c κs = c.requires.0.0
 
-cast-changed : tie.Need-cast-changed
-cast-changed c = search rules
+overflow_cast-changed : tie.Need-overflow_cast-changed
+overflow_cast-changed c = search rules
 
-add-changed : tie.Need-add-changed
-add-changed c = fits (changed c.before.before.before) tt
+overflow_add-changed : tie.Need-overflow_add-changed
+overflow_add-changed c = fits (changed c.before.before.before) tt
 
-cast-t7 : tie.Need-cast-t7
-cast-t7 c = search rules
+overflow_cast-result : tie.Need-overflow_cast-result
+overflow_cast-result c = search rules
 
-cast-t10 : tie.Need-cast-t10
-cast-t10 c = search rules
+overflow_cast-result-2 : tie.Need-overflow_cast-result-2
+overflow_cast-result-2 c = search rules
 
 limited-requires : tie.Need-limited-requires
 limited-requires c κs = search rules
@@ -40,8 +40,8 @@ returns c =
     let t = l.before.before.before.before.before.before in
     let s = t.before in
     let a = s.args in
-    fields_are a.p a.quantiser-scale s.pre.0 t.type-of.result t.type-of.ensures _ (to_z-of_z (fits_mag 2 tt a.p.dquant_delta s.pre.0.2))
+    fields_are a.p a.quantiser_scale s.requires.0 t.type_of-mb_type.result t.type_of-mb_type.ensures _ (to_z-of_z (fits_mag 2 tt a.p.dquant_delta s.requires.0.2))
     l.limited.result (l.limited.ensures ∙ ap limited_quantiser (back (changed s) tt))
 
 pub fields_of_spec : {M : Type 1} → statement M
-fields_of_spec = tie.close (tie.spec type-of-requires cast-changed add-changed cast-t7 cast-t10 limited-requires returns)
+fields_of_spec = tie.close (tie.spec type_of-mb_type-requires overflow_cast-changed overflow_add-changed overflow_cast-result overflow_cast-result-2 limited-requires returns)

@@ -11,49 +11,49 @@ use Rattle.headers.proofs.parse.parse_plainly.Statement.{statement}
 use Rattle.headers.proofs.parse.parse_plainly.Tie as tie
 
 -- the parts that were read
-parts : (k : tie.After-known-told2) → let r = k.before.before.before in let a = r.before.before.args in
+parts : (k : tie.In-Parts) → let r = k.before in let a = r.args in
     let d = a.«data».now in
-    Told (bits_from d a.c.bit_pos) k.before.read2.given.0.0 (bits_from d k.before.read2.given.0.1.0.bit_pos)
+    Told (bits_from d a.c.bit_pos) k.in-Parts.p (bits_from d k.in-Parts.next.bit_pos)
 parts k =
-    let r = k.before.before.before in
-    let a = r.before.before.args in
+    let r = k.before in
+    let a = r.args in
     let d = a.«data».now in
-    told (bits_from d a.c.bit_pos) _ _ (sym r.read-parts.ensures.is ∙ ap (said_parts d) k.before.read2.given.1)
+    told (bits_from d a.c.bit_pos) _ _ (sym r.read_parts-read.ensures.is ∙ ap (said_parts d) k.in-Parts.is)
 
-read-parts-requires : tie.Need-read-parts-requires
-read-parts-requires c κs = search rules
+read_parts-read-requires : tie.Need-read_parts-read-requires
+read_parts-read-requires c κs = search rules
 
-enum-known-read : tie.Need-enum-known-read
-enum-known-read c = search rules
+enum_known-read : tie.Need-enum_known-read
+enum_known-read c = search rules
 
-enum-known-read-2 : tie.Need-enum-known-read-2
-enum-known-read-2 c = search rules
+enum_known-read-in-Parts-1 : tie.Need-enum_known-read-in-Parts-1
+enum_known-read-in-Parts-1 c = search rules
 
-fields-of-requires : tie.Need-fields-of-requires
-fields-of-requires c κs = ((parts c).fine, c.before.before.before.before.before.requires.1)
+fields_of-fields-requires : tie.Need-fields_of-fields-requires
+fields_of-fields-requires c κs = ((parts c).fine, c.requires.1)
 
-returns : tie.Need-returns
-returns c =
-    let r = c.before.before.before in
-    let a = r.before.before.args in
+returns-in-Refused : tie.Need-returns-in-Refused
+returns-in-Refused c =
+    let r = c.before in
+    let a = r.args in
     let d = a.«data».now in
-    header_refused d a.c.bit_pos a.quantiser-scale (mapped-no parts_of (read_header (bits_from d a.c.bit_pos)) (sym r.read-parts.ensures.is ∙ ap (said_parts d) c.before.read.given.1))
+    header_refused d a.c.bit_pos a.quantiser_scale (mapped-no parts_of (read_header (bits_from d a.c.bit_pos)) (sym r.read_parts-read.ensures.is ∙ ap (said_parts d) c.in-Refused.is))
 
-returns_2 : tie.Need-returns-2
-returns_2 c =
+returns-in-Parts : tie.Need-returns-in-Parts
+returns-in-Parts c =
     let t = c.before in
-    let r = t.before.before.before in
-    let a = r.before.before.args in
+    let r = t.before in
+    let a = r.args in
     let d = a.«data».now in
-    header-given d a.c.bit_pos a.quantiser-scale _ _ (subst (InsideParts d) t.before.read2.given.1 r.read-parts.ensures.inside) (parts t) _ c.fields-of.ensures
+    header-given d a.c.bit_pos a.quantiser_scale _ _ (subst (InsideParts d) t.in-Parts.is r.read_parts-read.ensures.inside) (parts t) _ c.fields_of-fields.ensures
 
 pub parse_plainly_spec : {M : Type 1} → statement M
 parse_plainly_spec =
     tie.close
     (tie.spec
-    read-parts-requires
-    enum-known-read
-    enum-known-read-2
-    fields-of-requires
-    returns
-    returns_2)
+    read_parts-read-requires
+    enum_known-read
+    enum_known-read-in-Parts-1
+    fields_of-fields-requires
+    returns-in-Refused
+    returns-in-Parts)

@@ -6,11 +6,11 @@ use Rattle.headers.proofs.parse.type_of.Statement.{statement}
 use Rattle.headers.specs.declared.header.DerivedMbType.TheVariants.{Intra, IntraQ}
 use Rattle.headers.proofs.parse.type_of.Tie as tie
 
-returns : tie.Need-returns
-returns c = ap (λ (t : Bool). cond t IntraQ Intra) (sym (no_change c.before.args.mcbpc c.if1.true))
+returns-then-mcbpc-lt4 : tie.Need-returns-then-mcbpc-lt4
+returns-then-mcbpc-lt4 c = ap (λ (t : Bool). cond t IntraQ Intra) (sym (no_change c.args.mcbpc c.if-mcbpc-lt4.true))
 
-returns_2 : tie.Need-returns-2
-returns_2 c = ap (λ (t : Bool). cond t IntraQ Intra) (sym (change c.before.args.mcbpc c.if1.false c.before.requires))
+returns : tie.Need-returns
+returns c = ap (λ (t : Bool). cond t IntraQ Intra) (sym (change c.args.mcbpc c.if-mcbpc-lt4.false c.requires))
 
 pub type_of_spec : {M : Type 1} → statement M
-type_of_spec = tie.close (tie.spec returns returns_2)
+type_of_spec = tie.close (tie.spec returns-then-mcbpc-lt4 returns)

@@ -3,17 +3,17 @@ use borrow.Author.Tests.{eq-eqb, ne_eqb}
 use Rattle.headers.proofs.parts.dquant_value.Statement.{statement}
 use Rattle.headers.proofs.parts.dquant_value.Tie as tie
 
+returns-then-code-eq0 : tie.Need-returns-then-code-eq0
+returns-then-code-eq0 c = simp (eq-eqb _ _ c.if-code-eq0.true)
+
+returns-then-code-eq1 : tie.Need-returns-then-code-eq1
+returns-then-code-eq1 c = simp (ne_eqb _ _ c.if-code-eq0.false, eq-eqb _ _ c.if-code-eq1.true)
+
+returns-then-code-eq2 : tie.Need-returns-then-code-eq2
+returns-then-code-eq2 c = simp (ne_eqb _ _ c.if-code-eq0.false, ne_eqb _ _ c.if-code-eq1.false, eq-eqb _ _ c.if-code-eq2.true)
+
 returns : tie.Need-returns
-returns c = simp (eq-eqb _ _ c.if1.true)
-
-returns_2 : tie.Need-returns-2
-returns_2 c = simp (ne_eqb _ _ c.before.if1.false, eq-eqb _ _ c.if2.true)
-
-returns_3 : tie.Need-returns-3
-returns_3 c = simp (ne_eqb _ _ c.before.before.if1.false, ne_eqb _ _ c.before.if2.false, eq-eqb _ _ c.if3.true)
-
-returns_4 : tie.Need-returns-4
-returns_4 c = simp (ne_eqb _ _ c.before.before.if1.false, ne_eqb _ _ c.before.if2.false, ne_eqb _ _ c.if3.false)
+returns c = simp (ne_eqb _ _ c.if-code-eq0.false, ne_eqb _ _ c.if-code-eq1.false, ne_eqb _ _ c.if-code-eq2.false)
 
 pub dquant_value_spec : {M : Type 1} → statement M
-dquant_value_spec = tie.close (tie.spec returns returns_2 returns_3 returns_4)
+dquant_value_spec = tie.close (tie.spec returns-then-code-eq0 returns-then-code-eq1 returns-then-code-eq2 returns)

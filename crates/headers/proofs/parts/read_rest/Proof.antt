@@ -13,85 +13,85 @@ use Rattle.headers.proofs.parts.read_rest.Statement.{statement}
 use Rattle.headers.proofs.parts.read_rest.Tie as tie
 
 -- the flag
-flag : (r : tie.After-read-field) → let a = r.before.before.args in SaysNumber a.«data».now r.read-field.result (field 1 (bits_from a.«data».now a.c.bit_pos))
+flag : (r : tie.After-read_field-g) → let a = r.args in SaysNumber a.«data».now r.read_field-g.result (field 1 (bits_from a.«data».now a.c.bit_pos))
 flag r =
     let s = r.before.before in
-    field-says s.args.«data».now s.args.c s.requires.0 _ 1 (omega arith) r.read-field.ensures.0
+    field-says s.args.«data».now s.args.c s.requires.0 _ 1 (omega arith) r.read_field-g.ensures.0
 
-readable : (k : tie.After-known-told2) → let r = k.before.before.before in Readable r.before.before.args.«data».now k.before.g2.given.0.1.0
+readable : (k : tie.In-Number) → let r = k.before in Readable r.args.«data».now k.in-Number.next
 readable k =
-    let r = k.before.before.before in
+    let r = k.before in
     let s = r.before.before in
-    (number_in s.args.«data».now _ _ (flag r) k.before.g2.given.1, s.requires.0.1)
+    (number_in s.args.«data».now _ _ (flag r) k.in-Number.is, s.requires.0.1)
 
 -- cbpy
-cbpy : (h : tie.After-read-cbpy) → let k = h.before in let r = k.before.before.before in let d = r.before.before.args.«data».now in
-    SaysNumber d h.read-cbpy.result (code cbpy_codes cbpy_lens 6 16 (invalid Header) (bits_from d k.before.g2.given.0.1.0.bit_pos))
+cbpy : (h : tie.After-read_cbpy-h) → let k = h.before in let r = k.before in let d = r.args.«data».now in
+    SaysNumber d h.read_cbpy-h.result (code cbpy_codes cbpy_lens 6 16 (invalid Header) (bits_from d k.in-Number.next.bit_pos))
 cbpy h =
     let k = h.before in
-    let r = k.before.before.before in
-    code-says r.before.before.args.«data».now k.before.g2.given.0.1.0 (readable k) _ cbpy_codes cbpy_lens 6 16 (invalid Header) h.read-cbpy.ensures
+    let r = k.before in
+    code-says r.args.«data».now k.in-Number.next (readable k) _ cbpy_codes cbpy_lens 6 16 (invalid Header) h.read_cbpy-h.ensures
 
-read-field-requires : tie.Need-read-field-requires
-read-field-requires c κs = search rules
+read_field-g-requires : tie.Need-read_field-g-requires
+read_field-g-requires c κs = search rules
 
-enum-known-g : tie.Need-enum-known-g
-enum-known-g c = search rules
+enum_known-g : tie.Need-enum_known-g
+enum_known-g c = search rules
 
-enum-known-g-2 : tie.Need-enum-known-g-2
-enum-known-g-2 c = search rules
+enum_known-g-in-Number-1 : tie.Need-enum_known-g-in-Number-1
+enum_known-g-in-Number-1 c = search rules
 
-read-cbpy-requires : tie.Need-read-cbpy-requires
-read-cbpy-requires c κs = search rules
+read_cbpy-h-requires : tie.Need-read_cbpy-h-requires
+read_cbpy-h-requires c κs = search rules
 
-enum-known-h : tie.Need-enum-known-h
-enum-known-h c = search rules
+enum_known-h : tie.Need-enum_known-h
+enum_known-h c = search rules
 
-enum-known-h-2 : tie.Need-enum-known-h-2
-enum-known-h-2 c = search rules
+enum_known-h-in-Number-h : tie.Need-enum_known-h-in-Number-h
+enum_known-h-in-Number-h c = search rules
 
-read-dquant-requires : tie.Need-read-dquant-requires
-read-dquant-requires c κs =
-    let h = c.before.before.before in
-    let s = h.before.before.before.before.before.before in
-    ((number_in s.args.«data».now _ _ (cbpy h) c.before.h2.given.1, s.requires.0.1), s.requires.1)
+read_dquant-requires : tie.Need-read_dquant-requires
+read_dquant-requires c κs =
+    let h = c.before in
+    let s = h.before.before.before.before in
+    ((number_in s.args.«data».now _ _ (cbpy h) c.in-Number-h.is, s.requires.0.1), s.requires.1)
 
-returns : tie.Need-returns
-returns c =
-    let r = c.before.before.before in
-    let a = r.before.before.args in
-    no_flag a.«data».now a.mcbpc (changes_at a.mcbpc) _ (refused-is a.«data».now _ _ (flag r) c.before.g.given.1)
+returns-in-Refused : tie.Need-returns-in-Refused
+returns-in-Refused c =
+    let r = c.before in
+    let a = r.args in
+    no_flag a.«data».now a.mcbpc (changes_at a.mcbpc) _ (refused-is a.«data».now _ _ (flag r) c.in-Refused.is)
 
-returns_2 : tie.Need-returns-2
-returns_2 c =
-    let h = c.before.before.before in
+returns-in-Refused-h : tie.Need-returns-in-Refused-h
+returns-in-Refused-h c =
+    let h = c.before in
     let k = h.before in
-    let r = k.before.before.before in
-    let a = r.before.before.args in
+    let r = k.before in
+    let a = r.args in
     let d = a.«data».now in
-    no_cbpy d a.mcbpc (changes_at a.mcbpc) _ (number_is d _ _ (flag r) k.before.g2.given.1) (refused-is d _ _ (cbpy h) c.before.h.given.1)
+    no_cbpy d a.mcbpc (changes_at a.mcbpc) _ (number_is d _ _ (flag r) k.in-Number.is) (refused-is d _ _ (cbpy h) c.in-Refused-h.is)
 
-returns_3 : tie.Need-returns-3
-returns_3 c =
+returns-in-Number-h : tie.Need-returns-in-Number-h
+returns-in-Number-h c =
     let q = c.before in
-    let h = q.before.before.before in
+    let h = q.before in
     let k = h.before in
-    let r = k.before.before.before in
-    let a = r.before.before.args in
+    let r = k.before in
+    let a = r.args in
     let d = a.«data».now in
-    rest-said d a.mcbpc (changes_at a.mcbpc) _ (number_is d _ _ (flag r) k.before.g2.given.1) _ (number_is d _ _ (cbpy h) q.before.h2.given.1) c.read-dquant.ensures
+    rest-said d a.mcbpc (changes_at a.mcbpc) _ (number_is d _ _ (flag r) k.in-Number.is) _ (number_is d _ _ (cbpy h) q.in-Number-h.is) c.read_dquant.ensures
 
 pub read_rest_spec : {M : Type 1} → statement M
 read_rest_spec =
     tie.close
     (tie.spec
-    read-field-requires
-    enum-known-g
-    enum-known-g-2
-    read-cbpy-requires
-    enum-known-h
-    enum-known-h-2
-    read-dquant-requires
-    returns
-    returns_2
-    returns_3)
+    read_field-g-requires
+    enum_known-g
+    enum_known-g-in-Number-1
+    read_cbpy-h-requires
+    enum_known-h
+    enum_known-h-in-Number-h
+    read_dquant-requires
+    returns-in-Refused
+    returns-in-Refused-h
+    returns-in-Number-h)

@@ -11,20 +11,20 @@ use Rattle.headers.proofs.window.length_in.Tie as tie
 abbrev long : ℕ → ℕ → Bool → ℕ
 long m y t = cond t (m % 16 + 1 + y % 16) (m % 16 + 1 + y % 16 + 2)
 
-add-len : tie.Need-overflow-add-len
-add-len c = search rules
+overflow_add-len : tie.Need-overflow_add-len
+overflow_add-len c = search rules
 
-add-len-2 : tie.Need-overflow-add-len-2
-add-len-2 c = search rules
+overflow_add-len-2 : tie.Need-overflow_add-len-2
+overflow_add-len-2 c = search rules
+
+returns-then-mcbpc-lt64 : tie.Need-returns-then-mcbpc-lt64
+returns-then-mcbpc-lt64 c = let a = c.args in sym (ap (long a.mcbpc a.cbpy) (lt-ltb a.mcbpc 64 c.if-mcbpc-lt64.true))
+
+overflow_add-result : tie.Need-overflow_add-result
+overflow_add-result c = search rules
 
 returns : tie.Need-returns
-returns c = let a = c.before.args in sym (ap (long a.mcbpc a.cbpy) (lt-ltb a.mcbpc 64 c.if1.true))
-
-add-result : tie.Need-overflow-add-result
-add-result c = search rules
-
-returns_2 : tie.Need-returns-2
-returns_2 c = let a = c.before.args in sym (ap (long a.mcbpc a.cbpy) (le-ltb a.mcbpc 64 c.if1.false))
+returns c = let a = c.args in sym (ap (long a.mcbpc a.cbpy) (le-ltb a.mcbpc 64 c.if-mcbpc-lt64.false))
 
 pub length_in_spec : {M : Type 1} → statement M
-length_in_spec = tie.close (tie.spec add-len add-len-2 returns add-result returns_2)
+length_in_spec = tie.close (tie.spec overflow_add-len overflow_add-len-2 returns-then-mcbpc-lt64 overflow_add-result returns)

@@ -17,7 +17,7 @@ use Rattle.headers.specs.declared.parts.HeaderParts.{HeaderParts}
 use Rattle.headers.specs.declared.parts.PartsRead.TheVariants.{Parts}
 
 -- what six bits tell of mcbpc and of cbpy
-module _ (k : tie.Else2) where
+module _ (k : tie.Else-cbpy-eq0) where
   abbrev s : tie.Start
   s = k.before.before.before.before.before.before
 
@@ -25,94 +25,94 @@ module _ (k : tie.Else2) where
   w = ahead_of s.args.«data».now s.args.at
 
   abbrev m : ℕ
-  m = k.before.before.before.mcbpc-short.result
+  m = k.mcbpc_short-mcbpc.result
 
   abbrev y : ℕ
-  y = k.before.cbpy-short.result
+  y = k.cbpy_short-cbpy.result
 
   m_is : m ≡ mcbpc_short w
-  m_is = k.before.before.before.mcbpc-short.ensures ∙ ap mcbpc_short k.before.before.before.before.ahead.ensures
+  m_is = k.mcbpc_short-mcbpc.ensures ∙ ap mcbpc_short k.ahead-w.ensures
 
   y-is : y ≡ cbpy_short (w * 2 ^ (m % 16 + 1) % 4294967296)
-  y-is = k.before.cbpy-short.ensures ∙ ap (λ (x : ℕ). cbpy_short (x * 2 ^ (m % 16 + 1) % 4294967296)) k.before.before.before.before.ahead.ensures
+  y-is = k.cbpy_short-cbpy.ensures ∙ ap (λ (x : ℕ). cbpy_short (x * 2 ^ (m % 16 + 1) % 4294967296)) k.ahead-w.ensures
 
-ahead-requires : tie.Need-ahead-requires
-ahead-requires c κs = search rules
+ahead-w-requires : tie.Need-ahead-w-requires
+ahead-w-requires c κs = search rules
 
-mcbpc-short-requires : tie.Need-mcbpc-short-requires
-mcbpc-short-requires c κs = search rules
+mcbpc_short-mcbpc-requires : tie.Need-mcbpc_short-mcbpc-requires
+mcbpc_short-mcbpc-requires c κs = search rules
 
-no-parts-requires : tie.Need-no-parts-requires
-no-parts-requires c κs = search rules
+no_parts-requires : tie.Need-no_parts-requires
+no_parts-requires c κs = search rules
+
+returns-then-mcbpc-eq0 : tie.Need-returns-then-mcbpc-eq0
+returns-then-mcbpc-eq0 c = λ z. absurd (z c.no_parts.ensures)
+
+overflow_add-mcbpc : tie.Need-overflow_add-mcbpc
+overflow_add-mcbpc c = search rules
+
+overflow_shl-w : tie.Need-overflow_shl-w
+overflow_shl-w c = search rules
+
+cbpy_short-cbpy-requires : tie.Need-cbpy_short-cbpy-requires
+cbpy_short-cbpy-requires c κs = search rules
+
+no_parts-requires-then-cbpy-eq0 : tie.Need-no_parts-requires-then-cbpy-eq0
+no_parts-requires-then-cbpy-eq0 c κs = search rules
+
+returns-then-cbpy-eq0 : tie.Need-returns-then-cbpy-eq0
+returns-then-cbpy-eq0 c = λ z. absurd (z c.no_parts-then-cbpy-eq0.ensures)
+
+length_in-requires : tie.Need-length_in-requires
+length_in-requires c κs = search rules
+
+overflow_cast-next : tie.Need-overflow_cast-next
+overflow_cast-next c = search rules
+
+overflow_add-next : tie.Need-overflow_add-next
+overflow_add-next c = search rules
+
+overflow_mul-data : tie.Need-overflow_mul-data
+overflow_mul-data c = search rules
+
+no_parts-requires-then-data-next : tie.Need-no_parts-requires-then-data-next
+no_parts-requires-then-data-next c κs = search rules
+
+returns-then-data-next : tie.Need-returns-then-data-next
+returns-then-data-next c = λ z. absurd (z c.no_parts-then-data-next.ensures)
+
+parts_in-parts-requires : tie.Need-parts_in-parts-requires
+parts_in-parts-requires c κs =
+    let k = c.before.before in
+    few (s k).args.«data».now (s k).args.at (m k) (y k) (m_is k) k.if-mcbpc-eq0.false (y-is k) k.if-cbpy-eq0.false
 
 returns : tie.Need-returns
-returns c = λ z. absurd (z c.no-parts.ensures)
-
-add-cbpy-short : tie.Need-overflow-add-cbpy-short
-add-cbpy-short c = search rules
-
-shl-cbpy-short : tie.Need-overflow-shl-cbpy-short
-shl-cbpy-short c = search rules
-
-cbpy-short-requires : tie.Need-cbpy-short-requires
-cbpy-short-requires c κs = search rules
-
-no-parts-requires-2 : tie.Need-no-parts-requires-2
-no-parts-requires-2 c κs = search rules
-
-returns_2 : tie.Need-returns-2
-returns_2 c = λ z. absurd (z c.no-parts2.ensures)
-
-length-in-requires : tie.Need-length-in-requires
-length-in-requires c κs = search rules
-
-cast-next : tie.Need-overflow-cast-next
-cast-next c = search rules
-
-add-next : tie.Need-overflow-add-next
-add-next c = search rules
-
-mul-if3 : tie.Need-overflow-mul-if3
-mul-if3 c = search rules
-
-no-parts-requires-3 : tie.Need-no-parts-requires-3
-no-parts-requires-3 c κs = search rules
-
-returns_3 : tie.Need-returns-3
-returns_3 c = λ z. absurd (z c.no-parts3.ensures)
-
-parts-in-requires : tie.Need-parts-in-requires
-parts-in-requires c κs =
-    let k = c.before.before in
-    few (s k).args.«data».now (s k).args.at (m k) (y k) (m_is k) k.before.before.if1.false (y-is k) k.if2.false
-
-returns_4 : tie.Need-returns-4
-returns_4 c =
+returns c =
     let k = c.before.before.before in
     let d = (s k).args.«data».now in
-    let l = c.before.before.length-in.ensures in
-    let p = c.Parts-in.ensures ∙ ap (λ (x : ℕ). parts_in x (m k) (y k)) k.before.before.before.before.ahead.ensures in
+    let l = c.length_in.ensures in
+    let p = c.parts_in-parts.ensures ∙ ap (λ (x : ℕ). parts_in x (m k) (y k)) k.ahead-w.ensures in
     λ z. subst₂ (λ (p : HeaderParts) (n : ℕ). SaysParts d (Parts p (cursor_at ((s k).args.at + n))) (mapped parts_of (read_header (bits_from d (s k).args.at)))) (sym p) (sym l)
-    (header-there d (s k).args.at (m k) (y k) (m_is k) k.before.before.if1.false (y-is k) k.if2.false (subst (λ (n : ℕ). (s k).args.at + n ≤ 8 * length d) l c.before.if3.false))
+    (header-there d (s k).args.at (m k) (y k) (m_is k) k.if-mcbpc-eq0.false (y-is k) k.if-cbpy-eq0.false (subst (λ (n : ℕ). (s k).args.at + n ≤ 8 * length d) l c.if-data-next.false))
 
 pub parts_at_spec : {M : Type 1} → statement M
 parts_at_spec =
     tie.close
     (tie.spec
-    ahead-requires
-    mcbpc-short-requires
-    no-parts-requires
-    returns
-    add-cbpy-short
-    shl-cbpy-short
-    cbpy-short-requires
-    no-parts-requires-2
-    returns_2
-    length-in-requires
-    cast-next
-    add-next
-    mul-if3
-    no-parts-requires-3
-    returns_3
-    parts-in-requires
-    returns_4)
+    ahead-w-requires
+    mcbpc_short-mcbpc-requires
+    no_parts-requires
+    returns-then-mcbpc-eq0
+    overflow_add-mcbpc
+    overflow_shl-w
+    cbpy_short-cbpy-requires
+    no_parts-requires-then-cbpy-eq0
+    returns-then-cbpy-eq0
+    length_in-requires
+    overflow_cast-next
+    overflow_add-next
+    overflow_mul-data
+    no_parts-requires-then-data-next
+    returns-then-data-next
+    parts_in-parts-requires
+    returns)

@@ -16,43 +16,43 @@ use Rattle.headers.specs.declared.parts.HeaderParts.{HeaderParts}
 abbrev parts : ℕ → ℕ → ℕ → Bool → HeaderParts
 parts w m y t = parts_by (m / 16) (flag_in w m) (y / 16) (cond t none (some (w / 2 ^ (29 - m % 16 - y % 16) % 4)))
 
-sub-ac-pred-flag : tie.Need-overflow-sub-ac-pred-flag
-sub-ac-pred-flag c = search rules
+overflow_sub-ac_pred_flag : tie.Need-overflow_sub-ac_pred_flag
+overflow_sub-ac_pred_flag c = search rules
 
-shr-ac-pred-flag : tie.Need-overflow-shr-ac-pred-flag
-shr-ac-pred-flag c = search rules
+overflow_shr-ac_pred_flag : tie.Need-overflow_shr-ac_pred_flag
+overflow_shr-ac_pred_flag c = search rules
+
+returns-then-mcbpc-lt64 : tie.Need-returns-then-mcbpc-lt64
+returns-then-mcbpc-lt64 c = let a = c.args in sym (ap (parts a.window a.mcbpc a.cbpy) (lt-ltb a.mcbpc 64 c.if-mcbpc-lt64.true))
+
+overflow_sub-mcbpc : tie.Need-overflow_sub-mcbpc
+overflow_sub-mcbpc c = search rules
+
+overflow_sub-mcbpc-2 : tie.Need-overflow_sub-mcbpc-2
+overflow_sub-mcbpc-2 c = search rules
+
+overflow_shr-window : tie.Need-overflow_shr-window
+overflow_shr-window c = search rules
+
+dquant_value-dquant_delta-requires : tie.Need-dquant_value-dquant_delta-requires
+dquant_value-dquant_delta-requires c κs = search rules
 
 returns : tie.Need-returns
-returns c = let a = c.before.args in sym (ap (parts a.window a.mcbpc a.cbpy) (lt-ltb a.mcbpc 64 c.if1.true))
-
-sub-dquant-value : tie.Need-overflow-sub-dquant-value
-sub-dquant-value c = search rules
-
-sub-dquant-value-2 : tie.Need-overflow-sub-dquant-value-2
-sub-dquant-value-2 c = search rules
-
-shr-dquant-value : tie.Need-overflow-shr-dquant-value
-shr-dquant-value c = search rules
-
-dquant-value-requires : tie.Need-dquant-value-requires
-dquant-value-requires c κs = search rules
-
-returns_2 : tie.Need-returns-2
-returns_2 c =
-    let a = c.before.before.args in
-    let v = c.dquant-value in
-    ap (λ (z : ℤ). record { mcbpc = a.mcbpc / 16; ac_pred_flag = flag_in a.window a.mcbpc; cbpy = a.cbpy / 16; dquant_delta = z }) (held v.result v.type-inv ∙ v.ensures)
-    ∙ sym (ap (parts a.window a.mcbpc a.cbpy) (le-ltb a.mcbpc 64 c.before.if1.false))
+returns c =
+    let a = c.args in
+    let v = c.dquant_value-dquant_delta in
+    ap (λ (z : ℤ). record { mcbpc = a.mcbpc / 16; ac_pred_flag = flag_in a.window a.mcbpc; cbpy = a.cbpy / 16; dquant_delta = z }) (held v.result v.type_inv ∙ v.ensures)
+    ∙ sym (ap (parts a.window a.mcbpc a.cbpy) (le-ltb a.mcbpc 64 c.if-mcbpc-lt64.false))
 
 pub parts_in_spec : {M : Type 1} → statement M
 parts_in_spec =
     tie.close
     (tie.spec
-    sub-ac-pred-flag
-    shr-ac-pred-flag
-    returns
-    sub-dquant-value
-    sub-dquant-value-2
-    shr-dquant-value
-    dquant-value-requires
-    returns_2)
+    overflow_sub-ac_pred_flag
+    overflow_shr-ac_pred_flag
+    returns-then-mcbpc-lt64
+    overflow_sub-mcbpc
+    overflow_sub-mcbpc-2
+    overflow_shr-window
+    dquant_value-dquant_delta-requires
+    returns)

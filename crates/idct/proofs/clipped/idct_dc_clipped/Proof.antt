@@ -22,128 +22,128 @@ use Rattle.idct.proofs.clipped.idct_dc_clipped.Statement.{statement}
 use Rattle.idct.proofs.clipped.idct_dc_clipped.Tie as tie
 
 -- what the limits of values tell
-limits : (c : tie.After-known-told) → let m = c.before.least.given in
-    let d = c.before.before.before.before.args.bits-per-pixel in
-    (depth_fine d ≡ true) × (to_z w32 (of_z w32 m.0.0) ≡ lowest (d + 3)) × (to_z w32 (of_z w32 m.0.1.0) ≡ highest (d + 3))
+limits : (c : tie.In-Are) → let m = c.in-Are in
+    let d = c.args.bits_per_pixel in
+    (depth_fine d ≡ true) × (to_z w32 (of_z w32 m.least) ≡ lowest (d + 3)) × (to_z w32 (of_z w32 m.most) ≡ highest (d + 3))
 limits c =
-    let b = c.before.before.before.value-limits in
-    let m = c.before.least.given in
-    let k = c.known-told.given in
-    limits_told c.before.before.before.before.args.bits-per-pixel b.result b.ensures m.0.0 m.0.1.0 m.1 k.0.1 k.1.0.1
+    let b = c.value_limits in
+    let m = c.in-Are in
+    let k = c.in-Are.known_told-1-own.given in
+    limits_told c.args.bits_per_pixel b.result b.ensures m.least m.most m.is k.0.1 k.1.0.1
 
 -- and those of samples
-top : (c : tie.After-known-told2) → to_z w32 (of_z w32 c.before.hi.given.0.1.0) ≡ highest c.before.before.before.before.before.before.before.before.before.before.args.bits-per-pixel
+top : (c : tie.In-Are-saturation_limits) → to_z w32 (of_z w32 c.in-Are-saturation_limits.hi) ≡ highest c.args.bits_per_pixel
 top c =
-    let b = c.before.before.before.saturation-limits in
-    let m = c.before.hi.given in
-    let t = c.before.before.before.before.before.before in
-    top_told t.before.before.before.before.args.bits-per-pixel b.result (limits t).0 b.ensures m.0.0 m.0.1.0 m.1 c.known-told2.given.1.0.1
+    let b = c.saturation_limits in
+    let m = c.in-Are-saturation_limits in
+    let t = c.before.before.before.before in
+    top_told t.args.bits_per_pixel b.result (limits t).0 b.ensures m.field-0 m.hi m.is c.in-Are-saturation_limits.known_told-in-Are-saturation_limits-1-own.given.1.0.1
 
 -- the test of the DC
-tested : (c : tie.After-inside) → c.inside.result ≡ in_bounds (c.before.before.before.before.before.args.bits-per-pixel + 3) c.before.before.before.before.before.args.dc
+tested : (c : tie.After-inside) → c.inside.result ≡ in_bounds (c.args.bits_per_pixel + 3) c.args.dc
 tested c =
     let t = c.before in
-    let s = t.before.before.before.before in
+    let s = t.before.before in
     let l = limits t in
-    c.inside.ensures ∙ value_test s.args.bits-per-pixel _ _ l.1 l.2 s.args.dc _ (to_z-of_z {w = w32} {z = s.args.dc} s.fits.dc)
+    c.inside.ensures ∙ value_test s.args.bits_per_pixel _ _ l.1 l.2 s.args.dc _ (to_z-of_z {w = w32} {z = s.args.dc} s.ranges.dc)
 
 -- the value at every place
-value : (c : tie.After-dc-pass2) → let s = c.before.before.before.before.before.before.before.before.before.before.before.before.before in c.dc-pass2.result ≡ dc_value s.args.dc
+value : (c : tie.After-dc_pass-value) → let s = c.before.before.before.before.before.before.before.before.before in c.dc_pass-value.result ≡ dc_value s.args.dc
 value c =
-    let s = c.before.before.before.before.before.before.before.before.before.before.before.before.before in
-    dc_value_lem s.args.dc _ c.before.dc-pass.result c.dc-pass2.result (to_z-of_z {w = w32} {z = s.args.dc} s.fits.dc) c.before.dc-pass.ensures c.dc-pass2.ensures
+    let s = c.before.before.before.before.before.before.before.before.before in
+    dc_value_lem s.args.dc _ c.dc_pass.result c.dc_pass-value.result (to_z-of_z {w = w32} {z = s.args.dc} s.ranges.dc) c.dc_pass.ensures c.dc_pass-value.ensures
 
-value-limits-requires : tie.Need-value-limits-requires
-value-limits-requires c κs = search rules
+value_limits-requires : tie.Need-value_limits-requires
+value_limits-requires c κs = search rules
 
-enum_told : tie.Need-enum-told
-enum_told c = search rules
+enum_told-1 : tie.Need-enum_told-1
+enum_told-1 c = search rules
 
-enum-known-least : tie.Need-enum-known-least
-enum-known-least c = search rules
+enum_known-least : tie.Need-enum_known-least
+enum_known-least c = search rules
 
 inside-requires : tie.Need-inside-requires
 inside-requires c κs = search rules
 
-returns : tie.Need-returns
-returns c =
+returns-then-not-inside : tie.Need-returns-then-not-inside
+returns-then-not-inside c =
     let t = c.before.before in
-    let s = t.before.before.before.before in
-    let d = s.args.bits-per-pixel in
-    (no_value d (in_bounds (d + 3) s.args.dc) (limits t).0 (sym (tested c.before) ∙ not-true _ c.if1.taken), refl)
+    let s = t.before.before in
+    let d = s.args.bits_per_pixel in
+    (no_value d (in_bounds (d + 3) s.args.dc) (limits t).0 (sym (tested c.before) ∙ c.if-not-inside.true), refl)
 
-saturation-limits-requires : tie.Need-saturation-limits-requires
-saturation-limits-requires c κs = search rules
+saturation_limits-requires : tie.Need-saturation_limits-requires
+saturation_limits-requires c κs = search rules
 
-enum-known-hi : tie.Need-enum-known-hi
-enum-known-hi c = search rules
+enum_known-hi : tie.Need-enum_known-hi
+enum_known-hi c = search rules
 
-int-to-float-dc-pass : tie.Need-int-to-float-dc-pass
-int-to-float-dc-pass c = search rules
+int_to_float-dc : tie.Need-int_to_float-dc
+int_to_float-dc c = search rules
 
-dc-pass-requires : tie.Need-dc-pass-requires
-dc-pass-requires c κs = search rules
+dc_pass-requires : tie.Need-dc_pass-requires
+dc_pass-requires c κs = search rules
 
-dc-pass-requires-2 : tie.Need-dc-pass-requires-2
-dc-pass-requires-2 c κs = search rules
+dc_pass-value-requires : tie.Need-dc_pass-value-requires
+dc_pass-value-requires c κs = search rules
 
-ruled-sample-requires : tie.Need-ruled-sample-requires
-ruled-sample-requires c κs =
-    let n = c.before.before.before.before.before.before.before in
+ruled_sample-sample-requires : tie.Need-ruled_sample-sample-requires
+ruled_sample-sample-requires c κs =
+    let n = c.before.before.before.before.before in
     let t = n.before.before in
-    let s = t.before.before.before.before in
-    let h = sym (tested n.before) ∙ not-false _ n.if1.left in
-    dc_bounded s.args.dc c.dc-pass2.result (dc_modest s.args.bits-per-pixel s.args.dc h (limits t).0) (value c)
+    let s = t.before.before in
+    let h = sym (tested n.before) ∙ n.if-not-inside.false in
+    dc_bounded s.args.dc c.dc_pass-value.result (dc_modest s.args.bits_per_pixel s.args.dc h (limits t).0) (value c)
 
-enum-told-2 : tie.Need-enum-told-2
-enum-told-2 c = search rules
+enum_told-in-OutOfRange-saturation_limits : tie.Need-enum_told-in-OutOfRange-saturation_limits
+enum_told-in-OutOfRange-saturation_limits c = search rules
 
-returns_2 : tie.Need-returns-2
-returns_2 c =
-    let s = c.before.before.before in
-    let b = c.before.before.value-limits in
-    let d = s.args.bits-per-pixel in
-    (no-depth d (in_bounds (d + 3) s.args.dc) (depth_lost d b.result b.ensures c.enum_told.given.1), refl)
+returns-in-OutOfRange : tie.Need-returns-in-OutOfRange
+returns-in-OutOfRange c =
+    let s = c.before.before in
+    let b = c.value_limits in
+    let d = s.args.bits_per_pixel in
+    (no-depth d (in_bounds (d + 3) s.args.dc) (depth_lost d b.result b.ensures c.in-OutOfRange.is), refl)
 
-returns_3 : tie.Need-returns-3
+returns-in-Are-saturation_limits : tie.Need-returns-in-Are-saturation_limits
 unfolding build
-returns_3 c =
+returns-in-Are-saturation_limits c =
     let r = c.before in
     let v = r.before in
     let u = v.before.before.before in
-    let n = u.before.before.before.before in
+    let n = u.before.before in
     let t = n.before.before in
-    let s = t.before.before.before.before in
-    let d = s.args.bits-per-pixel in
+    let s = t.before.before in
+    let d = s.args.bits_per_pixel in
     let dc = s.args.dc in (
-      all_taken d (in_bounds (d + 3) dc) (limits t).0 (sym (tested n.before) ∙ not-false _ n.if1.left),
-      dc-samples-are dc (pos 0) (highest d) s.args.rounding v.dc-pass2.result _ (value v)
-          (held r.ruled-sample.result r.ruled-sample.ok ∙ r.ruled-sample.ensures ∙ (λ i. clamp_z (whole_of s.args.rounding v.dc-pass2.result) (pos 0) (top u i))),
+      all_taken d (in_bounds (d + 3) dc) (limits t).0 (sym (tested n.before) ∙ n.if-not-inside.false),
+      dc-samples-are dc (pos 0) (highest d) s.args.rounding v.dc_pass-value.result _ (value v)
+          (held r.ruled_sample-sample.result r.ruled_sample-sample.type_inv ∙ r.ruled_sample-sample.ensures ∙ (λ i. clamp_z (whole_of s.args.rounding v.dc_pass-value.result) (pos 0) (top u i))),
     )
 
-returns_4 : tie.Need-returns-4
-returns_4 c =
-    let b = c.before.before.saturation-limits in
-    let t = c.before.before.before.before.before in
-    let d = t.before.before.before.before.args.bits-per-pixel in
-    absurd (samples_never d b.result (limits t).0 b.ensures c.enum-told2.given.1)
+returns-in-OutOfRange-saturation_limits : tie.Need-returns-in-OutOfRange-saturation_limits
+returns-in-OutOfRange-saturation_limits c =
+    let b = c.saturation_limits in
+    let t = c.before.before.before.before in
+    let d = t.args.bits_per_pixel in
+    absurd (samples_never d b.result (limits t).0 b.ensures c.in-OutOfRange-saturation_limits.is)
 
 pub idct_dc_clipped_spec : {M : Type 1} → statement M
 idct_dc_clipped_spec =
     tie.close
     (tie.spec
-    value-limits-requires
-    enum_told
-    enum-known-least
+    value_limits-requires
+    enum_told-1
+    enum_known-least
     inside-requires
-    returns
-    saturation-limits-requires
-    enum-known-hi
-    int-to-float-dc-pass
-    dc-pass-requires
-    dc-pass-requires-2
-    ruled-sample-requires
-    enum-told-2
-    returns_2
-    returns_3
-    returns_4)
+    returns-then-not-inside
+    saturation_limits-requires
+    enum_known-hi
+    int_to_float-dc
+    dc_pass-requires
+    dc_pass-value-requires
+    ruled_sample-sample-requires
+    enum_told-in-OutOfRange-saturation_limits
+    returns-in-OutOfRange
+    returns-in-Are-saturation_limits
+    returns-in-OutOfRange-saturation_limits)

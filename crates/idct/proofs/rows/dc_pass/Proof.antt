@@ -8,7 +8,7 @@ c-requires : tie.Need-c-requires
 c-requires c κs = search rules
 
 returns : tie.Need-returns
-returns c = dc-pass-is c.c.result c.before.args.value c.c.ensures
+returns c = dc-pass-is c.c.result c.args.value c.c.ensures
 
 pub dc_pass_spec : {M : Type 1} → statement M
 dc_pass_spec = tie.close (tie.spec c-requires returns)

@@ -9,84 +9,84 @@ use Rattle.idct.proofs.EvenOddLaws.{half-more, half-none, half-row}
 use Rattle.idct.proofs.rows.half_sums.Statement.{statement}
 use Rattle.idct.proofs.rows.half_sums.Tie as tie
 
-abbrev invariant_loop : tie.invariant-loop
-invariant_loop row p table sums₀ k₀ sums k = (k ≤ 4) × (sums ≡ build 4 (half_sum row p k))
+abbrev invariant-loop-k : tie.invariant-loop-k
+invariant-loop-k row p table sums₀ k₀ sums k = (k ≤ 4) × (sums ≡ build 4 (half_sum row p k))
 
-abbrev decreases-loop : tie.decreases-loop
-decreases-loop row p table sums₀ k₀ sums k = 4 - k
+abbrev decreases-loop-k : tie.decreases-loop-k
+decreases-loop-k row p table sums₀ k₀ sums k = 4 - k
 
-loop_holds : tie.Need-loop-init invariant_loop decreases-loop
+loop-k-init : tie.Need-loop-k-init invariant-loop-k decreases-loop-k
 unfolding build
-loop_holds c = (omega arith, half-none c.args.row.now c.args.p)
+loop-k-init c = (omega arith, half-none c.args.row.now c.args.p)
 
-mul-u : tie.Need-overflow-mul-u invariant_loop decreases-loop
-mul-u c = omega arith
+overflow_mul-u : tie.Need-overflow_mul-u invariant-loop-k decreases-loop-k
+overflow_mul-u c = omega arith
 
-add-u : tie.Need-overflow-add-u invariant_loop decreases-loop
-add-u c = omega arith
+overflow_add-u : tie.Need-overflow_add-u invariant-loop-k decreases-loop-k
+overflow_add-u c = omega arith
 
-c-requires : tie.Need-c-requires invariant_loop decreases-loop
+c-requires : tie.Need-c-requires invariant-loop-k decreases-loop-k
 c-requires c κs = tt
 
-mul-f : tie.Need-overflow-mul-f invariant_loop decreases-loop
-mul-f c = omega arith
+offset_bounds-row-u : tie.Need-offset_bounds-row-u invariant-loop-k decreases-loop-k
+offset_bounds-row-u c = omega arith
 
-element-copy-out-f : tie.Need-element-copy-out-f invariant_loop decreases-loop
-element-copy-out-f c = omega arith
+bounds-row-u : tie.Need-bounds-row-u invariant-loop-k decreases-loop-k
+bounds-row-u c = omega arith
 
-int-to-float-f : tie.Need-int-to-float-f invariant_loop decreases-loop
-int-to-float-f c = search rules
+int_to_float-f : tie.Need-int_to_float-f invariant-loop-k decreases-loop-k
+int_to_float-f c = search rules
 
-mul-cosines : tie.Need-overflow-mul-cosines invariant_loop decreases-loop
-mul-cosines c = omega arith
+offset_bounds-table-u : tie.Need-offset_bounds-table-u invariant-loop-k decreases-loop-k
+offset_bounds-table-u c = omega arith
 
-element-copy-out-cosines : tie.Need-element-copy-out-cosines invariant_loop decreases-loop
-element-copy-out-cosines c = omega arith
+bounds-table-u : tie.Need-bounds-table-u invariant-loop-k decreases-loop-k
+bounds-table-u c = omega arith
 
-four-terms-requires : tie.Need-four-terms-requires invariant_loop decreases-loop
-four-terms-requires c κs = tt
+four_terms-more-requires : tie.Need-four_terms-more-requires invariant-loop-k decreases-loop-k
+four_terms-more-requires c κs = tt
 
-add-k : tie.Need-overflow-add-k invariant_loop decreases-loop
-add-k c = omega arith
+overflow_step-k : tie.Need-overflow_step-k invariant-loop-k decreases-loop-k
+overflow_step-k c = omega arith
 
-loop-less : tie.Need-loop-smaller invariant_loop decreases-loop
-loop-less c = omega arith
+loop-k-smaller : tie.Need-loop-k-smaller invariant-loop-k decreases-loop-k
+loop-k-smaller c = omega arith
 
-loop_again : tie.Need-loop-preserved invariant_loop decreases-loop
-loop_again c =
+loop-k-preserved : tie.Need-loop-k-preserved invariant-loop-k decreases-loop-k
+loop-k-preserved c =
     let i = c.before.before.before.before.before in
     let o = i.before in
     let s = o.before in
     let a = s.args in
-    let k = o.loop.k in
+    let k = o.loop-k.k in
     let u : ℕ = 2 * k + a.p in
-    let l : u < 8 = omega (arith, i.loop-test.true, s.requires.1) in
-    (omega arith, half-more a.row.now a.p k o.loop.sums _ c.four-terms.result _ _ c.four-terms.ensures o.loop.invariant.1 (half-row a.table.now u s.requires.0 l) c.before.before.before.before.c.ensures (let h = c.before.before.row-known.given in let g = c.before.before.before.f.given in search rules))
+    let l : u < 8 = omega (arith, i.loop-k-test.true, s.requires.1) in
+    (omega arith, half-more a.row.now a.p k o.loop-k.sums _ c.four_terms-more.result _ _ c.four_terms-more.ensures o.loop-k.invariant.1 (half-row a.table.now u s.requires.0 l) c.c.ensures (let h = c.row_known-1.given in let g = c.f-1.given in search rules))
 
-returns : tie.Need-returns invariant_loop decreases-loop
+returns : tie.Need-returns invariant-loop-k decreases-loop-k
 returns c =
-    let l = c.before.loop in
-    let a = c.before.before.args in
-    let h : l.k ≡ 4 = omega (arith, l.invariant.0, c.loop-test.false) in
+    let l = c.loop-k in
+    let a = c.args in
+    let h : l.k ≡ 4 = omega (arith, l.invariant.0, c.loop-k-test.false) in
     l.invariant.1 ∙ ap (λ (m : ℕ). build 4 (half_sum a.row.now a.p m)) h
 
 pub half_sums_spec : {M : Type 1} → statement M
 half_sums_spec =
     tie.close
     (tie.spec
-    invariant_loop
-    decreases-loop
-    loop_holds
-    mul-u
-    add-u
+    invariant-loop-k
+    decreases-loop-k
+    loop-k-init
+    overflow_mul-u
+    overflow_add-u
     c-requires
-    mul-f
-    element-copy-out-f
-    int-to-float-f
-    mul-cosines
-    element-copy-out-cosines
-    four-terms-requires
-    add-k
-    loop-less
-    loop_again
+    offset_bounds-row-u
+    bounds-row-u
+    int_to_float-f
+    offset_bounds-table-u
+    bounds-table-u
+    four_terms-more-requires
+    overflow_step-k
+    loop-k-smaller
+    loop-k-preserved
     returns)

@@ -13,78 +13,78 @@ use Rattle.idct.proofs.Loops.{sum_at, no_terms, one_more_lem, none_more, all_ter
 use Rattle.idct.proofs.rows.idct_1d.Statement.{statement}
 use Rattle.idct.proofs.rows.idct_1d.Tie as tie
 
-abbrev invariant_loop : tie.invariant-loop
-invariant_loop cos input sums₀ u₀ sums u = (u ≤ 8) × (sums ≡ build 8 (sum_at input u))
+abbrev invariant-loop-u : tie.invariant-loop-u
+invariant-loop-u cos input sums₀ u₀ sums u = (u ≤ 8) × (sums ≡ build 8 (sum_at input u))
 
-abbrev decreases-loop : tie.decreases-loop
-decreases-loop cos input sums₀ u₀ sums u = 8 - u
+abbrev decreases-loop-u : tie.decreases-loop-u
+decreases-loop-u cos input sums₀ u₀ sums u = 8 - u
 
-loop_holds : tie.Need-loop-init invariant_loop decreases-loop
+loop-u-init : tie.Need-loop-u-init invariant-loop-u decreases-loop-u
 unfolding build
-loop_holds c = (omega arith, build-eq 8 (λ (x : ℕ). of_bits binary64 0) (sum_at c.args.t1 0) (no_terms c.args.t1))
+loop-u-init c = (omega arith, build-eq 8 (λ (x : ℕ). of_bits binary64 0) (sum_at c.args.input 0) (no_terms c.args.input))
 
-c-requires : tie.Need-c-requires invariant_loop decreases-loop
+c-requires : tie.Need-c-requires invariant-loop-u decreases-loop-u
 c-requires c κs = tt
 
-mul-f : tie.Need-overflow-mul-f invariant_loop decreases-loop
-mul-f c = omega arith
+offset_bounds-input-u : tie.Need-offset_bounds-input-u invariant-loop-u decreases-loop-u
+offset_bounds-input-u c = omega arith
 
-array-read-f : tie.Need-array-read-f invariant_loop decreases-loop
-array-read-f c = omega arith
+bounds-input-u : tie.Need-bounds-input-u invariant-loop-u decreases-loop-u
+bounds-input-u c = omega arith
 
-mul-cosines : tie.Need-overflow-mul-cosines invariant_loop decreases-loop
-mul-cosines c = omega arith
+offset_bounds-cos-u : tie.Need-offset_bounds-cos-u invariant-loop-u decreases-loop-u
+offset_bounds-cos-u c = omega arith
 
-element-copy-out-cosines : tie.Need-element-copy-out-cosines invariant_loop decreases-loop
-element-copy-out-cosines c = omega arith
+bounds-cos-u : tie.Need-bounds-cos-u invariant-loop-u decreases-loop-u
+bounds-cos-u c = omega arith
 
-add-term-requires : tie.Need-add-term-requires invariant_loop decreases-loop
-add-term-requires c κs = tt
+add_term-more-requires : tie.Need-add_term-more-requires invariant-loop-u decreases-loop-u
+add_term-more-requires c κs = tt
 
-add-u : tie.Need-overflow-add-u invariant_loop decreases-loop
-add-u c = omega arith
+overflow_step-u : tie.Need-overflow_step-u invariant-loop-u decreases-loop-u
+overflow_step-u c = omega arith
 
-loop-less : tie.Need-loop-smaller invariant_loop decreases-loop
-loop-less c = omega arith
+loop-u-smaller : tie.Need-loop-u-smaller invariant-loop-u decreases-loop-u
+loop-u-smaller c = omega arith
 
-loop_again : tie.Need-loop-preserved invariant_loop decreases-loop
-loop_again c =
+loop-u-preserved : tie.Need-loop-u-preserved invariant-loop-u decreases-loop-u
+loop-u-preserved c =
     let o = c.before.before.before in
     let e = o.before in
-    let u = o.loop.u in
-    let l = c.before.before.loop-test.true in
-    let f = ap (λ (k : Float). mul binary64 k (get_or e.args.t1 u nan)) c.before.c.ensures in
+    let u = o.loop-u.u in
+    let l = c.loop-u-test.true in
+    let f = ap (λ (k : Float). mul binary64 k (get_or e.args.input u nan)) c.c.ensures in
     let row = ap (λ (t : List (List Float)). get_or t u []) e.requires ∙ get_or-build 8 (λ (v : ℕ). build 8 (cos_f v)) u [] l in (
       omega arith,
       ⊎_elim
-          (λ w. w.3 ∙ one_more_lem e.args.t1 u o.loop.sums _ _ _ o.loop.invariant.1 row f w.2.ensures)
-          (λ w. w.1 ∙ none_more e.args.t1 u o.loop.sums _ o.loop.invariant.1 f w.0.left)
-          c.if1.branch,
+          (λ w. w.3 ∙ one_more_lem e.args.input u o.loop-u.sums _ _ _ o.loop-u.invariant.1 row f w.2.ensures)
+          (λ w. w.1 ∙ none_more e.args.input u o.loop-u.sums _ o.loop-u.invariant.1 f w.0.left)
+          c.if-f.branch,
     )
 
-halves-requires : tie.Need-halves-requires invariant_loop decreases-loop
+halves-requires : tie.Need-halves-requires invariant-loop-u decreases-loop-u
 halves-requires c κs = tt
 
-returns : tie.Need-returns invariant_loop decreases-loop
+returns : tie.Need-returns invariant-loop-u decreases-loop-u
 returns c =
-    let l = c.before.before.loop in
-    c.halves.ensures ∙ all_terms c.before.before.before.args.t1 l.sums l.u l.invariant.0 c.before.loop-test.false l.invariant.1
+    let l = c.loop-u in
+    c.halves.ensures ∙ all_terms c.args.input l.sums l.u l.invariant.0 c.loop-u-test.false l.invariant.1
 
 pub idct_1d_spec : {M : Type 1} → statement M
 idct_1d_spec =
     tie.close
     (tie.spec
-    invariant_loop
-    decreases-loop
-    loop_holds
+    invariant-loop-u
+    decreases-loop-u
+    loop-u-init
     c-requires
-    mul-f
-    array-read-f
-    mul-cosines
-    element-copy-out-cosines
-    add-term-requires
-    add-u
-    loop-less
-    loop_again
+    offset_bounds-input-u
+    bounds-input-u
+    offset_bounds-cos-u
+    bounds-cos-u
+    add_term-more-requires
+    overflow_step-u
+    loop-u-smaller
+    loop-u-preserved
     halves-requires
     returns)

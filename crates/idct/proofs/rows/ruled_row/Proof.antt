@@ -26,71 +26,71 @@ f lo hi rounding sums x = clamp_z (whole_of rounding (mul binary64 half (get_or 
 abbrev z : ℕ → ℤ
 z x = pos 0
 
-abbrev invariant_loop : tie.invariant-loop
-invariant_loop lo hi rounding sums out₀ x₀ out x = (x ≤ 8) × (out ≡ part 8 (f (to_z w32 lo) (to_z w32 hi) rounding sums) z x)
+abbrev invariant-loop-x : tie.invariant-loop-x
+invariant-loop-x lo hi rounding sums out₀ x₀ out x = (x ≤ 8) × (out ≡ part 8 (f (to_z w32 lo) (to_z w32 hi) rounding sums) z x)
 
-abbrev decreases-loop : tie.decreases-loop
-decreases-loop lo hi rounding sums out₀ x₀ out x = 8 - x
+abbrev decreases-loop-x : tie.decreases-loop-x
+decreases-loop-x lo hi rounding sums out₀ x₀ out x = 8 - x
 
-loop_holds : tie.Need-loop-init invariant_loop decreases-loop
+loop-x-init : tie.Need-loop-x-init invariant-loop-x decreases-loop-x
 unfolding build
-loop_holds c = (omega arith, cells-none 8 (f (to_z w32 (of_z w32 c.args.lo)) (to_z w32 (of_z w32 c.args.hi)) c.args.rounding c.args.t1) z _ refl)
+loop-x-init c = (omega arith, cells-none 8 (f (to_z w32 (of_z w32 c.args.lo)) (to_z w32 (of_z w32 c.args.hi)) c.args.rounding c.args.sums) z _ refl)
 
-mul-value : tie.Need-overflow-mul-value invariant_loop decreases-loop
-mul-value c = omega arith
+offset_bounds-sums-x : tie.Need-offset_bounds-sums-x invariant-loop-x decreases-loop-x
+offset_bounds-sums-x c = omega arith
 
-array-read-value : tie.Need-array-read-value invariant_loop decreases-loop
-array-read-value c = omega arith
+bounds-sums-x : tie.Need-bounds-sums-x invariant-loop-x decreases-loop-x
+bounds-sums-x c = omega arith
 
-ruled-sample-requires : tie.Need-ruled-sample-requires invariant_loop decreases-loop
-ruled-sample-requires c κs =
+ruled_sample-requires : tie.Need-ruled_sample-requires invariant-loop-x decreases-loop-x
+ruled_sample-requires c κs =
     let i = c.before in
     let s = i.before in
-    subst (λ (h : Float). Roundable (mul binary64 h (get_or s.args.t1 i.loop.x nan))) (sym half-bits) (s.requires _ c.loop-test.true)
+    subst (λ (h : Float). Roundable (mul binary64 h (get_or s.args.sums i.loop-x.x nan))) (sym half-bits) (s.requires _ c.loop-x-test.true)
 
-mul-out : tie.Need-overflow-mul-out invariant_loop decreases-loop
-mul-out c = omega arith
+offset_bounds-out-x : tie.Need-offset_bounds-out-x invariant-loop-x decreases-loop-x
+offset_bounds-out-x c = omega arith
 
-array-set-from-out : tie.Need-array-set-from-out invariant_loop decreases-loop
-array-set-from-out c = omega arith
+bounds-out-x : tie.Need-bounds-out-x invariant-loop-x decreases-loop-x
+bounds-out-x c = omega arith
 
-add-x : tie.Need-overflow-add-x invariant_loop decreases-loop
-add-x c = omega arith
+overflow_step-x : tie.Need-overflow_step-x invariant-loop-x decreases-loop-x
+overflow_step-x c = omega arith
 
-loop-less : tie.Need-loop-smaller invariant_loop decreases-loop
-loop-less c = omega arith
+loop-x-smaller : tie.Need-loop-x-smaller invariant-loop-x decreases-loop-x
+loop-x-smaller c = omega arith
 
-loop_again : tie.Need-loop-preserved invariant_loop decreases-loop
-loop_again c =
+loop-x-preserved : tie.Need-loop-x-preserved invariant-loop-x decreases-loop-x
+loop-x-preserved c =
     let i = c.before.before in
-    let a = i.before.args in
-    let r = c.ruled-sample.result in (
+    let a = i.args in
+    let r = c.ruled_sample.result in (
       omega arith,
-      cells-more 8 _ _ (pos 0) _ _ _ c.before.loop-test.true i.loop.invariant.1
-          (to_z-of_z {w = w32} {z = r} (record { sfits = c.ruled-sample.type-inv }) ∙ c.ruled-sample.ensures
-          ∙ ap (λ (h : Float). clamp_z (whole_of a.rounding (mul binary64 h (get_or a.t1 i.loop.x nan))) (to_z w32 (of_z w32 a.lo)) (to_z w32 (of_z w32 a.hi))) half-bits),
+      cells-more 8 _ _ (pos 0) _ _ _ c.loop-x-test.true i.loop-x.invariant.1
+          (to_z-of_z {w = w32} {z = r} (record { sfits = c.ruled_sample.type_inv }) ∙ c.ruled_sample.ensures
+          ∙ ap (λ (h : Float). clamp_z (whole_of a.rounding (mul binary64 h (get_or a.sums i.loop-x.x nan))) (to_z w32 (of_z w32 a.lo)) (to_z w32 (of_z w32 a.hi))) half-bits),
     )
 
-returns : tie.Need-returns invariant_loop decreases-loop
+returns : tie.Need-returns invariant-loop-x decreases-loop-x
 returns c =
     let s = c.before.before in
     let lo = to_z-of_z {w = w32} {z = s.args.lo} s.ranges.lo in
     let hi = to_z-of_z {w = w32} {z = s.args.hi} s.ranges.hi in
-    cells_all 8 _ _ _ _ c.loop-test.false c.before.loop.invariant.0 c.before.loop.invariant.1 ∙ (λ i. build 8 (f (lo i) (hi i) s.args.rounding s.args.t1))
+    cells_all 8 _ _ _ _ c.loop-x-test.false c.loop-x.invariant.0 c.loop-x.invariant.1 ∙ (λ i. build 8 (f (lo i) (hi i) s.args.rounding s.args.sums))
 
 pub ruled_row_spec : {M : Type 1} → statement M
 ruled_row_spec =
     tie.close
     (tie.spec
-    invariant_loop
-    decreases-loop
-    loop_holds
-    mul-value
-    array-read-value
-    ruled-sample-requires
-    mul-out
-    array-set-from-out
-    add-x
-    loop-less
-    loop_again
+    invariant-loop-x
+    decreases-loop-x
+    loop-x-init
+    offset_bounds-sums-x
+    bounds-sums-x
+    ruled_sample-requires
+    offset_bounds-out-x
+    bounds-out-x
+    overflow_step-x
+    loop-x-smaller
+    loop-x-preserved
     returns)

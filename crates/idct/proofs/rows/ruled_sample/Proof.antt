@@ -9,43 +9,43 @@ use Rattle.rounding.proofs.Answers.{never_refused, tells_whole}
 use Rattle.idct.proofs.rows.ruled_sample.Statement.{statement}
 use Rattle.idct.proofs.rows.ruled_sample.Tie as tie
 
-round-to-integer-requires : tie.Need-round-to-integer-requires
-round-to-integer-requires c κs = search rules
+round_to_integer-rounded-requires : tie.Need-round_to_integer-rounded-requires
+round_to_integer-rounded-requires c κs = search rules
 
-enum_told : tie.Need-enum-told
-enum_told c = search rules
+enum_told-1 : tie.Need-enum_told-1
+enum_told-1 c = search rules
 
-enum-known-rounded : tie.Need-enum-known-rounded
-enum-known-rounded c = search rules
+enum_known-rounded : tie.Need-enum_known-rounded
+enum_known-rounded c = search rules
 
 clamp-requires : tie.Need-clamp-requires
 clamp-requires c κs = search rules
 
-returns : tie.Need-returns
-returns c =
-    let k = c.before.before in
+returns-in-OutOfLimits : tie.Need-returns-in-OutOfLimits
+returns-in-OutOfLimits c =
+    let k = c.before in
     let s = k.before in
-    absurd (never_refused s.args.rounding s.args.value k.round-to-integer.result k.round-to-integer.ensures s.requires c.enum_told.given.1)
+    absurd (never_refused s.args.rounding s.args.value k.round_to_integer-rounded.result k.round_to_integer-rounded.ensures s.requires c.in-OutOfLimits.is)
 
-returns_2 : tie.Need-returns-2
-returns_2 c =
-    let r = c.before.before in
-    let k = r.before.before in
+returns-in-Is : tie.Need-returns-in-Is
+returns-in-Is c =
+    let r = c.before in
+    let k = r.before in
     let s = k.before in
     let a = s.args in
-    let n = r.rounded.given.0.0 in
-    let whole = held n c.before.known-told.given.0.1 ∙ tells_whole a.rounding a.value k.round-to-integer.result k.round-to-integer.ensures s.requires n r.rounded.given.1 in
+    let n = r.in-Is.n in
+    let whole = held n c.in-Is.known_told-1-own.given.0.1 ∙ tells_whole a.rounding a.value k.round_to_integer-rounded.result k.round_to_integer-rounded.ensures s.requires n r.in-Is.is in
     let lo = to_z-of_z {w = w32} {z = a.lo} s.ranges.lo in
     let hi = to_z-of_z {w = w32} {z = a.hi} s.ranges.hi in
-    held c.clamp.result c.clamp.type-inv ∙ c.clamp.ensures ∙ (λ i. clamp_z (whole i) (lo i) (hi i))
+    held c.clamp.result c.clamp.type_inv ∙ c.clamp.ensures ∙ (λ i. clamp_z (whole i) (lo i) (hi i))
 
 pub ruled_sample_spec : {M : Type 1} → statement M
 ruled_sample_spec =
     tie.close
     (tie.spec
-    round-to-integer-requires
-    enum_told
-    enum-known-rounded
+    round_to_integer-rounded-requires
+    enum_told-1
+    enum_known-rounded
     clamp-requires
-    returns
-    returns_2)
+    returns-in-OutOfLimits
+    returns-in-Is)

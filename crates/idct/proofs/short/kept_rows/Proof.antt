@@ -10,85 +10,85 @@ use Rattle.idct.proofs.KeptLaws.{kept_more, kept-none, kept_same, kept_skip}
 use Rattle.idct.proofs.short.kept_rows.Statement.{statement}
 use Rattle.idct.proofs.short.kept_rows.Tie as tie
 
-abbrev invariant_loop : tie.invariant-loop
-invariant_loop f table terms₀ which₀ n₀ v₀ terms which n v = (v ≤ 8) × Kept f v terms which n
+abbrev invariant-loop-v : tie.invariant-loop-v
+invariant-loop-v f table terms₀ which₀ n₀ v₀ terms which n v = (v ≤ 8) × Kept f v terms which n
 
-abbrev decreases-loop : tie.decreases-loop
-decreases-loop f table terms₀ which₀ n₀ v₀ terms which n v = 8 - v
+abbrev decreases-loop-v : tie.decreases-loop-v
+decreases-loop-v f table terms₀ which₀ n₀ v₀ terms which n v = 8 - v
 
-loop_holds : tie.Need-loop-init invariant_loop decreases-loop
-loop_holds c = (omega arith, kept-none c.args.f.now _ _ c.requires.2 c.requires.3)
+loop-v-init : tie.Need-loop-v-init invariant-loop-v decreases-loop-v
+loop-v-init c = (omega arith, kept-none c.args.f.now _ _ c.requires.2 c.requires.3)
 
-mul-row : tie.Need-overflow-mul-row invariant_loop decreases-loop
-mul-row c = omega arith
+offset_bounds-f-v : tie.Need-offset_bounds-f-v invariant-loop-v decreases-loop-v
+offset_bounds-f-v c = omega arith
 
-element-copy-out-row : tie.Need-element-copy-out-row invariant_loop decreases-loop
-element-copy-out-row c = omega arith
+bounds-f-v : tie.Need-bounds-f-v invariant-loop-v decreases-loop-v
+bounds-f-v c = omega arith
 
-zero-row-requires : tie.Need-zero-row-requires invariant_loop decreases-loop
-zero-row-requires c κs = tt
+zero_row-requires : tie.Need-zero_row-requires invariant-loop-v decreases-loop-v
+zero_row-requires c κs = tt
 
-row-terms-requires : tie.Need-row-terms-requires invariant_loop decreases-loop
-row-terms-requires c κs = c.before.before.before.before.before.requires.0
+row_terms-more-requires : tie.Need-row_terms-more-requires invariant-loop-v decreases-loop-v
+row_terms-more-requires c κs = c.requires.0
 
-mul-more : tie.Need-overflow-mul-more invariant_loop decreases-loop
-mul-more c = omega arith
+offset_bounds-terms-n : tie.Need-offset_bounds-terms-n invariant-loop-v decreases-loop-v
+offset_bounds-terms-n c = omega arith
 
-element-set-from-more : tie.Need-element-set-from-more invariant_loop decreases-loop
-element-set-from-more c = omega arith
+bounds-terms-n : tie.Need-bounds-terms-n invariant-loop-v decreases-loop-v
+bounds-terms-n c = omega arith
 
-mul-which : tie.Need-overflow-mul-which invariant_loop decreases-loop
-mul-which c = omega arith
+offset_bounds-which-n : tie.Need-offset_bounds-which-n invariant-loop-v decreases-loop-v
+offset_bounds-which-n c = omega arith
 
-element-write-which : tie.Need-element-write-which invariant_loop decreases-loop
-element-write-which c = omega arith
+bounds-which-n : tie.Need-bounds-which-n invariant-loop-v decreases-loop-v
+bounds-which-n c = omega arith
 
-add-n : tie.Need-overflow-add-n invariant_loop decreases-loop
-add-n c = omega arith
+overflow_add-n : tie.Need-overflow_add-n invariant-loop-v decreases-loop-v
+overflow_add-n c = omega arith
 
-add-v : tie.Need-overflow-add-v invariant_loop decreases-loop
-add-v c = omega arith
+overflow_step-v : tie.Need-overflow_step-v invariant-loop-v decreases-loop-v
+overflow_step-v c = omega arith
 
-loop-less : tie.Need-loop-smaller invariant_loop decreases-loop
-loop-less c = omega arith
+loop-v-smaller : tie.Need-loop-v-smaller invariant-loop-v decreases-loop-v
+loop-v-smaller c = omega arith
 
-loop_again : tie.Need-loop-preserved invariant_loop decreases-loop
-loop_again c =
+loop-v-preserved : tie.Need-loop-v-preserved invariant-loop-v decreases-loop-v
+loop-v-preserved c =
     let t = c.before in
     let i = t.before.before in
     let o = i.before in
-    let l = o.before.args.f.now in
-    let v = o.loop.v in (
+    let l = o.args.f.now in
+    let v = o.loop-v.v in (
       omega arith,
       ⊎_elim
-          (λ w. kept_same l (v + 1) c.if1.terms _ c.if1.which _ c.if1.n _ w.2 w.3 w.4 (kept_more l v o.loop.terms o.loop.which o.loop.n w.1.result w.1.ensures i.loop-test.true o.loop.invariant.1))
-          (λ w. kept_same l (v + 1) c.if1.terms _ c.if1.which _ c.if1.n _ w.1 w.2 w.3 (kept_skip l v o.loop.terms o.loop.which o.loop.n (true-T _ (sym t.zero_row.ensures ∙ not-false _ w.0.left)) o.loop.invariant.1))
-          c.if1.branch,
+          (λ w. kept_same l (v + 1) c.if-not-zero_row.terms _ c.if-not-zero_row.which _ c.if-not-zero_row.n _ w.2 w.3 w.4 (kept_more l v o.loop-v.terms o.loop-v.which o.loop-v.n w.1.result w.1.ensures i.loop-v-test.true o.loop-v.invariant.1))
+          (λ w. kept_same l (v + 1) c.if-not-zero_row.terms _ c.if-not-zero_row.which _ c.if-not-zero_row.n _ w.1 w.2 w.3 (kept_skip l v o.loop-v.terms o.loop-v.which o.loop-v.n (true-T _ (sym t.zero_row.ensures ∙ not-false _ w.0.left)) o.loop-v.invariant.1))
+          c.if-not-zero_row.branch,
     )
 
-returns : tie.Need-returns invariant_loop decreases-loop
+returns : tie.Need-returns invariant-loop-v decreases-loop-v
 returns c =
     let o = c.before in
-    let h : o.loop.v ≡ 8 = omega (arith, o.loop.invariant.0, c.loop-test.false) in
-    subst (λ (v : ℕ). Kept o.before.args.f.now v o.loop.terms o.loop.which o.loop.n) h o.loop.invariant.1
+    let h : o.loop-v.v ≡ 8 = omega (arith, o.loop-v.invariant.0, c.loop-v-test.false) in
+    subst (λ (v : ℕ). Kept o.args.f.now v o.loop-v.terms o.loop-v.which o.loop-v.n) h o.loop-v.invariant.1
 
 pub kept_rows_spec : {M : Type 1} → statement M
 kept_rows_spec =
     tie.close
     (tie.spec
-    invariant_loop
-    decreases-loop
-    loop_holds
-    mul-row
-    element-copy-out-row
-    zero-row-requires
-    row-terms-requires
-    mul-more
-    element-set-from-more
-    mul-which
-    element-write-which
-    add-n
-    add-v
-    loop-less
-    loop_again
+    invariant-loop-v
+    decreases-loop-v
+    loop-v-init
+    offset_bounds-f-v
+    bounds-f-v
+    zero_row-requires
+    row_terms-more-requires
+    offset_bounds-terms-n
+    bounds-terms-n
+    offset_bounds-which-n
+    bounds-which-n
+    overflow_add-n
+    overflow_step-v
+    loop-v-smaller
+    loop-v-preserved
     returns)

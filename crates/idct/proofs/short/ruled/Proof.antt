@@ -28,113 +28,113 @@ old out y = get_or out y []
 abbrev f : ℤ → ℤ → HalfIntegerRounding → List (List Float) → List ℕ → ℕ → ℕ → List ℤ
 f lo hi rounding terms which n y = build 8 (λ (x : ℕ). clamp_z (whole_of rounding (half_of_kept terms which n y x)) lo hi)
 
-abbrev invariant_loop : tie.invariant-loop
-invariant_loop terms which n table lo hi rounding out₀ p₀ out p = (p ≤ 4) × (out ≡ part 8 (f (to_z w32 lo) (to_z w32 hi) rounding terms which n) (old out₀) (2 * p))
+abbrev invariant-loop-p : tie.invariant-loop-p
+invariant-loop-p terms which n table lo hi rounding out₀ p₀ out p = (p ≤ 4) × (out ≡ part 8 (f (to_z w32 lo) (to_z w32 hi) rounding terms which n) (old out₀) (2 * p))
 
-abbrev decreases-loop : tie.decreases-loop
-decreases-loop terms which n table lo hi rounding out₀ p₀ out p = 4 - p
+abbrev decreases-loop-p : tie.decreases-loop-p
+decreases-loop-p terms which n table lo hi rounding out₀ p₀ out p = 4 - p
 
-eight-rows-requires : tie.Need-eight-rows-requires invariant_loop decreases-loop
-eight-rows-requires c κs = tt
+eight_rows-requires : tie.Need-eight_rows-requires invariant-loop-p decreases-loop-p
+eight_rows-requires c κs = tt
 
-loop_holds : tie.Need-loop-init invariant_loop decreases-loop
-loop_holds c =
+loop-p-init : tie.Need-loop-p-init invariant-loop-p decreases-loop-p
+loop-p-init c =
     let a = c.before.before.args in
-    (omega arith, cells-none 8 (f (to_z w32 (of_z w32 a.lo)) (to_z w32 (of_z w32 a.hi)) a.rounding a.terms.now a.which.now a.n) (old a.out.now) _ (is-build [] _ 8 (old a.out.now) c.eight-rows.ensures (λ i h. refl)))
+    (omega arith, cells-none 8 (f (to_z w32 (of_z w32 a.lo)) (to_z w32 (of_z w32 a.hi)) a.rounding a.terms.now a.which.now a.n) (old a.out.now) _ (is-build [] _ 8 (old a.out.now) c.eight_rows.ensures (λ i h. refl)))
 
-mul-y : tie.Need-overflow-mul-y invariant_loop decreases-loop
-mul-y c = omega arith
+overflow_mul-y : tie.Need-overflow_mul-y invariant-loop-p decreases-loop-p
+overflow_mul-y c = omega arith
 
-two-rows-requires : tie.Need-two-rows-requires invariant_loop decreases-loop
-two-rows-requires c κs =
+two_rows-pair-requires : tie.Need-two_rows-pair-requires invariant-loop-p decreases-loop-p
+two_rows-pair-requires c κs =
     let s = c.before.before.before.before in
     (s.requires.0, s.requires.1, omega arith, s.requires.2)
 
-ruled-row-requires : tie.Need-ruled-row-requires invariant_loop decreases-loop
-ruled-row-requires c κs =
+ruled_row-requires : tie.Need-ruled_row-requires invariant-loop-p decreases-loop-p
+ruled_row-requires c κs =
     let t = c.before in
     let i = t.before in
     let s = i.before.before.before.before in
     let a = s.args in
-    let y = 2 * i.before.loop.p in
-    let h : y < 8 = omega (arith, i.loop-test.true) in
-    λ x q. row_bounded (sum_of_kept a.terms.now a.which.now a.n y) t.two-rows.result.sums t.two-rows.ensures.0 (λ x q. s.requires.3 y x h q) x q
+    let y = 2 * i.loop-p.p in
+    let h : y < 8 = omega (arith, i.loop-p-test.true) in
+    λ x q. row_bounded (sum_of_kept a.terms.now a.which.now a.n y) t.two_rows-pair.result.sums t.two_rows-pair.ensures.0 (λ x q. s.requires.3 y x h q) x q
 
-mul-out : tie.Need-overflow-mul-out invariant_loop decreases-loop
-mul-out c = omega arith
+offset_bounds-out-y : tie.Need-offset_bounds-out-y invariant-loop-p decreases-loop-p
+offset_bounds-out-y c = omega arith
 
-element-set-from-out : tie.Need-element-set-from-out invariant_loop decreases-loop
-element-set-from-out c = omega arith
+bounds-out-y : tie.Need-bounds-out-y invariant-loop-p decreases-loop-p
+bounds-out-y c = omega arith
 
-ruled-row-requires-2 : tie.Need-ruled-row-requires-2 invariant_loop decreases-loop
-ruled-row-requires-2 c κs =
+ruled_row-requires-in-loop-p : tie.Need-ruled_row-requires-in-loop-p invariant-loop-p decreases-loop-p
+ruled_row-requires-in-loop-p c κs =
     let t = c.before.before.before in
     let i = t.before in
     let s = i.before.before.before.before in
     let a = s.args in
-    let y = 2 * i.before.loop.p + 1 in
-    let h : y < 8 = omega (arith, i.loop-test.true) in
-    λ x q. row_bounded (sum_of_kept a.terms.now a.which.now a.n y) t.two-rows.result.more t.two-rows.ensures.1 (λ x q. s.requires.3 y x h q) x q
+    let y = 2 * i.loop-p.p + 1 in
+    let h : y < 8 = omega (arith, i.loop-p-test.true) in
+    λ x q. row_bounded (sum_of_kept a.terms.now a.which.now a.n y) t.two_rows-pair.result.more t.two_rows-pair.ensures.1 (λ x q. s.requires.3 y x h q) x q
 
-add-t18 : tie.Need-overflow-add-t18 invariant_loop decreases-loop
-add-t18 c = omega arith
+overflow_add-y : tie.Need-overflow_add-y invariant-loop-p decreases-loop-p
+overflow_add-y c = omega arith
 
-mul-t21 : tie.Need-overflow-mul-t21 invariant_loop decreases-loop
-mul-t21 c = omega arith
+offset_bounds-out-y-in-loop-p : tie.Need-offset_bounds-out-y-in-loop-p invariant-loop-p decreases-loop-p
+offset_bounds-out-y-in-loop-p c = omega arith
 
-element-set-from-out-2 : tie.Need-element-set-from-out-2 invariant_loop decreases-loop
-element-set-from-out-2 c = omega arith
+bounds-out-y-in-loop-p : tie.Need-bounds-out-y-in-loop-p invariant-loop-p decreases-loop-p
+bounds-out-y-in-loop-p c = omega arith
 
-add-p : tie.Need-overflow-add-p invariant_loop decreases-loop
-add-p c = omega arith
+overflow_step-p : tie.Need-overflow_step-p invariant-loop-p decreases-loop-p
+overflow_step-p c = omega arith
 
-loop-less : tie.Need-loop-smaller invariant_loop decreases-loop
-loop-less c = omega arith
+loop-p-smaller : tie.Need-loop-p-smaller invariant-loop-p decreases-loop-p
+loop-p-smaller c = omega arith
 
-loop_again : tie.Need-loop-preserved invariant_loop decreases-loop
-loop_again c =
+loop-p-preserved : tie.Need-loop-p-preserved invariant-loop-p decreases-loop-p
+loop-p-preserved c =
     let r = c.before.before in
     let t = r.before.before in
     let i = t.before in
-    let l = i.before.loop in
+    let l = i.loop-p in
     let a = i.before.before.before.before.args in
     let lo = to_z w32 (of_z w32 a.lo) in
     let hi = to_z w32 (of_z w32 a.hi) in
     let sum = sum_of_kept a.terms.now a.which.now a.n in (
       omega arith,
-      pair_more (f lo hi a.rounding a.terms.now a.which.now a.n) (old a.out.now) [] l.out l.p r.ruled-row.result c.ruled-row2.result i.loop-test.true l.invariant.1
-          (row_ruled (sum (2 * l.p)) t.two-rows.result.sums t.two-rows.ensures.0 a.rounding lo hi r.ruled-row.result r.ruled-row.ensures)
-          (row_ruled (sum (2 * l.p + 1)) t.two-rows.result.more t.two-rows.ensures.1 a.rounding lo hi c.ruled-row2.result c.ruled-row2.ensures),
+      pair_more (f lo hi a.rounding a.terms.now a.which.now a.n) (old a.out.now) [] l.out l.p r.ruled_row.result c.ruled_row-in-loop-p.result i.loop-p-test.true l.invariant.1
+          (row_ruled (sum (2 * l.p)) t.two_rows-pair.result.sums t.two_rows-pair.ensures.0 a.rounding lo hi r.ruled_row.result r.ruled_row.ensures)
+          (row_ruled (sum (2 * l.p + 1)) t.two_rows-pair.result.more t.two_rows-pair.ensures.1 a.rounding lo hi c.ruled_row-in-loop-p.result c.ruled_row-in-loop-p.ensures),
     )
 
-returns : tie.Need-returns invariant_loop decreases-loop
+returns : tie.Need-returns invariant-loop-p decreases-loop-p
 returns c =
     let o = c.before in
-    let l = o.loop in
+    let l = o.loop-p in
     let s = o.before.before.before in
     let a = s.args in
     let lo = to_z-of_z {w = w32} {z = a.lo} s.ranges.lo in
     let hi = to_z-of_z {w = w32} {z = a.hi} s.ranges.hi in
-    pairs_all (f (to_z w32 (of_z w32 a.lo)) (to_z w32 (of_z w32 a.hi)) a.rounding a.terms.now a.which.now a.n) (old a.out.now) l.out l.p c.loop-test.false l.invariant.0 l.invariant.1 ∙ (λ i. build 8 (f (lo i) (hi i) a.rounding a.terms.now a.which.now a.n))
+    pairs_all (f (to_z w32 (of_z w32 a.lo)) (to_z w32 (of_z w32 a.hi)) a.rounding a.terms.now a.which.now a.n) (old a.out.now) l.out l.p c.loop-p-test.false l.invariant.0 l.invariant.1 ∙ (λ i. build 8 (f (lo i) (hi i) a.rounding a.terms.now a.which.now a.n))
 
 pub ruled_spec : {M : Type 1} → statement M
 ruled_spec =
     tie.close
     (tie.spec
-    invariant_loop
-    decreases-loop
-    eight-rows-requires
-    loop_holds
-    mul-y
-    two-rows-requires
-    ruled-row-requires
-    mul-out
-    element-set-from-out
-    ruled-row-requires-2
-    add-t18
-    mul-t21
-    element-set-from-out-2
-    add-p
-    loop-less
-    loop_again
+    invariant-loop-p
+    decreases-loop-p
+    eight_rows-requires
+    loop-p-init
+    overflow_mul-y
+    two_rows-pair-requires
+    ruled_row-requires
+    offset_bounds-out-y
+    bounds-out-y
+    ruled_row-requires-in-loop-p
+    overflow_add-y
+    offset_bounds-out-y-in-loop-p
+    bounds-out-y-in-loop-p
+    overflow_step-p
+    loop-p-smaller
+    loop-p-preserved
     returns)

@@ -10,88 +10,88 @@ use Rattle.idct.proofs.KeptLaws.{sums_none, sums-one-more}
 use Rattle.idct.proofs.short.sums_of.Statement.{statement}
 use Rattle.idct.proofs.short.sums_of.Tie as tie
 
-abbrev invariant_loop : tie.invariant-loop
-invariant_loop terms which n table y sums₀ j₀ sums j = (j ≤ n) × (sums ≡ build 8 (sum_of_kept terms which j y))
+abbrev invariant-loop-j : tie.invariant-loop-j
+invariant-loop-j terms which n table y sums₀ j₀ sums j = (j ≤ n) × (sums ≡ build 8 (sum_of_kept terms which j y))
 
-abbrev decreases-loop : tie.decreases-loop
-decreases-loop terms which n table y sums₀ j₀ sums j = n - j
+abbrev decreases-loop-j : tie.decreases-loop-j
+decreases-loop-j terms which n table y sums₀ j₀ sums j = n - j
 
-loop_holds : tie.Need-loop-init invariant_loop decreases-loop
+loop-j-init : tie.Need-loop-j-init invariant-loop-j decreases-loop-j
 unfolding build
-loop_holds c =
+loop-j-init c =
     let a = c.args in
     (omega arith, sums_none a.terms.now a.which.now a.y)
 
 -- a kept row is one of eight
-place : (c : tie.In-loop invariant_loop decreases-loop) → get_or c.before.before.args.which.now c.before.loop.j 0 < 8
-place c = c.before.before.requires.3 _ c.loop-test.true
+place : (c : tie.In-loop-j invariant-loop-j decreases-loop-j) → get_or c.args.which.now c.loop-j.j 0 < 8
+place c = c.requires.3 _ c.loop-j-test.true
 
-mul-t : tie.Need-overflow-mul-t invariant_loop decreases-loop
-mul-t c = omega arith
+offset_bounds-terms-j : tie.Need-offset_bounds-terms-j invariant-loop-j decreases-loop-j
+offset_bounds-terms-j c = omega arith
 
-element-copy-out-t : tie.Need-element-copy-out-t invariant_loop decreases-loop
-element-copy-out-t c = omega arith
+bounds-terms-j : tie.Need-bounds-terms-j invariant-loop-j decreases-loop-j
+bounds-terms-j c = omega arith
 
-mul-v : tie.Need-overflow-mul-v invariant_loop decreases-loop
-mul-v c = omega arith
+offset_bounds-which-j : tie.Need-offset_bounds-which-j invariant-loop-j decreases-loop-j
+offset_bounds-which-j c = omega arith
 
-element-copy-out-v : tie.Need-element-copy-out-v invariant_loop decreases-loop
-element-copy-out-v c = omega arith
+bounds-which-j : tie.Need-bounds-which-j invariant-loop-j decreases-loop-j
+bounds-which-j c = omega arith
 
-mul-add-row : tie.Need-overflow-mul-add-row invariant_loop decreases-loop
-mul-add-row c = omega (arith, place c.before.before)
+offset_bounds-table-v : tie.Need-offset_bounds-table-v invariant-loop-j decreases-loop-j
+offset_bounds-table-v c = omega (arith, place c.before.before)
 
-mul-add-row-2 : tie.Need-overflow-mul-add-row-2 invariant_loop decreases-loop
-mul-add-row-2 c = omega arith
+offset_bounds-table-y : tie.Need-offset_bounds-table-y invariant-loop-j decreases-loop-j
+offset_bounds-table-y c = omega arith
 
-index-1-add-row : tie.Need-bounds-1-add-row invariant_loop decreases-loop
-index-1-add-row c = place c.before.before
+bounds-table-v : tie.Need-bounds-table-v invariant-loop-j decreases-loop-j
+bounds-table-v c = place c.before.before
 
-index-2-add-row : tie.Need-bounds-2-add-row invariant_loop decreases-loop
-index-2-add-row c = omega arith
+bounds-table-y : tie.Need-bounds-table-y invariant-loop-j decreases-loop-j
+bounds-table-y c = omega arith
 
-add-row-requires : tie.Need-add-row-requires invariant_loop decreases-loop
-add-row-requires c κs = tt
+add_row-added-requires : tie.Need-add_row-added-requires invariant-loop-j decreases-loop-j
+add_row-added-requires c κs = tt
 
-add-j : tie.Need-overflow-add-j invariant_loop decreases-loop
-add-j c = omega arith
+overflow_step-j : tie.Need-overflow_step-j invariant-loop-j decreases-loop-j
+overflow_step-j c = omega arith
 
-loop-less : tie.Need-loop-smaller invariant_loop decreases-loop
-loop-less c = omega arith
+loop-j-smaller : tie.Need-loop-j-smaller invariant-loop-j decreases-loop-j
+loop-j-smaller c = omega arith
 
-loop_again : tie.Need-loop-preserved invariant_loop decreases-loop
-loop_again c =
+loop-j-preserved : tie.Need-loop-j-preserved invariant-loop-j decreases-loop-j
+loop-j-preserved c =
     let i = c.before.before.before.before in
     let o = i.before in
     let s = o.before in
     let a = s.args in
-    let v = get_or a.which.now o.loop.j 0 in
-    (omega arith, sums-one-more a.terms.now a.which.now o.loop.j a.y o.loop.sums c.add_row.result _ o.loop.invariant.1 (half_cosine_at a.table.now v a.y s.requires.0 (place i) s.requires.2) c.add_row.ensures)
+    let v = get_or a.which.now o.loop-j.j 0 in
+    (omega arith, sums-one-more a.terms.now a.which.now o.loop-j.j a.y o.loop-j.sums c.add_row-added.result _ o.loop-j.invariant.1 (half_cosine_at a.table.now v a.y s.requires.0 (place i) s.requires.2) c.add_row-added.ensures)
 
-returns : tie.Need-returns invariant_loop decreases-loop
+returns : tie.Need-returns invariant-loop-j decreases-loop-j
 returns c =
-    let l = c.before.loop in
-    let a = c.before.before.args in
-    let h : l.j ≡ a.n = omega (arith, l.invariant.0, c.loop-test.false) in
+    let l = c.loop-j in
+    let a = c.args in
+    let h : l.j ≡ a.n = omega (arith, l.invariant.0, c.loop-j-test.false) in
     l.invariant.1 ∙ ap (λ (m : ℕ). build 8 (sum_of_kept a.terms.now a.which.now m a.y)) h
 
 pub sums_of_spec : {M : Type 1} → statement M
 sums_of_spec =
     tie.close
     (tie.spec
-    invariant_loop
-    decreases-loop
-    loop_holds
-    mul-t
-    element-copy-out-t
-    mul-v
-    element-copy-out-v
-    mul-add-row
-    mul-add-row-2
-    index-1-add-row
-    index-2-add-row
-    add-row-requires
-    add-j
-    loop-less
-    loop_again
+    invariant-loop-j
+    decreases-loop-j
+    loop-j-init
+    offset_bounds-terms-j
+    bounds-terms-j
+    offset_bounds-which-j
+    bounds-which-j
+    offset_bounds-table-v
+    offset_bounds-table-y
+    bounds-table-v
+    bounds-table-y
+    add_row-added-requires
+    overflow_step-j
+    loop-j-smaller
+    loop-j-preserved
     returns)

@@ -13,98 +13,98 @@ use Rattle.idct.proofs.short.transform.Statement.{statement}
 use Rattle.idct.proofs.short.transform.Tie as tie
 
 -- what the first pass told of the even rows, and of the odd ones
-evens : (c : tie.After-m) → Half 0 c.before.before.before.before.before.args.f.now 4 c.before.before.even-rows.last.1.1.1.1.0 c.before.before.even-rows.last.1.1.1.1.1.0 c.m.given.0.0
+evens : (c : tie.In-Are) → Half 0 c.args.f.now 4 c.even_rows.new.1.1.1.1.0 c.even_rows.new.1.1.1.1.1.0 c.in-Are.m
 evens c =
-    let k = c.before.before.even-rows in
-    let s = c.before.before.before.before.before in
-    half-kept 0 s.args.f.now _ _ s.args.least s.args.most _ _ k.result (to_z-of_z {w = w32} {z = s.args.least} s.fits.least) (to_z-of_z {w = w32} {z = s.args.most} s.fits.most) k.ensures c.m.given.0.0 c.m.given.1
+    let k = c.even_rows in
+    let s = c.before.before.before.before in
+    half-kept 0 s.args.f.now _ _ s.args.least s.args.most _ _ k.result (to_z-of_z {w = w32} {z = s.args.least} s.ranges.least) (to_z-of_z {w = w32} {z = s.args.most} s.ranges.most) k.ensures c.in-Are.m c.in-Are.is
 
-odds : (c : tie.After-n) → Half 1 c.before.before.before.before.before.before.before.before.before.before.before.args.f.now 4 c.before.before.odd-rows.last.1.1.1.1.0 c.before.before.odd-rows.last.1.1.1.1.1.0 c.n.given.0.0
+odds : (c : tie.In-Are-odd_rows) → Half 1 c.args.f.now 4 c.odd_rows.new.1.1.1.1.0 c.odd_rows.new.1.1.1.1.1.0 c.in-Are-odd_rows.n
 odds c =
-    let k = c.before.before.odd-rows in
-    let s = c.before.before.before.before.before.before.before.before.before.before.before in
-    half-kept 1 s.args.f.now _ _ s.args.least s.args.most _ _ k.result (to_z-of_z {w = w32} {z = s.args.least} s.fits.least) (to_z-of_z {w = w32} {z = s.args.most} s.fits.most) k.ensures c.n.given.0.0 c.n.given.1
+    let k = c.odd_rows in
+    let s = c.before.before.before.before.before.before.before.before in
+    half-kept 1 s.args.f.now _ _ s.args.least s.args.most _ _ k.result (to_z-of_z {w = w32} {z = s.args.least} s.ranges.least) (to_z-of_z {w = w32} {z = s.args.most} s.ranges.most) k.ensures c.in-Are-odd_rows.n c.in-Are-odd_rows.is
 
-fine : (c : tie.After-n) → let a = c.before.before.before.before.before.before.before.before.before.before.before.args in every (every (within a.least a.most)) a.f.now ≡ true
+fine : (c : tie.In-Are-odd_rows) → let a = c.args in every (every (within a.least a.most)) a.f.now ≡ true
 fine c =
-    let m = c.before.before.before.before.before.before in
-    let e = m.before.before.even-rows in
-    let o = c.before.before.odd-rows in
-    let s = m.before.before.before.before.before in
-    all_within s.args.f.now s.args.least s.args.most s.pre.1
-    (half-within 0 s.args.f.now _ _ s.args.least s.args.most _ _ e.result (to_z-of_z {w = w32} {z = s.args.least} s.fits.least) (to_z-of_z {w = w32} {z = s.args.most} s.fits.most) e.ensures m.m.given.0.0 m.m.given.1)
-    (half-within 1 s.args.f.now _ _ s.args.least s.args.most _ _ o.result (to_z-of_z {w = w32} {z = s.args.least} s.fits.least) (to_z-of_z {w = w32} {z = s.args.most} s.fits.most) o.ensures c.n.given.0.0 c.n.given.1)
+    let m = c.before.before.before.before in
+    let e = m.even_rows in
+    let o = c.odd_rows in
+    let s = m.before.before.before.before in
+    all_within s.args.f.now s.args.least s.args.most s.requires.1
+    (half-within 0 s.args.f.now _ _ s.args.least s.args.most _ _ e.result (to_z-of_z {w = w32} {z = s.args.least} s.ranges.least) (to_z-of_z {w = w32} {z = s.args.most} s.ranges.most) e.ensures m.in-Are.m m.in-Are.is)
+    (half-within 1 s.args.f.now _ _ s.args.least s.args.most _ _ o.result (to_z-of_z {w = w32} {z = s.args.least} s.ranges.least) (to_z-of_z {w = w32} {z = s.args.most} s.ranges.most) o.ensures c.in-Are-odd_rows.n c.in-Are-odd_rows.is)
 
-even-rows-requires : tie.Need-even-rows-requires
-even-rows-requires c κs = search rules
+even_rows-requires : tie.Need-even_rows-requires
+even_rows-requires c κs = search rules
 
-enum_told : tie.Need-enum-told
-enum_told c = search rules
+enum_told-1 : tie.Need-enum_told-1
+enum_told-1 c = search rules
 
-enum-known-m : tie.Need-enum-known-m
-enum-known-m c = search rules
+enum_known-m : tie.Need-enum_known-m
+enum_known-m c = search rules
 
-odd-rows-requires : tie.Need-odd-rows-requires
-odd-rows-requires c κs = search rules
+odd_rows-requires : tie.Need-odd_rows-requires
+odd_rows-requires c κs = search rules
 
-enum-told-2 : tie.Need-enum-told-2
-enum-told-2 c = search rules
+enum_told-in-OutOfLimits-odd_rows : tie.Need-enum_told-in-OutOfLimits-odd_rows
+enum_told-in-OutOfLimits-odd_rows c = search rules
 
-enum-known-n : tie.Need-enum-known-n
-enum-known-n c = search rules
+enum_known-n : tie.Need-enum_known-n
+enum_known-n c = search rules
 
-near-samples-requires : tie.Need-near-samples-requires
-near-samples-requires c κs =
-    let n = c.before.before.before.before.before.before in
-    let m = n.before.before.before.before.before.before in
-    let s = m.before.before.before.before.before in
-    (s.pre.0, (evens m).few, (odds n).few, (evens m).below, (odds n).below, λ y x p q. both_bounded s.args.f.now (s.pre.3 (fine n)) _ _ _ _ _ _ (evens m) (odds n) y x p q)
+near_samples-requires : tie.Need-near_samples-requires
+near_samples-requires c κs =
+    let n = c.before.before.before.before.before in
+    let m = n.before.before.before.before in
+    let s = m.before.before.before.before in
+    (s.requires.0, (evens m).few, (odds n).few, (evens m).below, (odds n).below, λ y x p q. both_bounded s.args.f.now (s.requires.3 (fine n)) _ _ _ _ _ _ (evens m) (odds n) y x p q)
 
-returns : tie.Need-returns
-returns c =
-    let n = c.before.before.before.before.before.before.before.before in
-    let m = n.before.before.before.before.before.before in
-    let s = m.before.before.before.before.before in
-    let e = c.before.near-samples.ensures in
-    (sym (fine n), near-are s.args.f.now (s.pre.3 (fine n)) _ _ _ _ _ _ (evens m) (odds n) s.args.rounding _ _ s.args.lo s.args.hi _ (to_z-of_z {w = w32} {z = s.args.lo} s.fits.lo) (to_z-of_z {w = w32} {z = s.args.hi} s.fits.hi) e.0 (e.1 c.if1.taken))
+returns-then-near_samples : tie.Need-returns-then-near_samples
+returns-then-near_samples c =
+    let n = c.before.before.before.before.before.before.before in
+    let m = n.before.before.before.before in
+    let s = m.before.before.before.before in
+    let e = c.near_samples.ensures in
+    (sym (fine n), near-are s.args.f.now (s.requires.3 (fine n)) _ _ _ _ _ _ (evens m) (odds n) s.args.rounding _ _ s.args.lo s.args.hi _ (to_z-of_z {w = w32} {z = s.args.lo} s.ranges.lo) (to_z-of_z {w = w32} {z = s.args.hi} s.ranges.hi) e.0 (e.1 c.if-near_samples.true))
 
 slow-requires : tie.Need-slow-requires
 slow-requires c κs =
+    let n = c.before.before.before.before.before.before.before.before in
+    let s = n.before.before.before.before.before.before.before.before in
+    (s.requires.1, s.requires.3 (fine n))
+
+returns-in-OutOfLimits : tie.Need-returns-in-OutOfLimits
+returns-in-OutOfLimits c =
+    let k = c.even_rows in
+    let s = c.before.before.before.before in
+    (sym (half-not 0 s.args.f.now _ _ s.args.least s.args.most _ _ k.result (to_z-of_z {w = w32} {z = s.args.least} s.ranges.least) (to_z-of_z {w = w32} {z = s.args.most} s.ranges.most) k.ensures c.in-OutOfLimits.is), refl)
+
+returns-in-OutOfLimits-odd_rows : tie.Need-returns-in-OutOfLimits-odd_rows
+returns-in-OutOfLimits-odd_rows c =
+    let k = c.odd_rows in
+    let s = c.before.before.before.before.before.before.before.before in
+    (sym (half-not 1 s.args.f.now _ _ s.args.least s.args.most _ _ k.result (to_z-of_z {w = w32} {z = s.args.least} s.ranges.least) (to_z-of_z {w = w32} {z = s.args.most} s.ranges.most) k.ensures c.in-OutOfLimits-odd_rows.is), refl)
+
+returns-else-near_samples : tie.Need-returns-else-near_samples
+returns-else-near_samples c =
     let n = c.before.before.before.before.before.before.before.before.before in
-    let s = n.before.before.before.before.before.before.before.before.before.before.before in
-    (s.pre.1, s.pre.3 (fine n))
-
-returns_2 : tie.Need-returns-2
-returns_2 c =
-    let k = c.before.before.even-rows in
-    let s = c.before.before.before.before.before in
-    (sym (half-not 0 s.args.f.now _ _ s.args.least s.args.most _ _ k.result (to_z-of_z {w = w32} {z = s.args.least} s.fits.least) (to_z-of_z {w = w32} {z = s.args.most} s.fits.most) k.ensures c.enum_told.given.1), refl)
-
-returns_3 : tie.Need-returns-3
-returns_3 c =
-    let k = c.before.before.odd-rows in
-    let s = c.before.before.before.before.before.before.before.before.before.before.before in
-    (sym (half-not 1 s.args.f.now _ _ s.args.least s.args.most _ _ k.result (to_z-of_z {w = w32} {z = s.args.least} s.fits.least) (to_z-of_z {w = w32} {z = s.args.most} s.fits.most) k.ensures c.enum-told2.given.1), refl)
-
-returns_4 : tie.Need-returns-4
-returns_4 c =
-    let n = c.before.before.before.before.before.before.before.before.before.before in
-    let s = n.before.before.before.before.before.before.before.before.before.before.before in
-    (sym (fine n), ruled_between s.args.f.now s.args.rounding _ _ s.args.lo s.args.hi _ (to_z-of_z {w = w32} {z = s.args.lo} s.fits.lo) (to_z-of_z {w = w32} {z = s.args.hi} s.fits.hi) c.slow.ensures)
+    let s = n.before.before.before.before.before.before.before.before in
+    (sym (fine n), ruled_between s.args.f.now s.args.rounding _ _ s.args.lo s.args.hi _ (to_z-of_z {w = w32} {z = s.args.lo} s.ranges.lo) (to_z-of_z {w = w32} {z = s.args.hi} s.ranges.hi) c.slow.ensures)
 
 pub transform_spec : {M : Type 1} → statement M
 transform_spec =
     tie.close
     (tie.spec
-    even-rows-requires
-    enum_told
-    enum-known-m
-    odd-rows-requires
-    enum-told-2
-    enum-known-n
-    near-samples-requires
-    returns
+    even_rows-requires
+    enum_told-1
+    enum_known-m
+    odd_rows-requires
+    enum_told-in-OutOfLimits-odd_rows
+    enum_known-n
+    near_samples-requires
+    returns-then-near_samples
     slow-requires
-    returns_2
-    returns_3
-    returns_4)
+    returns-in-OutOfLimits
+    returns-in-OutOfLimits-odd_rows
+    returns-else-near_samples)

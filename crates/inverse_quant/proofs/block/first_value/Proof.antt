@@ -13,53 +13,53 @@ use Rattle.inverse_quant.proofs.RefusalLaws.{quantiser-fine}
 use Rattle.inverse_quant.proofs.block.first_value.Statement.{statement}
 use Rattle.inverse_quant.proofs.block.first_value.Tie as tie
 
-given : (c : tie.After-inverse-quant-intra-dc) → let a = c.before.before.before.args in c.inverse-quant-intra-dc.result ≡ Is (intra_dc a.level a.ctx.component a.ctx.quantiser_scale a.ctx.short_video_header)
+given : (c : tie.After-inverse_quant_intra_dc-dc) → let a = c.args in c.inverse_quant_intra_dc-dc.result ≡ Is (intra_dc a.level a.ctx.component a.ctx.quantiser_scale a.ctx.short_video_header)
 given c =
     let s = c.before.before.before in
     let a = s.args in
     let x = a.ctx in
-    c.inverse-quant-intra-dc.ensures.0 ∙ ap (λ (z : ℤ). intra_dc_answer z x.component x.quantiser_scale x.short_video_header) (to_z-of_z s.ranges.level)
+    c.inverse_quant_intra_dc-dc.ensures.0 ∙ ap (λ (z : ℤ). intra_dc_answer z x.component x.quantiser_scale x.short_video_header) (to_z-of_z s.ranges.level)
     ∙ intra_dc_given a.level x.component x.quantiser_scale x.short_video_header (quantiser-fine x s.requires.1) s.requires.0
 
-returns : tie.Need-returns
-returns c = let s = c.before.before in rw (not-true s.args.ctx.macroblock_intra c.if1.true) (to_z-of_z s.ranges.value)
+returns-then-not-ctx : tie.Need-returns-then-not-ctx
+returns-then-not-ctx c = let s = c.before.before in rw c.if-not-ctx.true (to_z-of_z s.ranges.value)
 
-inverse-quant-intra-dc-requires : tie.Need-inverse-quant-intra-dc-requires
-inverse-quant-intra-dc-requires c κs = search rules
+inverse_quant_intra_dc-dc-requires : tie.Need-inverse_quant_intra_dc-dc-requires
+inverse_quant_intra_dc-dc-requires c κs = search rules
 
-enum_told : tie.Need-enum-told
-enum_told c = search rules
+enum_told-1 : tie.Need-enum_told-1
+enum_told-1 c = search rules
 
-enum-known-dc : tie.Need-enum-known-dc
-enum-known-dc c = search rules
+enum_known-dc : tie.Need-enum_known-dc
+enum_known-dc c = search rules
 
-saturate-fprime-requires : tie.Need-saturate-fprime-requires
-saturate-fprime-requires c κs = search rules
+saturate_fprime-requires : tie.Need-saturate_fprime-requires
+saturate_fprime-requires c κs = search rules
 
-returns_2 : tie.Need-returns-2
-returns_2 c =
+returns-in-Refused : tie.Need-returns-in-Refused
+returns-in-Refused c =
+    let k = c.before in
+    absurd (value_never k.inverse_quant_intra_dc-dc.result _ _ (given k) c.in-Refused.is)
+
+returns-in-Is : tie.Need-returns-in-Is
+returns-in-Is c =
     let k = c.before.before in
-    absurd (value_never k.inverse-quant-intra-dc.result _ _ (given k) c.enum_told.given.1)
-
-returns_3 : tie.Need-returns-3
-returns_3 c =
-    let k = c.before.before.before.before in
     let s = k.before.before.before in
     let a = s.args in
-    let z = c.before.before.dc.given in
-    rw (not-false a.ctx.macroblock_intra k.before.if1.false)
-    (held c.saturate-fprime.result c.saturate-fprime.type-inv ∙ c.saturate-fprime.ensures
+    let z = c.in-Is in
+    rw k.if-not-ctx.false
+    (held c.saturate_fprime.result c.saturate_fprime.type_inv ∙ c.saturate_fprime.ensures
     ∙ ap (limited_f a.ctx.bits_per_pixel)
-    (held z.0.0 c.before.known-told.given.0.1 ∙ value_is k.inverse-quant-intra-dc.result z.0.0 _ (given k) z.1))
+    (held z.z c.in-Is.known_told-1-own.given.0.1 ∙ value_is k.inverse_quant_intra_dc-dc.result z.z _ (given k) z.is))
 
 pub first_value_spec : {M : Type 1} → statement M
 first_value_spec =
     tie.close
     (tie.spec
-    returns
-    inverse-quant-intra-dc-requires
-    enum_told
-    enum-known-dc
-    saturate-fprime-requires
-    returns_2
-    returns_3)
+    returns-then-not-ctx
+    inverse_quant_intra_dc-dc-requires
+    enum_told-1
+    enum_known-dc
+    saturate_fprime-requires
+    returns-in-Refused
+    returns-in-Is)

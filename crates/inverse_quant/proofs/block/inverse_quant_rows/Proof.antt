@@ -20,74 +20,74 @@ use Rattle.inverse_quant.proofs.block.inverse_quant_rows.Tie as tie
 
 module _ (s : tie.Start) where
   abbrev answer : Stage
-  answer = answer_by s.args.method1 s.args.ctx s.args.t2 s.args.t1
+  answer = answer_by s.args.method1 s.args.ctx s.args.w s.args.qf
 
   abbrev new : List (List ℤ)
-  new = dequantised_by s.args.method1 s.args.control s.args.ctx s.args.t2 s.args.t1
+  new = dequantised_by s.args.method1 s.args.control s.args.ctx s.args.w s.args.qf
 
-context : (c : tie.Else1) → context_fine c.before.before.args.ctx ≡ true
-context c = flag_passes c.before.context-fine.ensures c.if1.false
+context : (c : tie.Else-not-context_fine) → context_fine c.args.ctx ≡ true
+context c = flag_passes c.context_fine.ensures c.if-not-context_fine.false
 
-by_method1 : (c : tie.Else2) → c.before.before.before.before.args.method1 ≡ true
-by_method1 c = not-false c.before.before.before.before.args.method1 c.if2.false
+by_method1 : (c : tie.Else-not-method1) → c.args.method1 ≡ true
+by_method1 c = c.if-not-method1.false
 
-context-fine-requires : tie.Need-context-fine-requires
-context-fine-requires c κs = search rules
+context_fine-requires : tie.Need-context_fine-requires
+context_fine-requires c κs = search rules
 
-returns : tie.Need-returns
-returns c =
+returns-then-not-context_fine : tie.Need-returns-then-not-context_fine
+returns-then-not-context_fine c =
     let s = c.before.before in
     let a = s.args in
     also stage_outcome
-    (refused_keeps (answer s) Context (new s) a.out.now (context_refuses a.method1 a.ctx a.t2 a.t1 (flag_refuses c.before.context-fine.ensures c.if1.true)))
-    (due_by_lem a.method1 a.ctx a.t2 a.t1)
+    (refused_keeps (answer s) Context (new s) a.out.now (context_refuses a.method1 a.ctx a.w a.qf (flag_refuses c.context_fine.ensures c.if-not-context_fine.true)))
+    (due_by_lem a.method1 a.ctx a.w a.qf)
 
 rows2-requires : tie.Need-rows2-requires
-rows2-requires c κs = let e = c.before.before.before in (context-good e.before.before.args.ctx (context e), e.before.before.well-formed.0.1.0.1)
+rows2-requires c κs = let e = c.before.before.before in (context-good e.args.ctx (context e), e.well_formed.0.1.0.1)
 
-returns_2 : tie.Need-returns-2
-returns_2 c =
+returns-then-not-method1 : tie.Need-returns-then-not-method1
+returns-then-not-method1 c =
     let t = c.before.before in
     let e = t.before.before in
-    let a = e.before.before.args in
-    also stage_outcome (rw (not-true a.method1 t.if2.true, context e) c.rows2.ensures) (due_by_lem a.method1 a.ctx a.t2 a.t1)
+    let a = e.args in
+    also stage_outcome (rw (t.if-not-method1.true, context e) c.rows2.ensures) (due_by_lem a.method1 a.ctx a.w a.qf)
 
-matrix-fine-requires : tie.Need-matrix-fine-requires
-matrix-fine-requires c κs = search rules
+matrix_fine-requires : tie.Need-matrix_fine-requires
+matrix_fine-requires c κs = search rules
 
-returns_3 : tie.Need-returns-3
-returns_3 c =
+returns-then-not-matrix_fine : tie.Need-returns-then-not-matrix_fine
+returns-then-not-matrix_fine c =
     let p = c.before.before in
     let e = p.before.before in
     let s = e.before.before in
     let a = s.args in
     also stage_outcome
-    (refused_keeps (answer s) Context (new s) a.out.now (rw (by_method1 p, context e, flag_refuses c.before.matrix-fine.ensures c.if3.true)))
-    (due_by_lem a.method1 a.ctx a.t2 a.t1)
+    (refused_keeps (answer s) Context (new s) a.out.now (rw (by_method1 p, context e, flag_refuses c.matrix_fine.ensures c.if-not-matrix_fine.true)))
+    (due_by_lem a.method1 a.ctx a.w a.qf)
 
 rows1-requires : tie.Need-rows1-requires
 rows1-requires c κs =
     let e = c.before.before.before.before.before.before in
-    (context-good e.before.before.args.ctx (context e), e.before.before.well-formed.0.1.0.1)
+    (context-good e.args.ctx (context e), e.well_formed.0.1.0.1)
 
-returns_4 : tie.Need-returns-4
-returns_4 c =
+returns : tie.Need-returns
+returns c =
     let m = c.before.before.before in
     let p = m.before.before in
     let e = p.before.before in
-    let a = e.before.before.args in
-    also stage_outcome (rw (by_method1 p, context e, flag_passes m.before.matrix-fine.ensures m.if3.false) c.rows1.ensures)
-    (due_by_lem a.method1 a.ctx a.t2 a.t1)
+    let a = e.args in
+    also stage_outcome (rw (by_method1 p, context e, flag_passes m.matrix_fine.ensures m.if-not-matrix_fine.false) c.rows1.ensures)
+    (due_by_lem a.method1 a.ctx a.w a.qf)
 
 pub inverse_quant_rows_spec : {M : Type 1} → statement M
 inverse_quant_rows_spec =
     tie.close
     (tie.spec
-    context-fine-requires
-    returns
+    context_fine-requires
+    returns-then-not-context_fine
     rows2-requires
-    returns_2
-    matrix-fine-requires
-    returns_3
+    returns-then-not-method1
+    matrix_fine-requires
+    returns-then-not-matrix_fine
     rows1-requires
-    returns_4)
+    returns)

@@ -24,8 +24,8 @@ use Rattle.inverse_quant.proofs.block.rows2.Statement.{statement}
 use Rattle.inverse_quant.proofs.block.rows2.Tie as tie
 
 -- what passed the test
-in_range : (c : tie.Else1) → block_fine c.before.before.args.qf.now ≡ true
-in_range c = flag_passes c.before.block-fine.ensures c.if1.left
+in_range : (c : tie.Else-not-block_fine) → block_fine c.args.qf.now ≡ true
+in_range c = flag_passes c.block_fine.ensures c.if-not-block_fine.false
 
 -- every row is put
 module _ (c : tie.After-fill2) where
@@ -47,71 +47,71 @@ module _ (c : tie.After-fill2) where
   level : to_z w32 (of_z w32 (cell qf 0 0)) ≡ cell qf 0 0
   level = back {w = w32} (loc (cell qf 0 0) 2048 (level-abs (cell qf 0 0) first_fine)) tt
 
-block-fine-requires : tie.Need-block-fine-requires
-block-fine-requires c κs = c.pre.1
+block_fine-requires : tie.Need-block_fine-requires
+block_fine-requires c κs = c.requires.1
 
-returns : tie.Need-returns
-returns c =
+returns-then-not-block_fine : tie.Need-returns-then-not-block_fine
+returns-then-not-block_fine c =
     let s = c.before.before in
     let qf = s.args.qf.now in
     refused_keeps (first_bad true (block_fine qf)) HandedIn (dequantised2 s.args.ctx qf) s.args.out.now
-    (ap (first_bad true) (flag_refuses c.before.block-fine.ensures c.if1.taken))
+    (ap (first_bad true) (flag_refuses c.block_fine.ensures c.if-not-block_fine.true))
 
 fill2-requires : tie.Need-fill2-requires
 unfolding build
 fill2-requires c κs =
     let p = c.before.before in
     let s = p.before.before in
-    (s.pre.0, s.pre.1, in_range p, refl)
+    (s.requires.0, s.requires.1, in_range p, refl)
 
-index-1-first-value : tie.Need-index-1-first-value
-index-1-first-value c = search rules
+bounds-qf-0 : tie.Need-bounds-qf-0
+bounds-qf-0 c = search rules
 
-index-2-first-value : tie.Need-index-2-first-value
-index-2-first-value c = search rules
+bounds-qf-0-else-not-block_fine : tie.Need-bounds-qf-0-else-not-block_fine
+bounds-qf-0-else-not-block_fine c = search rules
 
-index-1-first-value-2 : tie.Need-index-1-first-value-2
-index-1-first-value-2 c = search rules
+bounds-out-0 : tie.Need-bounds-out-0
+bounds-out-0 c = search rules
 
-index-2-first-value-2 : tie.Need-index-2-first-value-2
-index-2-first-value-2 c = search rules
+bounds-out-0-else-not-block_fine : tie.Need-bounds-out-0-else-not-block_fine
+bounds-out-0-else-not-block_fine c = search rules
 
-first-value-requires : tie.Need-first-value-requires
-first-value-requires c κs =
+first_value-requires : tie.Need-first_value-requires
+first_value-requires c κs =
     let e = c.before.before in
-    (rw (level e) (first_fine e), (s e).pre.0)
+    (rw (level e) (first_fine e), (s e).requires.0)
 
-index-1-out : tie.Need-index-1-out
-index-1-out c = search rules
+bounds-out-0-else-not-block_fine-2 : tie.Need-bounds-out-0-else-not-block_fine-2
+bounds-out-0-else-not-block_fine-2 c = search rules
 
-index-2-out : tie.Need-index-2-out
-index-2-out c = search rules
+bounds-out-0-else-not-block_fine-3 : tie.Need-bounds-out-0-else-not-block_fine-3
+bounds-out-0-else-not-block_fine-3 c = search rules
 
-returns_2 : tie.Need-returns-2
+returns : tie.Need-returns
 unfolding dequantised2
-returns_2 c =
+returns c =
     let e = c.before.before.before in
     let x = (s e).args.ctx in
-    let f = e.fill2.last.1.1.0 in
+    let f = e.fill2.new.1.1.0 in
     let filled : f ≡ rows e = e.fill2.ensures in
     let first = cell (qf e) 0 0 in
-    let value = held (cell f 0 0) c.before.first-value-arg2.given ∙ ap (λ (b : List (List ℤ)). cell b 0 0) filled in
-    let dc : c.first-value.result ≡ first_value x first (cell (rows e) 0 0) = c.first-value.ensures ∙ (λ i. first_value x (level e i) (value i)) in
+    let value = held (cell f 0 0) c.first_value-arg-2-1.given ∙ ap (λ (b : List (List ℤ)). cell b 0 0) filled in
+    let dc : c.first_value.result ≡ first_value x first (cell (rows e) 0 0) = c.first_value.ensures ∙ (λ i. first_value x (level e i) (value i)) in
     done_writes (first_bad true (block_fine (qf e))) (dequantised2 x (qf e)) (s e).args.out.now _ (ap (first_bad true) (fine e))
-    ((λ i. put (filled i) 0 0 ((held c.first-value.result c.first-value.ok ∙ dc) i)) ∙ first_put2 x (qf e))
+    ((λ i. put (filled i) 0 0 ((held c.first_value.result c.first_value.type_inv ∙ dc) i)) ∙ first_put2 x (qf e))
 
 pub rows2_spec : {M : Type 1} → statement M
 rows2_spec =
     tie.close
     (tie.spec
-    block-fine-requires
-    returns
+    block_fine-requires
+    returns-then-not-block_fine
     fill2-requires
-    index-1-first-value
-    index-2-first-value
-    index-1-first-value-2
-    index-2-first-value-2
-    first-value-requires
-    index-1-out
-    index-2-out
-    returns_2)
+    bounds-qf-0
+    bounds-qf-0-else-not-block_fine
+    bounds-out-0
+    bounds-out-0-else-not-block_fine
+    first_value-requires
+    bounds-out-0-else-not-block_fine-2
+    bounds-out-0-else-not-block_fine-3
+    returns)

@@ -11,73 +11,73 @@ use Rattle.numbers.proofs.Fill.{part, cells-none, cells-more, cells_all}
 use Rattle.inverse_quant.proofs.row.added.Statement.{statement}
 use Rattle.inverse_quant.proofs.row.added.Tie as tie
 
-abbrev invariant_loop : tie.invariant-loop
-invariant_loop sums row out₀ u₀ out u = (u ≤ 8) × (out ≡ part 8 (λ (k : ℕ). get_or sums k (pos 0) +ℤ get_or row k (pos 0)) (λ (k : ℕ). pos 0) u)
+abbrev invariant-loop-u : tie.invariant-loop-u
+invariant-loop-u sums row out₀ u₀ out u = (u ≤ 8) × (out ≡ part 8 (λ (k : ℕ). get_or sums k (pos 0) +ℤ get_or row k (pos 0)) (λ (k : ℕ). pos 0) u)
 
-abbrev decreases-loop : tie.decreases-loop
-decreases-loop sums row out₀ u₀ out u = 8 - u
+abbrev decreases-loop-u : tie.decreases-loop-u
+decreases-loop-u sums row out₀ u₀ out u = 8 - u
 
 -- the value of this turn
-abbrev sum : tie.At-loop invariant_loop decreases-loop → Sx w32
+abbrev sum : tie.At-loop-u invariant-loop-u decreases-loop-u → Sx w32
 sum a =
     let s = a.before in
-    loc (get_or s.args.t1 a.loop.u (pos 0)) 229376 (s.requires.0 a.loop.u) ⊞ loc (get_or s.args.t2 a.loop.u (pos 0)) 32768 (s.requires.1 a.loop.u)
+    loc (get_or s.args.sums a.loop-u.u (pos 0)) 229376 (s.requires.0 a.loop-u.u) ⊞ loc (get_or s.args.row a.loop-u.u (pos 0)) 32768 (s.requires.1 a.loop-u.u)
 
-loop_holds : tie.Need-loop-init invariant_loop decreases-loop
+loop-u-init : tie.Need-loop-u-init invariant-loop-u decreases-loop-u
 unfolding build
-loop_holds c = (omega arith, cells-none 8 _ (λ (k : ℕ). pos 0) _ refl)
+loop-u-init c = (omega arith, cells-none 8 _ (λ (k : ℕ). pos 0) _ refl)
 
-mul-out : tie.Need-overflow-mul-out invariant_loop decreases-loop
-mul-out c = omega arith
+offset_bounds-sums-u : tie.Need-offset_bounds-sums-u invariant-loop-u decreases-loop-u
+offset_bounds-sums-u c = omega arith
 
-array-copy-out-out : tie.Need-array-copy-out-out invariant_loop decreases-loop
-array-copy-out-out c = omega arith
+bounds-sums-u : tie.Need-bounds-sums-u invariant-loop-u decreases-loop-u
+bounds-sums-u c = omega arith
 
-mul-out-2 : tie.Need-overflow-mul-out-2 invariant_loop decreases-loop
-mul-out-2 c = omega arith
+offset_bounds-row-u : tie.Need-offset_bounds-row-u invariant-loop-u decreases-loop-u
+offset_bounds-row-u c = omega arith
 
-array-copy-out-out-2 : tie.Need-array-copy-out-out-2 invariant_loop decreases-loop
-array-copy-out-out-2 c = omega arith
+bounds-row-u : tie.Need-bounds-row-u invariant-loop-u decreases-loop-u
+bounds-row-u c = omega arith
 
-add-out : tie.Need-overflow-add-out invariant_loop decreases-loop
-add-out c = fits (sum c.before.before.before) tt
+overflow_add-out : tie.Need-overflow_add-out invariant-loop-u decreases-loop-u
+overflow_add-out c = fits (sum c.before.before.before) tt
 
-mul-out-3 : tie.Need-overflow-mul-out-3 invariant_loop decreases-loop
-mul-out-3 c = omega arith
+offset_bounds-out-u : tie.Need-offset_bounds-out-u invariant-loop-u decreases-loop-u
+offset_bounds-out-u c = omega arith
 
-array-set-from-out : tie.Need-array-set-from-out invariant_loop decreases-loop
-array-set-from-out c = omega arith
+bounds-out-u : tie.Need-bounds-out-u invariant-loop-u decreases-loop-u
+bounds-out-u c = omega arith
 
-add-u : tie.Need-overflow-add-u invariant_loop decreases-loop
-add-u c = omega arith
+overflow_step-u : tie.Need-overflow_step-u invariant-loop-u decreases-loop-u
+overflow_step-u c = omega arith
 
-loop-less : tie.Need-loop-smaller invariant_loop decreases-loop
-loop-less c = omega arith
+loop-u-smaller : tie.Need-loop-u-smaller invariant-loop-u decreases-loop-u
+loop-u-smaller c = omega arith
 
-loop_again : tie.Need-loop-preserved invariant_loop decreases-loop
-loop_again c =
+loop-u-preserved : tie.Need-loop-u-preserved invariant-loop-u decreases-loop-u
+loop-u-preserved c =
     let i = c.before.before in
     let a = i.before in
-    (omega arith, cells-more 8 _ _ (pos 0) _ _ _ i.loop-test.true a.loop.invariant.1 (back (sum a) tt))
+    (omega arith, cells-more 8 _ _ (pos 0) _ _ _ i.loop-u-test.true a.loop-u.invariant.1 (back (sum a) tt))
 
-returns : tie.Need-returns invariant_loop decreases-loop
-returns c = cells_all 8 _ _ _ _ c.loop-test.false c.before.loop.invariant.0 c.before.loop.invariant.1
+returns : tie.Need-returns invariant-loop-u decreases-loop-u
+returns c = cells_all 8 _ _ _ _ c.loop-u-test.false c.loop-u.invariant.0 c.loop-u.invariant.1
 
 pub added_spec : {M : Type 1} → statement M
 added_spec =
     tie.close
     (tie.spec
-    invariant_loop
-    decreases-loop
-    loop_holds
-    mul-out
-    array-copy-out-out
-    mul-out-2
-    array-copy-out-out-2
-    add-out
-    mul-out-3
-    array-set-from-out
-    add-u
-    loop-less
-    loop_again
+    invariant-loop-u
+    decreases-loop-u
+    loop-u-init
+    offset_bounds-sums-u
+    bounds-sums-u
+    offset_bounds-row-u
+    bounds-row-u
+    overflow_add-out
+    offset_bounds-out-u
+    bounds-out-u
+    overflow_step-u
+    loop-u-smaller
+    loop-u-preserved
     returns)

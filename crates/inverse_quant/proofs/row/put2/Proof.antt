@@ -5,19 +5,19 @@ use Rattle.inverse_quant.proofs.ZeroLaws.{zero_row2}
 use Rattle.inverse_quant.proofs.row.put2.Statement.{statement}
 use Rattle.inverse_quant.proofs.row.put2.Tie as tie
 
-row-zero-requires : tie.Need-row-zero-requires
-row-zero-requires c κs = search rules
+row_zero-requires : tie.Need-row_zero-requires
+row_zero-requires c κs = search rules
 
-returns : tie.Need-returns
-returns c =
+returns-then-row_zero : tie.Need-returns-then-row_zero
+returns-then-row_zero c =
     let s = c.before.before in
-    s.requires.2 ∙ zero_row2 s.args.levels (sym c.before.row_zero.ensures ∙ c.if1.true) s.args.ctx
+    s.requires.2 ∙ zero_row2 s.args.levels (sym c.row_zero.ensures ∙ c.if-row_zero.true) s.args.ctx
 
 row2-requires : tie.Need-row2-requires
 row2-requires c κs = search rules
 
-returns_2 : tie.Need-returns-2
-returns_2 c = search rules
+returns : tie.Need-returns
+returns c = search rules
 
 pub put2_spec : {M : Type 1} → statement M
-put2_spec = tie.close (tie.spec row-zero-requires returns row2-requires returns_2)
+put2_spec = tie.close (tie.spec row_zero-requires returns-then-row_zero row2-requires returns)

@@ -15,54 +15,54 @@ use Rattle.numbers.proofs.Lists.{sum_bound, sum-next}
 use Rattle.inverse_quant.proofs.row.sum_of.Statement.{statement}
 use Rattle.inverse_quant.proofs.row.sum_of.Tie as tie
 
-abbrev invariant_loop : tie.invariant-loop
-invariant_loop sums sum₀ u₀ sum u = (u ≤ 8) × (sum ≡ of_z w32 (sum_z (take u sums)))
+abbrev invariant-loop-u : tie.invariant-loop-u
+invariant-loop-u sums sum₀ u₀ sum u = (u ≤ 8) × (sum ≡ of_z w32 (sum_z (take u sums)))
 
-abbrev decreases-loop : tie.decreases-loop
-decreases-loop sums sum₀ u₀ sum u = 8 - u
+abbrev decreases-loop-u : tie.decreases-loop-u
+decreases-loop-u sums sum₀ u₀ sum u = 8 - u
 
-eight : (s : tie.Start invariant_loop decreases-loop) → length s.args.t1 ≡ 8
-eight s = good_length (e_s_int w32) 8 s.args.t1 _ s.well-formed.0
+eight : (s : tie.Start invariant-loop-u decreases-loop-u) → length s.args.sums ≡ 8
+eight s = good_length (e_s_int w32) 8 s.args.sums _ s.well_formed.0
 
 -- the sum so far, and with the next
-module _ (a : tie.At-loop invariant_loop decreases-loop) where
+module _ (a : tie.At-loop-u invariant-loop-u decreases-loop-u) where
   abbrev row : List ℤ
-  row = a.before.args.t1
+  row = a.args.sums
 
   abbrev so_far : Sx w32
-  so_far = loc (sum_z (take a.loop.u row)) 2097152 (omega (arith, sum_bound 262144 row a.before.pre a.loop.u))
+  so_far = loc (sum_z (take a.loop-u.u row)) 2097152 (omega (arith, sum_bound 262144 row a.requires a.loop-u.u))
 
   abbrev next : Sx w32
-  next = so_far ⊞ loc (get_or row a.loop.u (pos 0)) 262144 (a.before.pre a.loop.u)
+  next = so_far ⊞ loc (get_or row a.loop-u.u (pos 0)) 262144 (a.requires a.loop-u.u)
 
-loop_holds : tie.Need-loop-init invariant_loop decreases-loop
+loop-u-init : tie.Need-loop-u-init invariant-loop-u decreases-loop-u
 unfolding sum_z
-loop_holds c = (omega arith, refl)
+loop-u-init c = (omega arith, refl)
 
-mul-sum : tie.Need-overflow-mul-sum invariant_loop decreases-loop
-mul-sum c = omega arith
+offset_bounds-sums-u : tie.Need-offset_bounds-sums-u invariant-loop-u decreases-loop-u
+offset_bounds-sums-u c = omega arith
 
-array-copy-out-sum : tie.Need-array-copy-out-sum invariant_loop decreases-loop
-array-copy-out-sum c = omega arith
+bounds-sums-u : tie.Need-bounds-sums-u invariant-loop-u decreases-loop-u
+bounds-sums-u c = omega arith
 
-add-sum : tie.Need-overflow-add-sum invariant_loop decreases-loop
-add-sum c = let a = c.before.before in rw a.loop.invariant.1 (fits (next a) tt)
+overflow_add-sum : tie.Need-overflow_add-sum invariant-loop-u decreases-loop-u
+overflow_add-sum c = let a = c.before.before in rw a.loop-u.invariant.1 (fits (next a) tt)
 
-add-u : tie.Need-overflow-add-u invariant_loop decreases-loop
-add-u c = omega arith
+overflow_step-u : tie.Need-overflow_step-u invariant-loop-u decreases-loop-u
+overflow_step-u c = omega arith
 
-loop-less : tie.Need-loop-smaller invariant_loop decreases-loop
-loop-less c = omega arith
+loop-u-smaller : tie.Need-loop-u-smaller invariant-loop-u decreases-loop-u
+loop-u-smaller c = omega arith
 
-loop_again : tie.Need-loop-preserved invariant_loop decreases-loop
-loop_again c =
+loop-u-preserved : tie.Need-loop-u-preserved invariant-loop-u decreases-loop-u
+loop-u-preserved c =
     let a = c.before.before in
-    (omega arith, rw a.loop.invariant.1 (ap (of_z w32) (raw_is (next a) tt ∙ sym (sum-next (row a) a.loop.u))))
+    (omega arith, rw a.loop-u.invariant.1 (ap (of_z w32) (raw_is (next a) tt ∙ sym (sum-next (row a) a.loop-u.u))))
 
-returns : tie.Need-returns invariant_loop decreases-loop
+returns : tie.Need-returns invariant-loop-u decreases-loop-u
 returns c =
     let a = c.before in
-    rw a.loop.invariant.1 (back (so_far a) tt ∙ ap sum_z (take_all a.loop.u (row a) (omega (arith, eight a.before))))
+    rw a.loop-u.invariant.1 (back (so_far a) tt ∙ ap sum_z (take_all a.loop-u.u (row a) (omega (arith, eight a.before))))
 
 pub sum_of_spec : {M : Type 1} → statement M
-sum_of_spec = tie.close (tie.spec invariant_loop decreases-loop loop_holds mul-sum array-copy-out-sum add-sum add-u loop-less loop_again returns)
+sum_of_spec = tie.close (tie.spec invariant-loop-u decreases-loop-u loop-u-init offset_bounds-sums-u bounds-sums-u overflow_add-sum overflow_step-u loop-u-smaller loop-u-preserved returns)

@@ -11,44 +11,44 @@ use Rattle.numbers.proofs.EveryLaws.{test_done, test_more}
 use Rattle.inverse_quant.proofs.rows.block_fine.Statement.{statement}
 use Rattle.inverse_quant.proofs.rows.block_fine.Tie as tie
 
-abbrev invariant_loop : tie.invariant-loop
-invariant_loop b fine₀ v₀ fine v = (v ≤ 8) × (every (every level_fine) b ≡ (fine && every (every level_fine) (drop v b)))
+abbrev invariant-loop-v : tie.invariant-loop-v
+invariant-loop-v b fine₀ v₀ fine v = (v ≤ 8) × (every (every level_fine) b ≡ (fine && every (every level_fine) (drop v b)))
 
-abbrev decreases-loop : tie.decreases-loop
-decreases-loop b fine₀ v₀ fine v = 8 - v
+abbrev decreases-loop-v : tie.decreases-loop-v
+decreases-loop-v b fine₀ v₀ fine v = 8 - v
 
-loop_holds : tie.Need-loop-init invariant_loop decreases-loop
-loop_holds c = (omega arith, refl)
+loop-v-init : tie.Need-loop-v-init invariant-loop-v decreases-loop-v
+loop-v-init c = (omega arith, refl)
 
-mul-row : tie.Need-overflow-mul-row invariant_loop decreases-loop
-mul-row c = omega arith
+offset_bounds-qf-v : tie.Need-offset_bounds-qf-v invariant-loop-v decreases-loop-v
+offset_bounds-qf-v c = omega arith
 
-element-copy-out-row : tie.Need-element-copy-out-row invariant_loop decreases-loop
-element-copy-out-row c = omega arith
+bounds-qf-v : tie.Need-bounds-qf-v invariant-loop-v decreases-loop-v
+bounds-qf-v c = omega arith
 
-row-fine-requires : tie.Need-row-fine-requires invariant_loop decreases-loop
-row-fine-requires c κs = tt
+row_fine-levels-requires : tie.Need-row_fine-levels-requires invariant-loop-v decreases-loop-v
+row_fine-levels-requires c κs = tt
 
-add-v : tie.Need-overflow-add-v invariant_loop decreases-loop
-add-v c = omega arith
+overflow_step-v : tie.Need-overflow_step-v invariant-loop-v decreases-loop-v
+overflow_step-v c = omega arith
 
-loop-less : tie.Need-loop-smaller invariant_loop decreases-loop
-loop-less c = omega arith
+loop-v-smaller : tie.Need-loop-v-smaller invariant-loop-v decreases-loop-v
+loop-v-smaller c = omega arith
 
-loop_again : tie.Need-loop-preserved invariant_loop decreases-loop
-loop_again c =
+loop-v-preserved : tie.Need-loop-v-preserved invariant-loop-v decreases-loop-v
+loop-v-preserved c =
     let a = c.before.before.before in
     let s = a.before in (
       omega arith,
-      test_more (every level_fine) [] s.args.qf.now (every (every level_fine) s.args.qf.now) a.loop.v a.loop.fine c.row_fine.result (omega (arith, s.requires)) a.loop.invariant.1
-          c.row_fine.ensures,
+      test_more (every level_fine) [] s.args.qf.now (every (every level_fine) s.args.qf.now) a.loop-v.v a.loop-v.fine c.row_fine-levels.result (omega (arith, s.requires)) a.loop-v.invariant.1
+          c.row_fine-levels.ensures,
     )
 
-returns : tie.Need-returns invariant_loop decreases-loop
+returns : tie.Need-returns invariant-loop-v decreases-loop-v
 returns c =
     let a = c.before in
     let s = a.before in
-    test_done (every level_fine) [] s.args.qf.now (every (every level_fine) s.args.qf.now) a.loop.v a.loop.fine (omega (arith, s.requires)) a.loop.invariant.1
+    test_done (every level_fine) [] s.args.qf.now (every (every level_fine) s.args.qf.now) a.loop-v.v a.loop-v.fine (omega (arith, s.requires)) a.loop-v.invariant.1
 
 pub block_fine_spec : {M : Type 1} → statement M
-block_fine_spec = tie.close (tie.spec invariant_loop decreases-loop loop_holds mul-row element-copy-out-row row-fine-requires add-v loop-less loop_again returns)
+block_fine_spec = tie.close (tie.spec invariant-loop-v decreases-loop-v loop-v-init offset_bounds-qf-v bounds-qf-v row_fine-levels-requires overflow_step-v loop-v-smaller loop-v-preserved returns)

@@ -17,37 +17,37 @@ use Rattle.ranges.specs.Range.{depth_fine}
 use Rattle.inverse_quant.proofs.value.saturate_fprime.Statement.{statement}
 use Rattle.inverse_quant.proofs.value.saturate_fprime.Tie as tie
 
-depth-is-fine : (c : tie.After-value-limits) → depth_fine c.before.args.bits-per-pixel ≡ true
-depth-is-fine c = range_depth c.before.args.bits-per-pixel c.before.pre.0 c.before.pre.1
+depth-is-fine : (c : tie.After-value_limits-limits) → depth_fine c.args.bits_per_pixel ≡ true
+depth-is-fine c = range_depth c.args.bits_per_pixel c.requires.0 c.requires.1
 
-value-limits-requires : tie.Need-value-limits-requires
-value-limits-requires c κs = search rules
+value_limits-limits-requires : tie.Need-value_limits-limits-requires
+value_limits-limits-requires c κs = search rules
 
-enum_told : tie.Need-enum-told
-enum_told c = search rules
+enum_told-1 : tie.Need-enum_told-1
+enum_told-1 c = search rules
 
-enum-known-limits : tie.Need-enum-known-limits
-enum-known-limits c = search rules
+enum_known-limits : tie.Need-enum_known-limits
+enum_known-limits c = search rules
 
 clamp-requires : tie.Need-clamp-requires
 clamp-requires c κs = search rules
 
-returns : tie.Need-returns
-returns c =
-    let l = c.before.before in
-    absurd (values_never l.before.args.bits-per-pixel _ (depth-is-fine l) l.value-limits.ensures c.enum_told.given.1)
+returns-in-OutOfRange : tie.Need-returns-in-OutOfRange
+returns-in-OutOfRange c =
+    let l = c.before in
+    absurd (values_never l.args.bits_per_pixel _ (depth-is-fine l) l.value_limits-limits.ensures c.in-OutOfRange.is)
 
-returns_2 : tie.Need-returns-2
-returns_2 c =
-    let l = c.before.before.before.before in
+returns-in-Are : tie.Need-returns-in-Are
+returns-in-Are c =
+    let l = c.before.before in
     let s = l.before in
-    let b = s.args.bits-per-pixel + 3 in
-    let g = c.before.before.limits.given in
-    let e = values-are s.args.bits-per-pixel _ (depth-is-fine l) l.value-limits.ensures g.0.0 g.0.1.0 g.1 in
-    held c.clamp.result c.clamp.ok ∙ c.clamp.ensures
-    ∙ (λ i. clamp_z (to_z-of_z s.fits.value i) ((ap (λ (z : ℤ). to_z w32 (of_z w32 z)) e.0 ∙ low_back b (omega arith)) i) ((ap (λ (z : ℤ). to_z w32 (of_z w32 z)) e.1 ∙ high_back b (omega arith)) i))
+    let b = s.args.bits_per_pixel + 3 in
+    let g = c.in-Are in
+    let e = values-are s.args.bits_per_pixel _ (depth-is-fine l) l.value_limits-limits.ensures g.lo g.hi g.is in
+    held c.clamp.result c.clamp.type_inv ∙ c.clamp.ensures
+    ∙ (λ i. clamp_z (to_z-of_z s.ranges.value i) ((ap (λ (z : ℤ). to_z w32 (of_z w32 z)) e.0 ∙ low_back b (omega arith)) i) ((ap (λ (z : ℤ). to_z w32 (of_z w32 z)) e.1 ∙ high_back b (omega arith)) i))
 
 pub saturate_fprime_spec : {M : Type 1} → statement M
 saturate_fprime_spec =
     tie.close
-    (tie.spec value-limits-requires enum_told enum-known-limits clamp-requires returns returns_2)
+    (tie.spec value_limits-limits-requires enum_told-1 enum_known-limits clamp-requires returns-in-OutOfRange returns-in-Are)

@@ -23,35 +23,35 @@ opposite s = lit (pos 0) ⊟ number s
 signed : (s : tie.Start) (t : ℤ) → t ≡ signum s.args.level → t *ℤ s.args.n ≡ signum s.args.level *ℤ s.args.n
 signed s t e = ap (λ (x : ℤ). x *ℤ s.args.n) e
 
-sub-result : tie.Need-overflow-sub-result
-sub-result c = fits (opposite c.before) tt
+overflow_sub-result : tie.Need-overflow_sub-result
+overflow_sub-result c = fits (opposite c.before) tt
 
-returns : tie.Need-returns
-returns c =
+returns-then-level-lt0 : tie.Need-returns-then-level-lt0
+returns-then-level-lt0 c =
     let s = c.before in
     let a = s.args in (
       back (opposite s) tt ∙ ring (nat 0 ⊝ var a.n) (var (negsuc 0) ⊗ var a.n) (omega arith)
-          ∙ signed s (negsuc 0) (sign_below a.level (lt-true a.level (pos 0) (test_lt (level s) (lit (pos 0)) tt tt c.if1.true))),
+          ∙ signed s (negsuc 0) (sign_below a.level (lt-true a.level (pos 0) (test_lt (level s) (lit (pos 0)) tt tt c.if-level-lt0.true))),
       rw (back (opposite s) tt) (within (opposite s)),
     )
 
-returns_2 : tie.Need-returns-2
-returns_2 c =
+returns-then-level-eq0 : tie.Need-returns-then-level-eq0
+returns-then-level-eq0 c =
     let s = c.before.before in
     let a = s.args in (
-      ring (nat 0) (nat 0 ⊗ var a.n) (omega arith) ∙ signed s (pos 0) (sym (ap signum (test_eq (level s) (lit (pos 0)) tt tt c.if2.true))),
+      ring (nat 0) (nat 0 ⊗ var a.n) (omega arith) ∙ signed s (pos 0) (sym (ap signum (test_eq (level s) (lit (pos 0)) tt tt c.if-level-eq0.true))),
       omega arith,
     )
 
-returns_3 : tie.Need-returns-3
-returns_3 c =
+returns : tie.Need-returns
+returns c =
     let s = c.before.before in
     let a = s.args in (
       back (number s) tt ∙ ring (var a.n) (nat 1 ⊗ var a.n) (omega arith)
           ∙ signed s (pos 1)
-          (sign_above a.level (lt-false a.level (pos 0) (test_lt (level s) (lit (pos 0)) tt tt c.before.if1.false)) (test_ne (level s) (lit (pos 0)) tt tt c.if2.false)),
+          (sign_above a.level (lt-false a.level (pos 0) (test_lt (level s) (lit (pos 0)) tt tt c.if-level-lt0.false)) (test_ne (level s) (lit (pos 0)) tt tt c.if-level-eq0.false)),
       rw (back (number s) tt) s.requires,
     )
 
 pub signed_as_spec : {M : Type 1} → statement M
-signed_as_spec = tie.close (tie.spec sub-result returns returns_2 returns_3)
+signed_as_spec = tie.close (tie.spec overflow_sub-result returns-then-level-lt0 returns-then-level-eq0 returns)

@@ -7,29 +7,29 @@ use Rattle.macroblock.proofs.StateLaws.{room_after, room_bad}
 use Rattle.macroblock.proofs.decode.check_room.Statement.{statement}
 use Rattle.macroblock.proofs.decode.check_room.Tie as tie
 
-check-requires : tie.Need-check-requires
-check-requires c κs = search rules
+check-checked-requires : tie.Need-check-checked-requires
+check-checked-requires c κs = search rules
 
-enum-known-checked : tie.Need-enum-known-checked
-enum-known-checked c = search rules
+enum_known-checked : tie.Need-enum_known-checked
+enum_known-checked c = search rules
 
-enum_told : tie.Need-enum-told
-enum_told c = search rules
+enum_told-1 : tie.Need-enum_told-1
+enum_told-1 c = search rules
 
-returns : tie.Need-returns
-returns c =
-    let a = c.before.before.before.before.before.args in
-    sym (room_after a.«data».now a.c.bit_pos a.ctx a.predictors a.w a.room false (sym c.before.before.before.check.ensures.0 ∙ c.before.enum_told.given.1) (lt-leb 384 a.room c.if1.true))
+returns-then-room-lt-SAMPLES : tie.Need-returns-then-room-lt-SAMPLES
+returns-then-room-lt-SAMPLES c =
+    let a = c.args in
+    sym (room_after a.«data».now a.c.bit_pos a.ctx a.predictors a.w a.room false (sym c.check-checked.ensures.0 ∙ c.in-Fine.is) (lt-leb 384 a.room c.if-room-lt-SAMPLES.true))
 
-returns_2 : tie.Need-returns-2
-returns_2 c =
-    let a = c.before.before.before.before.before.args in
-    sym (room_bad a.«data».now a.c.bit_pos a.ctx a.predictors a.w a.room (sym c.before.before.before.check.ensures.0 ∙ c.before.checked.given.1))
+returns-in-Bad : tie.Need-returns-in-Bad
+returns-in-Bad c =
+    let a = c.args in
+    sym (room_bad a.«data».now a.c.bit_pos a.ctx a.predictors a.w a.room (sym c.check-checked.ensures.0 ∙ c.in-Bad.is))
 
-returns_3 : tie.Need-returns-3
-returns_3 c =
-    let a = c.before.before.before.before.before.args in
-    sym (room_after a.«data».now a.c.bit_pos a.ctx a.predictors a.w a.room true (sym c.before.before.before.check.ensures.0 ∙ c.before.enum_told.given.1) (le-leb 384 a.room c.if1.false))
+returns-else-room-lt-SAMPLES : tie.Need-returns-else-room-lt-SAMPLES
+returns-else-room-lt-SAMPLES c =
+    let a = c.args in
+    sym (room_after a.«data».now a.c.bit_pos a.ctx a.predictors a.w a.room true (sym c.check-checked.ensures.0 ∙ c.in-Fine.is) (le-leb 384 a.room c.if-room-lt-SAMPLES.false))
 
 pub check_room_spec : {M : Type 1} → statement M
-check_room_spec = tie.close (tie.spec check-requires enum-known-checked enum_told returns returns_2 returns_3)
+check_room_spec = tie.close (tie.spec check-checked-requires enum_known-checked enum_told-1 returns-then-room-lt-SAMPLES returns-in-Bad returns-else-room-lt-SAMPLES)

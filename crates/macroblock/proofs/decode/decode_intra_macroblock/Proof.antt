@@ -9,45 +9,45 @@ use Rattle.macroblock.proofs.decode.decode_intra_macroblock.Statement.{statement
 use Rattle.macroblock.proofs.decode.decode_intra_macroblock.Tie as tie
 
 -- the state is fine
-fine : (k : tie.After-enum-told) → let a = k.before.before.before.before.args in
-    state_of a.«data».now a.c.bit_pos a.header a.ctx a.predictors a.quant-matrix (length a.samples.now) ≡ Fine
-fine k = sym k.before.before.check-state.ensures ∙ k.enum_told.given.1
+fine : (k : tie.In-Fine) → let a = k.args in
+    state_of a.«data».now a.c.bit_pos a.header a.ctx a.predictors a.quant_matrix (length a.samples.now) ≡ Fine
+fine k = sym k.check_state-checked.ensures ∙ k.in-Fine.is
 
-check-state-requires : tie.Need-check-state-requires
-check-state-requires c κs = search rules
+check_state-checked-requires : tie.Need-check_state-checked-requires
+check_state-checked-requires c κs = search rules
 
-enum-known-checked : tie.Need-enum-known-checked
-enum-known-checked c = search rules
+enum_known-checked : tie.Need-enum_known-checked
+enum_known-checked c = search rules
 
-enum_told : tie.Need-enum-told
-enum_told c = search rules
+enum_told-1 : tie.Need-enum_told-1
+enum_told-1 c = search rules
 
-decode-checked-requires : tie.Need-decode-checked-requires
-decode-checked-requires c κs = fine c.before
+decode_checked-requires : tie.Need-decode_checked-requires
+decode_checked-requires c κs = fine c.before
 
-returns : tie.Need-returns
-returns c =
-    let a = c.before.before.before.before.before.args in
-    refused a.«data».now a.c.bit_pos a.header a.use-intra-dc-vlc a.reversible-vlc a.ctx a.predictors a.quant-matrix a.samples.now (sym c.before.before.before.check-state.ensures ∙ c.before.checked.given.1)
+returns-in-Bad : tie.Need-returns-in-Bad
+returns-in-Bad c =
+    let a = c.args in
+    refused a.«data».now a.c.bit_pos a.header a.use_intra_dc_vlc a.reversible_vlc a.ctx a.predictors a.quant_matrix a.samples.now (sym c.check_state-checked.ensures ∙ c.in-Bad.is)
 
-same_length : tie.Need-same-length
-same_length c = search rules
+shape_of-samples : tie.Need-shape_of-samples
+shape_of-samples c = search rules
 
-returns_2 : tie.Need-returns-2
-returns_2 c =
+returns-in-Fine : tie.Need-returns-in-Fine
+returns-in-Fine c =
     let k = c.before.before.before in
-    let a = k.before.before.before.before.args in
-    let r = c.before.decode-checked in
-    whole a.«data».now a.c.bit_pos a.header a.use-intra-dc-vlc a.reversible-vlc a.ctx a.predictors a.quant-matrix a.samples.now (fine k) _ _ r.ensures.0 r.ensures.1
+    let a = k.args in
+    let r = c.decode_checked in
+    whole a.«data».now a.c.bit_pos a.header a.use_intra_dc_vlc a.reversible_vlc a.ctx a.predictors a.quant_matrix a.samples.now (fine k) _ _ r.ensures.0 r.ensures.1
 
 pub decode_intra_macroblock_spec : {M : Type 1} → statement M
 decode_intra_macroblock_spec =
     tie.close
     (tie.spec
-    check-state-requires
-    enum-known-checked
-    enum_told
-    decode-checked-requires
-    returns
-    same_length
-    returns_2)
+    check_state-checked-requires
+    enum_known-checked
+    enum_told-1
+    decode_checked-requires
+    returns-in-Bad
+    shape_of-samples
+    returns-in-Fine)

@@ -38,82 +38,82 @@ long_enough : {r : BlockWritten} → r ≡ Done → r ≡ TooShort → ⊥
 long_enough u t = let z : ◌≡◌ {A = ℕ} 0 1 = cc in absurd (omega arith)
 
 -- there is room for it
-done : (w : tie.After-write-one) → w.write-one.result ≡ Done
+done : (w : tie.After-write_one-put) → w.write_one-put.result ≡ Done
 done w =
-    let s = w.before.before.before.before.before.before.before in
-    w.write-one.ensures.0.0 ∙ block-is-written s.args.i s.args.samples.now s.requires.0 s.requires.1
+    let s = w.before.before.before.before.before.before in
+    w.write_one-put.ensures.0.0 ∙ block-is-written s.args.i s.args.samples.now s.requires.0 s.requires.1
 
-reconstruct-up-to-requires : tie.Need-reconstruct-up-to-requires
-reconstruct-up-to-requires c κs = search rules
+reconstruct_up_to-one-requires : tie.Need-reconstruct_up_to-one-requires
+reconstruct_up_to-one-requires c κs = search rules
 
-enum-known-one : tie.Need-enum-known-one
-enum-known-one c = search rules
+enum_known-one : tie.Need-enum_known-one
+enum_known-one c = search rules
 
-enum_told : tie.Need-enum-told
-enum_told c = search rules
+enum_told-1 : tie.Need-enum_told-1
+enum_told-1 c = search rules
 
-write-one-requires : tie.Need-write-one-requires
-write-one-requires c κs = search rules
+write_one-put-requires : tie.Need-write_one-put-requires
+write_one-put-requires c κs = search rules
 
-enum-told-2 : tie.Need-enum-told-2
-enum-told-2 c = search rules
+enum_told-in-OutOfRange : tie.Need-enum_told-in-OutOfRange
+enum_told-in-OutOfRange c = search rules
 
-enum-told-3 : tie.Need-enum-told-3
-enum-told-3 c = search rules
+enum_told-in-TooShort : tie.Need-enum_told-in-TooShort
+enum_told-in-TooShort c = search rules
 
-enum-told-4 : tie.Need-enum-told-4
-enum-told-4 c = search rules
+enum_told-in-Done : tie.Need-enum_told-in-Done
+enum_told-in-Done c = search rules
 
-returns : tie.Need-returns
-returns c =
-    let b = c.before.before.before in
+returns-in-Refused : tie.Need-returns-in-Refused
+returns-in-Refused c =
+    let b = c.before in
     let s = b.before.before.before in
     let a = s.args in
     let dc = dc_here (component_at a.i) a.ctx (numbered a.n.now) a.w (up_to a.end a.qfs.now) in
-    let t = c.before.one.given.1 in
-    let u : b.reconstruct-up-to.result ≡ Rebuilt dc = b.reconstruct-up-to.ensures.0 ∙ ap (λ (k : Checked). rebuilt_by k dc) (passed s) in
+    let t = c.in-Refused.is in
+    let u : b.reconstruct_up_to-one.result ≡ Rebuilt dc = b.reconstruct_up_to-one.ensures.0 ∙ ap (λ (k : Checked). rebuilt_by k dc) (passed s) in
     let z : ◌≡◌ {A = ℕ} 0 1 = cc in
     absurd (omega arith)
 
-same_length : tie.Need-same-length
-same_length c = search rules
+shape_of-samples-in-OutOfRange : tie.Need-shape_of-samples-in-OutOfRange
+shape_of-samples-in-OutOfRange c = search rules
 
-returns_2 : tie.Need-returns-2
-returns_2 c = absurd (in_range (done c.before.before.before) c.enum-told2.given.1)
+returns-in-OutOfRange : tie.Need-returns-in-OutOfRange
+returns-in-OutOfRange c = absurd (in_range (done c.before.before) c.in-OutOfRange.is)
 
-same-length-2 : tie.Need-same-length-2
-same-length-2 c = search rules
+shape_of-samples-in-TooShort : tie.Need-shape_of-samples-in-TooShort
+shape_of-samples-in-TooShort c = search rules
 
-returns_3 : tie.Need-returns-3
-returns_3 c = absurd (long_enough (done c.before.before.before) c.enum-told3.given.1)
+returns-in-TooShort : tie.Need-returns-in-TooShort
+returns-in-TooShort c = absurd (long_enough (done c.before.before) c.in-TooShort.is)
 
-same-length-3 : tie.Need-same-length-3
-same-length-3 c = search rules
+shape_of-samples-in-Done : tie.Need-shape_of-samples-in-Done
+shape_of-samples-in-Done c = search rules
 
-returns_4 : tie.Need-returns-4
-returns_4 c =
-    let w = c.before.before.before in
-    let b = w.before.before.before.before in
+returns-in-Done : tie.Need-returns-in-Done
+returns-in-Done c =
+    let w = c.before.before in
+    let b = w.before.before.before in
     let s = b.before.before.before in
     let a = s.args in
     let samples : List ℤ → List (List ℤ) = λ qfs. samples_of a.ctx (values_here (component_at a.i) a.ctx (numbered a.n.now) a.w qfs) in
-    (refl, w.write-one.ensures.0.1 ∙ ap (λ (y : List (List ℤ)). block_after a.i y a.samples.now) (b.reconstruct-up-to.ensures.1.0 ∙ kept_fine _ _ (passed s) ∙ ap samples s.requires.5))
+    (refl, w.write_one-put.ensures.0.1 ∙ ap (λ (y : List (List ℤ)). block_after a.i y a.samples.now) (b.reconstruct_up_to-one.ensures.1.0 ∙ kept_fine _ _ (passed s) ∙ ap samples s.requires.5))
 
 pub block_into_spec : {M : Type 1} → statement M
 block_into_spec =
     tie.close
     (tie.spec
-    reconstruct-up-to-requires
-    enum-known-one
-    enum_told
-    write-one-requires
-    enum-told-2
-    enum-told-3
-    enum-told-4
-    returns
-    same_length
-    returns_2
-    same-length-2
-    returns_3
-    same-length-3
-    returns_4)
+    reconstruct_up_to-one-requires
+    enum_known-one
+    enum_told-1
+    write_one-put-requires
+    enum_told-in-OutOfRange
+    enum_told-in-TooShort
+    enum_told-in-Done
+    returns-in-Refused
+    shape_of-samples-in-OutOfRange
+    returns-in-OutOfRange
+    shape_of-samples-in-TooShort
+    returns-in-TooShort
+    shape_of-samples-in-Done
+    returns-in-Done)

@@ -12,80 +12,80 @@ use Rattle.macroblock.specs.Six.{samples_of_six, values_of_six}
 use Rattle.macroblock.proofs.six.samples_of_six.Statement.{statement}
 use Rattle.macroblock.proofs.six.samples_of_six.Tie as tie
 
-abbrev invariant_loop : tie.invariant-loop
-invariant_loop rows ctx n w samples₀ ends i₀ samples i =
+abbrev invariant-loop-i : tie.invariant-loop-i
+invariant-loop-i rows ctx n w samples₀ ends i₀ samples i =
     (i ≤ 6) × (length samples ≡ length samples₀) × (samples ≡ blocks_after i (samples_of_six ctx (values_of_six ctx (numbered n) w rows)) samples₀)
 
-abbrev decreases-loop : tie.decreases-loop
-decreases-loop rows ctx n w samples₀ ends i₀ samples i = 6 - i
+abbrev decreases-loop-i : tie.decreases-loop-i
+decreases-loop-i rows ctx n w samples₀ ends i₀ samples i = 6 - i
 
-loop_holds : tie.Need-loop-init invariant_loop decreases-loop
-loop_holds c = (omega arith, refl, sym (turn-none _ _))
+loop-i-init : tie.Need-loop-i-init invariant-loop-i decreases-loop-i
+loop-i-init c = (omega arith, refl, sym (turn-none _ _))
 
-mul-block-into : tie.Need-overflow-mul-block-into invariant_loop decreases-loop
-mul-block-into c = omega arith
+offset_bounds-rows-i : tie.Need-offset_bounds-rows-i invariant-loop-i decreases-loop-i
+offset_bounds-rows-i c = omega arith
 
-index-1-block-into : tie.Need-bounds-1-block-into invariant_loop decreases-loop
-index-1-block-into c = omega arith
+bounds-rows-i : tie.Need-bounds-rows-i invariant-loop-i decreases-loop-i
+bounds-rows-i c = omega arith
 
-mul-block-into-2 : tie.Need-overflow-mul-block-into-2 invariant_loop decreases-loop
-mul-block-into-2 c = omega arith
+offset_bounds-ends-i : tie.Need-offset_bounds-ends-i invariant-loop-i decreases-loop-i
+offset_bounds-ends-i c = omega arith
 
-array-read-block-into : tie.Need-array-read-block-into invariant_loop decreases-loop
-array-read-block-into c = omega arith
+bounds-ends-i : tie.Need-bounds-ends-i invariant-loop-i decreases-loop-i
+bounds-ends-i c = omega arith
 
-block-into-requires : tie.Need-block-into-requires invariant_loop decreases-loop
-block-into-requires c κs =
+block_into-one-requires : tie.Need-block_into-one-requires invariant-loop-i decreases-loop-i
+block_into-one-requires c κs =
     let g = c.before.before.before in
-    let l = g.before.loop in
+    let l = g.loop in
     let t = g.loop-test.true in
     let s = g.before.before in
     let p = s.requires in
     let row = p.4 l.i t in
-    (t, omega (arith, p.0, l.invariant.1), p.1, p.2, row.0, all_below_end s.args.rows.now s.args.t2 l.i p.3 row.1)
+    (t, omega (arith, p.0, l.invariant.1), p.1, p.2, row.0, all_below_end s.args.rows.now s.args.ends l.i p.3 row.1)
 
-enum-known-one : tie.Need-enum-known-one invariant_loop decreases-loop
-enum-known-one c = search rules
+enum_known-one : tie.Need-enum_known-one invariant-loop-i decreases-loop-i
+enum_known-one c = search rules
 
-same_length : tie.Need-same-length invariant_loop decreases-loop
-same_length c = search rules
+shape_of-samples-in-Bad : tie.Need-shape_of-samples-in-Bad invariant-loop-i decreases-loop-i
+shape_of-samples-in-Bad c = search rules
 
-returns : tie.Need-returns invariant_loop decreases-loop
-returns c =
-    let t = c.before.one.given.1 in
-    let u = c.before.before.before.before.block-into.ensures.0 in
+returns-in-Bad : tie.Need-returns-in-Bad invariant-loop-i decreases-loop-i
+returns-in-Bad c =
+    let t = c.in-Bad.is in
+    let u = c.block_into-one.ensures.0 in
     let z : ◌≡◌ {A = ℕ} 0 1 = cc in
     absurd (omega arith)
 
-enum_told : tie.Need-enum-told invariant_loop decreases-loop
-enum_told c = search rules
+enum_told-1 : tie.Need-enum_told-1 invariant-loop-i decreases-loop-i
+enum_told-1 c = search rules
 
-add-i : tie.Need-overflow-add-i invariant_loop decreases-loop
-add-i c = omega arith
+overflow_step-i : tie.Need-overflow_step-i invariant-loop-i decreases-loop-i
+overflow_step-i c = omega arith
 
-loop-less : tie.Need-loop-smaller invariant_loop decreases-loop
-loop-less c = omega arith
+loop-i-smaller : tie.Need-loop-i-smaller invariant-loop-i decreases-loop-i
+loop-i-smaller c = omega arith
 
-loop_again : tie.Need-loop-preserved invariant_loop decreases-loop
-loop_again c =
-    let b = c.before.before.before in
+loop-i-preserved : tie.Need-loop-i-preserved invariant-loop-i decreases-loop-i
+loop-i-preserved c =
+    let b = c.before.before in
     let g = b.before.before.before.before in
-    let l = g.before.loop in
+    let l = g.loop in
     let t = g.loop-test.true in
     let s = g.before.before in
     let a = s.args in
-    let e = b.block-into.ensures.1 in (
+    let e = b.block_into-one.ensures.1 in (
       omega arith,
       ap length e ∙ block-length l.i _ l.samples ∙ l.invariant.1,
       e ∙ one_more_lem a.ctx (numbered a.n.now) a.w a.rows.now l.i a.samples.now l.samples s.requires.0 l.invariant.2 t,
     )
 
-same-length-2 : tie.Need-same-length-2 invariant_loop decreases-loop
-same-length-2 c = c.before.loop.invariant.1
+shape_of-samples : tie.Need-shape_of-samples invariant-loop-i decreases-loop-i
+shape_of-samples c = c.loop-i.invariant.1
 
-returns_2 : tie.Need-returns-2 invariant_loop decreases-loop
-returns_2 c =
-    let l = c.before.loop in
+returns : tie.Need-returns invariant-loop-i decreases-loop-i
+returns c =
+    let l = c.loop-i in
     let s = c.before.before in
     let a = s.args in
     (refl, all_six a.ctx (numbered a.n.now) a.w a.rows.now l.i a.samples.now l.samples s.requires.0 l.invariant.2 (omega arith))
@@ -94,20 +94,20 @@ pub samples_of_six_spec : {M : Type 1} → statement M
 samples_of_six_spec =
     tie.close
     (tie.spec
-    invariant_loop
-    decreases-loop
-    loop_holds
-    mul-block-into
-    index-1-block-into
-    mul-block-into-2
-    array-read-block-into
-    block-into-requires
-    enum-known-one
-    same_length
-    returns
-    enum_told
-    add-i
-    loop-less
-    loop_again
-    same-length-2
-    returns_2)
+    invariant-loop-i
+    decreases-loop-i
+    loop-i-init
+    offset_bounds-rows-i
+    bounds-rows-i
+    offset_bounds-ends-i
+    bounds-ends-i
+    block_into-one-requires
+    enum_known-one
+    shape_of-samples-in-Bad
+    returns-in-Bad
+    enum_told-1
+    overflow_step-i
+    loop-i-smaller
+    loop-i-preserved
+    shape_of-samples
+    returns)

@@ -12,108 +12,108 @@ use Rattle.macroblock.proofs.whole.decode_after.Statement.{statement}
 use Rattle.macroblock.proofs.whole.decode_after.Tie as tie
 
 -- the state behind the header
-behind : (x : tie.After-context-with) → let a = x.before.before.before.args in state_of a.«data».now a.next.bit_pos a.fields.header x.context-with.result a.predictors a.w (length a.samples.now) ≡ Fine
+behind : (x : tie.After-context_with-x) → let a = x.args in state_of a.«data».now a.next.bit_pos a.fields.header x.context_with-x.result a.predictors a.w (length a.samples.now) ≡ Fine
 behind x =
     let s = x.before.before.before in
     let a = s.args in
-    behind-fine a.«data».now a.c.bit_pos a.use-intra-dc-vlc a.reversible-vlc a.ctx a.predictors a.w a.samples.now s.requires.0 a.fields a.next s.requires.1 _ x.context-with.ensures
+    behind-fine a.«data».now a.c.bit_pos a.use_intra_dc_vlc a.reversible_vlc a.ctx a.predictors a.w a.samples.now s.requires.0 a.fields a.next s.requires.1 _ x.context_with-x.ensures
 
-context-with-requires : tie.Need-context-with-requires
-context-with-requires c κs = search rules
+context_with-x-requires : tie.Need-context_with-x-requires
+context_with-x-requires c κs = search rules
 
-pattern-code-requires : tie.Need-pattern-code-requires
-pattern-code-requires c κs = search rules
+pattern_code-pattern-requires : tie.Need-pattern_code-pattern-requires
+pattern_code-pattern-requires c κs = search rules
 
-read-six-requires : tie.Need-read-six-requires
-read-six-requires c κs = search rules
+read_six-answer-requires : tie.Need-read_six-answer-requires
+read_six-answer-requires c κs = search rules
 
-enum-known-answer : tie.Need-enum-known-answer
-enum-known-answer c = search rules
+enum_known-answer : tie.Need-enum_known-answer
+enum_known-answer c = search rules
 
-enum-known-answer-2 : tie.Need-enum-known-answer-2
-enum-known-answer-2 c = search rules
+enum_known-answer-in-Read-1 : tie.Need-enum_known-answer-in-Read-1
+enum_known-answer-in-Read-1 c = search rules
 
 needed-requires : tie.Need-needed-requires
 needed-requires c κs = search rules
 
-samples-of-six-requires : tie.Need-samples-of-six-requires
-samples-of-six-requires c κs =
+samples_of_six-rebuilt-requires : tie.Need-samples_of_six-rebuilt-requires
+samples_of_six-rebuilt-requires c κs =
     let m = c.before.before.before in
     let k = m.before.before in
-    let b = k.before.before.before in
+    let b = k.before in
     let x = b.before.before.before.before in
-    let a = x.before.before.before.args in
-    six_ready a.«data».now a.next.bit_pos a.fields.header a.use-intra-dc-vlc a.reversible-vlc _ a.predictors a.w a.samples.now (behind x) _ b.before.before.before.pattern-code.ensures _ b.read-six.ensures.0 _ _ b.read-six.ensures.1.0 _ _ k.before.answer2.given.1 _ m.needed.ensures _ b.read-six.ensures.1.1.0
+    let a = x.args in
+    six_ready a.«data».now a.next.bit_pos a.fields.header a.use_intra_dc_vlc a.reversible_vlc _ a.predictors a.w a.samples.now (behind x) _ b.pattern_code-pattern.ensures _ b.read_six-answer.ensures.0 _ _ b.read_six-answer.ensures.1.0 _ _ k.in-Read.is _ m.needed.ensures _ b.read_six-answer.ensures.1.1.0
 
-enum-known-rebuilt : tie.Need-enum-known-rebuilt
-enum-known-rebuilt c = search rules
+enum_known-rebuilt : tie.Need-enum_known-rebuilt
+enum_known-rebuilt c = search rules
 
-enum_told : tie.Need-enum-told
-enum_told c = search rules
+enum_told-1 : tie.Need-enum_told-1
+enum_told-1 c = search rules
 
-sub-bits : tie.Need-overflow-sub-bits
-sub-bits c =
-    let k = c.before.before.before.before.before.before.before.before.before.before.before in
-    let b = k.before.before.before in
-    let x = b.before.before.before.before in
-    let s = x.before.before.before in
-    let a = s.args in
-    then_forward a.«data».now a.c.bit_pos a.use-intra-dc-vlc a.reversible-vlc a.ctx a.predictors a.w a.samples.now s.requires.0 a.fields a.next s.requires.1 _ x.context-with.ensures _ (told-read a.«data».now a.next.bit_pos a.fields.header a.use-intra-dc-vlc a.reversible-vlc _ a.predictors a.w a.samples.now (behind x) _ b.before.before.before.pattern-code.ensures _ b.read-six.ensures.0 _ _ b.read-six.ensures.1.0 _ _ k.before.answer2.given.1) refl
-
-returns : tie.Need-returns
-returns c =
-    let b = c.before.before.before in
+overflow_sub-bits : tie.Need-overflow_sub-bits
+overflow_sub-bits c =
+    let k = c.before.before.before.before.before.before.before.before.before.before in
+    let b = k.before in
     let x = b.before.before.before.before in
     let s = x.before.before.before in
     let a = s.args in
-    let t = unread a.«data».now a.next.bit_pos a.fields.header a.use-intra-dc-vlc a.reversible-vlc _ a.predictors a.w a.samples.now (behind x) _ b.before.before.before.pattern-code.ensures _ b.read-six.ensures.0 c.before.answer.given.1 in (
-      then_refused a.«data».now a.c.bit_pos a.use-intra-dc-vlc a.reversible-vlc a.ctx a.predictors a.w a.samples.now s.requires.0 a.fields a.next s.requires.1 _ x.context-with.ensures _ t.0 refl,
-      then_samples a.«data».now a.c.bit_pos a.use-intra-dc-vlc a.reversible-vlc a.ctx a.predictors a.w a.samples.now s.requires.0 a.fields a.next s.requires.1 _ x.context-with.ensures _ t.1,
+    then_forward a.«data».now a.c.bit_pos a.use_intra_dc_vlc a.reversible_vlc a.ctx a.predictors a.w a.samples.now s.requires.0 a.fields a.next s.requires.1 _ x.context_with-x.ensures _ (told-read a.«data».now a.next.bit_pos a.fields.header a.use_intra_dc_vlc a.reversible_vlc _ a.predictors a.w a.samples.now (behind x) _ b.pattern_code-pattern.ensures _ b.read_six-answer.ensures.0 _ _ b.read_six-answer.ensures.1.0 _ _ k.in-Read.is) refl
+
+returns-in-Refused : tie.Need-returns-in-Refused
+returns-in-Refused c =
+    let b = c.before in
+    let x = b.before.before.before.before in
+    let s = x.before.before.before in
+    let a = s.args in
+    let t = unread a.«data».now a.next.bit_pos a.fields.header a.use_intra_dc_vlc a.reversible_vlc _ a.predictors a.w a.samples.now (behind x) _ b.pattern_code-pattern.ensures _ b.read_six-answer.ensures.0 c.in-Refused.is in (
+      then_refused a.«data».now a.c.bit_pos a.use_intra_dc_vlc a.reversible_vlc a.ctx a.predictors a.w a.samples.now s.requires.0 a.fields a.next s.requires.1 _ x.context_with-x.ensures _ t.0 refl,
+      then_samples a.«data».now a.c.bit_pos a.use_intra_dc_vlc a.reversible_vlc a.ctx a.predictors a.w a.samples.now s.requires.0 a.fields a.next s.requires.1 _ x.context_with-x.ensures _ t.1,
     )
 
-same_length : tie.Need-same-length
-same_length c = search rules
+shape_of-samples-in-Bad : tie.Need-shape_of-samples-in-Bad
+shape_of-samples-in-Bad c = search rules
 
-returns_2 : tie.Need-returns-2
-returns_2 c =
-    let t = c.before.rebuilt.given.1 in
-    let u = c.before.before.before.before.samples-of-six.ensures.0 in
+returns-in-Bad : tie.Need-returns-in-Bad
+returns-in-Bad c =
+    let t = c.in-Bad.is in
+    let u = c.samples_of_six-rebuilt.ensures.0 in
     let z : ◌≡◌ {A = ℕ} 0 1 = cc in
     absurd (omega arith)
 
-same-length-2 : tie.Need-same-length-2
-same-length-2 c = search rules
+shape_of-samples-in-Fine : tie.Need-shape_of-samples-in-Fine
+shape_of-samples-in-Fine c = search rules
 
-returns_3 : tie.Need-returns-3
-returns_3 c =
-    let g = c.before.before.before.before.before in
+returns-in-Fine : tie.Need-returns-in-Fine
+returns-in-Fine c =
+    let g = c.before.before.before.before in
     let m = g.before.before.before.before in
     let k = m.before.before in
-    let b = k.before.before.before in
+    let b = k.before in
     let x = b.before.before.before.before in
     let s = x.before.before.before in
     let a = s.args in
-    let t = decoded a.«data».now a.next.bit_pos a.fields.header a.use-intra-dc-vlc a.reversible-vlc _ a.predictors a.w a.samples.now (behind x) _ b.before.before.before.pattern-code.ensures _ b.read-six.ensures.0 _ _ b.read-six.ensures.1.0 _ _ k.before.answer2.given.1 _ m.needed.ensures _ g.samples-of-six.ensures.1 in (
-      then_decoded a.«data».now a.c.bit_pos a.use-intra-dc-vlc a.reversible-vlc a.ctx a.predictors a.w a.samples.now s.requires.0 a.fields a.next s.requires.1 _ x.context-with.ensures _ t.0 refl,
-      then_samples a.«data».now a.c.bit_pos a.use-intra-dc-vlc a.reversible-vlc a.ctx a.predictors a.w a.samples.now s.requires.0 a.fields a.next s.requires.1 _ x.context-with.ensures _ t.1,
+    let t = decoded a.«data».now a.next.bit_pos a.fields.header a.use_intra_dc_vlc a.reversible_vlc _ a.predictors a.w a.samples.now (behind x) _ b.pattern_code-pattern.ensures _ b.read_six-answer.ensures.0 _ _ b.read_six-answer.ensures.1.0 _ _ k.in-Read.is _ m.needed.ensures _ g.samples_of_six-rebuilt.ensures.1 in (
+      then_decoded a.«data».now a.c.bit_pos a.use_intra_dc_vlc a.reversible_vlc a.ctx a.predictors a.w a.samples.now s.requires.0 a.fields a.next s.requires.1 _ x.context_with-x.ensures _ t.0 refl,
+      then_samples a.«data».now a.c.bit_pos a.use_intra_dc_vlc a.reversible_vlc a.ctx a.predictors a.w a.samples.now s.requires.0 a.fields a.next s.requires.1 _ x.context_with-x.ensures _ t.1,
     )
 
 pub decode_after_spec : {M : Type 1} → statement M
 decode_after_spec =
     tie.close
     (tie.spec
-    context-with-requires
-    pattern-code-requires
-    read-six-requires
-    enum-known-answer
-    enum-known-answer-2
+    context_with-x-requires
+    pattern_code-pattern-requires
+    read_six-answer-requires
+    enum_known-answer
+    enum_known-answer-in-Read-1
     needed-requires
-    samples-of-six-requires
-    enum-known-rebuilt
-    enum_told
-    sub-bits
-    returns
-    same_length
-    returns_2
-    same-length-2
-    returns_3)
+    samples_of_six-rebuilt-requires
+    enum_known-rebuilt
+    enum_told-1
+    overflow_sub-bits
+    returns-in-Refused
+    shape_of-samples-in-Bad
+    returns-in-Bad
+    shape_of-samples-in-Fine
+    returns-in-Fine)

@@ -12,77 +12,77 @@ use Rattle.macroblock.proofs.whole.decode_intra_macroblock_with_header.Statement
 use Rattle.macroblock.proofs.whole.decode_intra_macroblock_with_header.Tie as tie
 
 -- the state is fine
-fine : (k : tie.After-enum-told) → let a = k.before.before.before.before.args in
-    room_of a.«data».now a.c.bit_pos a.ctx a.predictors a.quant-matrix (length a.samples.now) ≡ Fine
-fine k = sym k.before.before.check-room.ensures ∙ k.enum_told.given.1
+fine : (k : tie.In-Fine) → let a = k.args in
+    room_of a.«data».now a.c.bit_pos a.ctx a.predictors a.quant_matrix (length a.samples.now) ≡ Fine
+fine k = sym k.check_room-checked.ensures ∙ k.in-Fine.is
 
 -- so the header is what the bits say
-read : (r : tie.After-parse-macroblock-header) → let a = r.before.before.before.before.before.args in let d = a.«data».now in
-    r.parse-macroblock-header.result ≡ header_told d a.ctx.quantiser_scale (read_header (bits_from d a.c.bit_pos))
+read : (r : tie.After-parse_macroblock_header-read) → let a = r.args in let d = a.«data».now in
+    r.parse_macroblock_header-read.result ≡ header_told d a.ctx.quantiser_scale (read_header (bits_from d a.c.bit_pos))
 read r =
     let k = r.before in
-    let a = k.before.before.before.before.args in
-    r.parse-macroblock-header.ensures.0 ∙ header_asked a.«data».now a.c.bit_pos a.ctx a.predictors a.quant-matrix (length a.samples.now) (fine k)
+    let a = k.args in
+    r.parse_macroblock_header-read.ensures.0 ∙ header_asked a.«data».now a.c.bit_pos a.ctx a.predictors a.quant_matrix (length a.samples.now) (fine k)
 
-check-room-requires : tie.Need-check-room-requires
-check-room-requires c κs = search rules
+check_room-checked-requires : tie.Need-check_room-checked-requires
+check_room-checked-requires c κs = search rules
 
-enum-known-checked : tie.Need-enum-known-checked
-enum-known-checked c = search rules
+enum_known-checked : tie.Need-enum_known-checked
+enum_known-checked c = search rules
 
-enum_told : tie.Need-enum-told
-enum_told c = search rules
+enum_told-1 : tie.Need-enum_told-1
+enum_told-1 c = search rules
 
-parse-macroblock-header-requires : tie.Need-parse-macroblock-header-requires
-parse-macroblock-header-requires c κs = search rules
+parse_macroblock_header-read-requires : tie.Need-parse_macroblock_header-read-requires
+parse_macroblock_header-read-requires c κs = search rules
 
-enum-known-read : tie.Need-enum-known-read
-enum-known-read c = search rules
+enum_known-read : tie.Need-enum_known-read
+enum_known-read c = search rules
 
-enum-known-read-2 : tie.Need-enum-known-read-2
-enum-known-read-2 c = search rules
+enum_known-read-in-Read-1 : tie.Need-enum_known-read-in-Read-1
+enum_known-read-in-Read-1 c = search rules
 
-decode-after-requires : tie.Need-decode-after-requires
-decode-after-requires c κs =
-    let k = c.before.before in
-    let r = k.before.before in
-    (fine r.before, sym k.read2.given.1 ∙ read r)
+decode_after-requires : tie.Need-decode_after-requires
+decode_after-requires c κs =
+    let k = c.before in
+    let r = k.before in
+    (fine r.before, sym k.in-Read.is ∙ read r)
 
-returns : tie.Need-returns
-returns c =
-    let a = c.before.before.before.before.before.args in
-    whole-refused a.«data».now a.c.bit_pos a.use-intra-dc-vlc a.reversible-vlc a.ctx a.predictors a.quant-matrix a.samples.now (sym c.before.before.before.check-room.ensures ∙ c.before.checked.given.1)
+returns-in-Bad : tie.Need-returns-in-Bad
+returns-in-Bad c =
+    let a = c.args in
+    whole-refused a.«data».now a.c.bit_pos a.use_intra_dc_vlc a.reversible_vlc a.ctx a.predictors a.quant_matrix a.samples.now (sym c.check_room-checked.ensures ∙ c.in-Bad.is)
 
-returns_2 : tie.Need-returns-2
-returns_2 c =
-    let r = c.before.before.before in
+returns-in-Refused : tie.Need-returns-in-Refused
+returns-in-Refused c =
+    let r = c.before in
     let k = r.before in
-    let a = k.before.before.before.before.args in
-    header_refused a.«data».now a.c.bit_pos a.use-intra-dc-vlc a.reversible-vlc a.ctx a.predictors a.quant-matrix a.samples.now (fine k) _ (read r) c.before.read.given.1
+    let a = k.args in
+    header_refused a.«data».now a.c.bit_pos a.use_intra_dc_vlc a.reversible_vlc a.ctx a.predictors a.quant_matrix a.samples.now (fine k) _ (read r) c.in-Refused.is
 
-same_length : tie.Need-same-length
-same_length c = search rules
+shape_of-samples : tie.Need-shape_of-samples
+shape_of-samples c = search rules
 
-returns_3 : tie.Need-returns-3
-returns_3 c =
+returns-in-Read : tie.Need-returns-in-Read
+returns-in-Read c =
     let t = c.before.before.before in
-    let k = t.before.before.before.before in
-    let a = k.before.before.before.before.args in
-    let r = c.before.decode-after in
-    whole_answered a.«data».now a.c.bit_pos a.use-intra-dc-vlc a.reversible-vlc a.ctx a.predictors a.quant-matrix a.samples.now (fine k) _ _ r.ensures.0 r.ensures.1
+    let k = t.before.before in
+    let a = k.args in
+    let r = c.decode_after in
+    whole_answered a.«data».now a.c.bit_pos a.use_intra_dc_vlc a.reversible_vlc a.ctx a.predictors a.quant_matrix a.samples.now (fine k) _ _ r.ensures.0 r.ensures.1
 
 pub decode_intra_macroblock_with_header_spec : {M : Type 1} → statement M
 decode_intra_macroblock_with_header_spec =
     tie.close
     (tie.spec
-    check-room-requires
-    enum-known-checked
-    enum_told
-    parse-macroblock-header-requires
-    enum-known-read
-    enum-known-read-2
-    decode-after-requires
-    returns
-    returns_2
-    same_length
-    returns_3)
+    check_room-checked-requires
+    enum_known-checked
+    enum_told-1
+    parse_macroblock_header-read-requires
+    enum_known-read
+    enum_known-read-in-Read-1
+    decode_after-requires
+    returns-in-Bad
+    returns-in-Refused
+    shape_of-samples
+    returns-in-Read)

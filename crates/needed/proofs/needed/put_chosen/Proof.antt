@@ -20,7 +20,7 @@ use Rattle.needed.proofs.needed.put_chosen.Tie as tie
 -- what the code reads of the three DCs
 module _ (s : tie.Start) where
   reads_a : to_z w32 (of_z w32 s.args.a) ≡ s.args.a
-  reads_a = let g = s.well-formed in search rules
+  reads_a = let g = s.well_formed in search rules
 
   reads_b : to_z w32 (of_z w32 s.args.b) ≡ s.args.b
   reads_b = let g = s.good in search rules
@@ -45,127 +45,127 @@ module _ (s : tie.Start) where
   taken = predictors depth scale around own s.args.i
 
   dcs : DcsAre taken (to_z w32 (of_z w32 s.args.a)) (to_z w32 (of_z w32 s.args.b)) (to_z w32 (of_z w32 s.args.c))
-  dcs = (reads_a s ∙ s.pre.0, reads_b s ∙ s.pre.1, reads_c s ∙ s.pre.2)
+  dcs = (reads_a s ∙ s.requires.0, reads_b s ∙ s.requires.1, reads_c s ∙ s.requires.2)
 
 -- the direction is that of what the block takes
-chosen : (c : tie.After-select-dc-direction) → let p = taken c.before in c.select-dc-direction.result ≡ direction_answer p.fa_dc p.fb_dc p.fc_dc
+chosen : (c : tie.After-select_dc_direction) → let p = taken c.before in c.select_dc_direction.result ≡ direction_answer p.fa_dc p.fb_dc p.fc_dc
 chosen c =
     let e = dcs c.before in
-    c.select-dc-direction.ensures.0 ∙ (λ j. direction_answer (e.0 j) (e.1 j) (e.2 j))
+    c.select_dc_direction.ensures.0 ∙ (λ j. direction_answer (e.0 j) (e.1 j) (e.2 j))
 
-select-dc-direction-requires : tie.Need-select-dc-direction-requires
-select-dc-direction-requires c κs = search rules
+select_dc_direction-requires : tie.Need-select_dc_direction-requires
+select_dc_direction-requires c κs = search rules
 
-enum_told : tie.Need-enum-told
-enum_told c = search rules
+enum_told-1 : tie.Need-enum_told-1
+enum_told-1 c = search rules
 
-put-none-requires : tie.Need-put-none-requires
-put-none-requires c κs = search rules
+put_none-requires : tie.Need-put_none-requires
+put_none-requires c κs = search rules
 
-enum-known-direction : tie.Need-enum-known-direction
-enum-known-direction c = search rules
+enum_known-direction : tie.Need-enum_known-direction
+enum_known-direction c = search rules
 
-enum-told-2 : tie.Need-enum-told-2
-enum-told-2 c = search rules
+enum_told-in-FromLeft : tie.Need-enum_told-in-FromLeft
+enum_told-in-FromLeft c = search rules
 
-a-block-requires : tie.Need-a-block-requires
-a-block-requires c κs = search rules
+a_block-requires : tie.Need-a_block-requires
+a_block-requires c κs = search rules
 
-cast-at : tie.Need-overflow-cast-at
-cast-at c = search rules
+overflow_cast-at : tie.Need-overflow_cast-at
+overflow_cast-at c = search rules
 
-mul_at : tie.Need-overflow-mul-at
-mul_at c = search rules
+overflow_mul-at : tie.Need-overflow_mul-at
+overflow_mul-at c = search rules
 
-add_at : tie.Need-overflow-add-at
-add_at c = search rules
+overflow_add-at : tie.Need-overflow_add-at
+overflow_add-at c = search rules
 
-a-source-requires : tie.Need-a-source-requires
-a-source-requires c κs = search rules
+a_source-source-requires : tie.Need-a_source-source-requires
+a_source-source-requires c κs = search rules
 
-put-side-requires : tie.Need-put-side-requires
-put-side-requires c κs = search rules
+put_side-requires : tie.Need-put_side-requires
+put_side-requires c κs = search rules
 
-enum-told-3 : tie.Need-enum-told-3
-enum-told-3 c = search rules
+enum_told-in-FromAbove : tie.Need-enum_told-in-FromAbove
+enum_told-in-FromAbove c = search rules
 
-c-block-requires : tie.Need-c-block-requires
-c-block-requires c κs = search rules
+c_block-requires : tie.Need-c_block-requires
+c_block-requires c κs = search rules
 
-cast-at-2 : tie.Need-overflow-cast-at-2
-cast-at-2 c = search rules
+overflow_cast-at-in-FromAbove : tie.Need-overflow_cast-at-in-FromAbove
+overflow_cast-at-in-FromAbove c = search rules
 
-mul-at-2 : tie.Need-overflow-mul-at-2
-mul-at-2 c = search rules
+overflow_mul-at-in-FromAbove : tie.Need-overflow_mul-at-in-FromAbove
+overflow_mul-at-in-FromAbove c = search rules
 
-add-at-2 : tie.Need-overflow-add-at-2
-add-at-2 c = search rules
+overflow_add-at-in-FromAbove : tie.Need-overflow_add-at-in-FromAbove
+overflow_add-at-in-FromAbove c = search rules
 
-c-source-requires : tie.Need-c-source-requires
-c-source-requires c κs = search rules
+c_source-source-requires : tie.Need-c_source-source-requires
+c_source-source-requires c κs = search rules
 
-put-side-requires-2 : tie.Need-put-side-requires-2
-put-side-requires-2 c κs = search rules
+put_side-requires-in-FromAbove : tie.Need-put_side-requires-in-FromAbove
+put_side-requires-in-FromAbove c κs = search rules
 
-returns : tie.Need-returns
-returns c =
+returns-in-Refused : tie.Need-returns-in-Refused
+returns-in-Refused c =
     let e = c.before.before in
-    let k = e.before.before in
+    let k = e.before in
     let s = k.before in
-    c.put-none.ensures
+    c.put_none.ensures
     ∙ dcs-are (depth s) (scale s) (around s) (own s) s.args.i (dcs s)
-    ∙ sym (needed_none (scale s) (taken s) _ refl (sym (chosen k) ∙ e.enum_told.given.1))
+    ∙ sym (needed_none (scale s) (taken s) _ refl (sym (chosen k) ∙ e.in-Refused.is))
 
-returns_2 : tie.Need-returns-2
-returns_2 c =
+returns-in-FromLeft : tie.Need-returns-in-FromLeft
+returns-in-FromLeft c =
     let o = c.before.before in
     let b = o.before in
     let e = b.before in
-    let d = e.before.before.before in
-    let k = d.before.before in
+    let d = e.before in
+    let k = d.before in
     let s = k.before in
     let a = s.args in
-    c.put-side.ensures
-    ∙ (λ j. numbers_at (scale s) (from (around s) (own s) (o.a-source.ensures j)) (15 * b.a_Block.ensures.0 j + 8) (to_z w32 (of_z w32 a.a)) (to_z w32 (of_z w32 a.b)) (to_z w32 (of_z w32 a.c)))
+    c.put_side.ensures
+    ∙ (λ j. numbers_at (scale s) (from (around s) (own s) (o.a_source-source.ensures j)) (15 * b.a_block.ensures.0 j + 8) (to_z w32 (of_z w32 a.a)) (to_z w32 (of_z w32 a.b)) (to_z w32 (of_z w32 a.c)))
     ∙ left_is (depth s) (scale s) (around s) (own s) a.i (dcs s)
-    ∙ sym (needed_side (scale s) (taken s) _ refl (sym (chosen k) ∙ d.direction.given.1 ∙ ap Is e.enum-told2.given.1))
+    ∙ sym (needed_side (scale s) (taken s) _ refl (sym (chosen k) ∙ d.in-Is.is ∙ ap Is e.in-FromLeft.is))
 
-returns_3 : tie.Need-returns-3
-returns_3 c =
+returns-in-FromAbove : tie.Need-returns-in-FromAbove
+returns-in-FromAbove c =
     let o = c.before.before in
     let b = o.before in
     let e = b.before in
-    let d = e.before.before.before in
-    let k = d.before.before in
+    let d = e.before in
+    let k = d.before in
     let s = k.before in
     let a = s.args in
-    c.put-side2.ensures
-    ∙ (λ j. numbers_at (scale s) (from (around s) (own s) (o.c-source.ensures j)) (15 * b.c-block.ensures.0 j + 1) (to_z w32 (of_z w32 a.a)) (to_z w32 (of_z w32 a.b)) (to_z w32 (of_z w32 a.c)))
+    c.put_side-in-FromAbove.ensures
+    ∙ (λ j. numbers_at (scale s) (from (around s) (own s) (o.c_source-source.ensures j)) (15 * b.c_block.ensures.0 j + 1) (to_z w32 (of_z w32 a.a)) (to_z w32 (of_z w32 a.b)) (to_z w32 (of_z w32 a.c)))
     ∙ above-is (depth s) (scale s) (around s) (own s) a.i (dcs s)
-    ∙ sym (needed_side (scale s) (taken s) _ refl (sym (chosen k) ∙ d.direction.given.1 ∙ ap Is e.enum-told3.given.1))
+    ∙ sym (needed_side (scale s) (taken s) _ refl (sym (chosen k) ∙ d.in-Is.is ∙ ap Is e.in-FromAbove.is))
 
 pub put_chosen_spec : {M : Type 1} → statement M
 put_chosen_spec =
     tie.close
     (tie.spec
-    select-dc-direction-requires
-    enum_told
-    put-none-requires
-    enum-known-direction
-    enum-told-2
-    a-block-requires
-    cast-at
-    mul_at
-    add_at
-    a-source-requires
-    put-side-requires
-    enum-told-3
-    c-block-requires
-    cast-at-2
-    mul-at-2
-    add-at-2
-    c-source-requires
-    put-side-requires-2
-    returns
-    returns_2
-    returns_3)
+    select_dc_direction-requires
+    enum_told-1
+    put_none-requires
+    enum_known-direction
+    enum_told-in-FromLeft
+    a_block-requires
+    overflow_cast-at
+    overflow_mul-at
+    overflow_add-at
+    a_source-source-requires
+    put_side-requires
+    enum_told-in-FromAbove
+    c_block-requires
+    overflow_cast-at-in-FromAbove
+    overflow_mul-at-in-FromAbove
+    overflow_add-at-in-FromAbove
+    c_source-source-requires
+    put_side-requires-in-FromAbove
+    returns-in-Refused
+    returns-in-FromLeft
+    returns-in-FromAbove)

@@ -22,34 +22,34 @@ use Rattle.needed.proofs.NeededLaws.{dcs-are, dcs-taken}
 use Rattle.needed.proofs.needed.put_needed.Statement.{statement}
 use Rattle.needed.proofs.needed.put_needed.Tie as tie
 
-a-source-requires : tie.Need-a-source-requires
-a-source-requires c κs = search rules
+a_source-from_a-requires : tie.Need-a_source-from_a-requires
+a_source-from_a-requires c κs = search rules
 
-a-block-requires : tie.Need-a-block-requires
-a-block-requires c κs = search rules
+a_block-requires : tie.Need-a_block-requires
+a_block-requires c κs = search rules
 
-neighbour-dc-requires : tie.Need-neighbour-dc-requires
-neighbour-dc-requires c κs = search rules
+neighbour_dc-a-requires : tie.Need-neighbour_dc-a-requires
+neighbour_dc-a-requires c κs = search rules
 
-b-source-requires : tie.Need-b-source-requires
-b-source-requires c κs = search rules
+b_source-from_b-requires : tie.Need-b_source-from_b-requires
+b_source-from_b-requires c κs = search rules
 
-b-block-requires : tie.Need-b-block-requires
-b-block-requires c κs = search rules
+b_block-requires : tie.Need-b_block-requires
+b_block-requires c κs = search rules
 
-neighbour-dc-requires-2 : tie.Need-neighbour-dc-requires-2
-neighbour-dc-requires-2 c κs = search rules
+neighbour_dc-b-requires : tie.Need-neighbour_dc-b-requires
+neighbour_dc-b-requires c κs = search rules
 
-c-source-requires : tie.Need-c-source-requires
-c-source-requires c κs = search rules
+c_source-from_c-requires : tie.Need-c_source-from_c-requires
+c_source-from_c-requires c κs = search rules
 
-c-block-requires : tie.Need-c-block-requires
-c-block-requires c κs = search rules
+c_block-requires : tie.Need-c_block-requires
+c_block-requires c κs = search rules
 
-neighbour-dc-requires-3 : tie.Need-neighbour-dc-requires-3
-neighbour-dc-requires-3 c κs = search rules
+neighbour_dc-c-requires : tie.Need-neighbour_dc-c-requires
+neighbour_dc-c-requires c κs = search rules
 
-module _ (m : tie.After-neighbour-dc3) where
+module _ (m : tie.After-neighbour_dc-c) where
   abbrev start : tie.Start
   start = m.before.before.before.before.before.before.before.before.before
 
@@ -69,61 +69,61 @@ module _ (m : tie.After-neighbour-dc3) where
   taken = predictors depth scale around own start.args.i
 
   dcs : DcsAre taken
-      (to_z w32 (of_z w32 m.before.before.before.before.before.before.neighbour-dc.result))
-      (to_z w32 (of_z w32 m.before.before.before.neighbour-dc2.result))
-      (to_z w32 (of_z w32 m.neighbour-dc3.result))
+      (to_z w32 (of_z w32 m.neighbour_dc-a.result))
+      (to_z w32 (of_z w32 m.neighbour_dc-b.result))
+      (to_z w32 (of_z w32 m.neighbour_dc-c.result))
   dcs =
       let n₂ = m.before.before.before in
       let n₁ = n₂.before.before.before in
       let i = start.args.i in
       let here = side_here depth scale start.args.p start.args.store.now start.args.own.now in
       dcs-taken depth scale around own i
-      (held n₁.neighbour-dc.result n₁.neighbour-dc.ok
-      ∙ n₁.neighbour-dc.ensures
-      ∙ ap (λ (s : Side). s.dc) (side_is _ _ _ _ n₁.before.before.a-source.ensures n₁.before.a_Block.ensures.0 ∙ here (a_source i) (a_block i) (a_below i)))
-      (held n₂.neighbour-dc2.result n₂.neighbour-dc2.ok
-      ∙ n₂.neighbour-dc2.ensures
-      ∙ ap (λ (s : Side). s.dc) (side_is _ _ _ _ n₂.before.before.b-source.ensures n₂.before.b-block.ensures.0 ∙ here (b_source i) (b_block i) (b_below i)))
-      (held m.neighbour-dc3.result m.neighbour-dc3.ok
-      ∙ m.neighbour-dc3.ensures
-      ∙ ap (λ (s : Side). s.dc) (side_is _ _ _ _ m.before.before.c-source.ensures m.before.c-block.ensures.0 ∙ here (c_source i) (c_block i) (c-below i)))
+      (held n₁.neighbour_dc-a.result n₁.neighbour_dc-a.type_inv
+      ∙ n₁.neighbour_dc-a.ensures
+      ∙ ap (λ (s : Side). s.dc) (side_is _ _ _ _ n₁.a_source-from_a.ensures n₁.a_block.ensures.0 ∙ here (a_source i) (a_block i) (a_below i)))
+      (held n₂.neighbour_dc-b.result n₂.neighbour_dc-b.type_inv
+      ∙ n₂.neighbour_dc-b.ensures
+      ∙ ap (λ (s : Side). s.dc) (side_is _ _ _ _ n₂.b_source-from_b.ensures n₂.b_block.ensures.0 ∙ here (b_source i) (b_block i) (b_below i)))
+      (held m.neighbour_dc-c.result m.neighbour_dc-c.type_inv
+      ∙ m.neighbour_dc-c.ensures
+      ∙ ap (λ (s : Side). s.dc) (side_is _ _ _ _ m.c_source-from_c.ensures m.c_block.ensures.0 ∙ here (c_source i) (c_block i) (c-below i)))
 
-put-chosen-requires : tie.Need-put-chosen-requires
-put-chosen-requires c κs =
+put_chosen-requires : tie.Need-put_chosen-requires
+put_chosen-requires c κs =
     let m = c.before.before in
     dcs m
 
-put-none-requires : tie.Need-put-none-requires
-put-none-requires c κs = search rules
+put_none-requires : tie.Need-put_none-requires
+put_none-requires c κs = search rules
 
-returns : tie.Need-returns
-returns c =
+returns-then-ac_pred : tie.Need-returns-then-ac_pred
+returns-then-ac_pred c =
     let t = c.before.before in
     let m = t.before in
-    c.put-chosen.ensures ∙ ap (λ (ac_pred : Bool). needed_of (scale m) ac_pred (taken m)) (sym t.if1.true)
+    c.put_chosen.ensures ∙ ap (λ (ac_pred : Bool). needed_of (scale m) ac_pred (taken m)) (sym t.if-ac_pred.true)
 
-returns_2 : tie.Need-returns-2
-returns_2 c =
+returns-else-ac_pred : tie.Need-returns-else-ac_pred
+returns-else-ac_pred c =
     let t = c.before.before in
     let m = t.before in
-    c.put-none.ensures
+    c.put_none.ensures
     ∙ dcs-are (depth m) (scale m) (around m) (own m) (start m).args.i (dcs m)
-    ∙ sym (needed_dcs (scale m) (taken m) t.if1.false)
+    ∙ sym (needed_dcs (scale m) (taken m) t.if-ac_pred.false)
 
 pub put_needed_spec : {M : Type 1} → statement M
 put_needed_spec =
     tie.close
     (tie.spec
-    a-source-requires
-    a-block-requires
-    neighbour-dc-requires
-    b-source-requires
-    b-block-requires
-    neighbour-dc-requires-2
-    c-source-requires
-    c-block-requires
-    neighbour-dc-requires-3
-    put-chosen-requires
-    put-none-requires
-    returns
-    returns_2)
+    a_source-from_a-requires
+    a_block-requires
+    neighbour_dc-a-requires
+    b_source-from_b-requires
+    b_block-requires
+    neighbour_dc-b-requires
+    c_source-from_c-requires
+    c_block-requires
+    neighbour_dc-c-requires
+    put_chosen-requires
+    put_none-requires
+    returns-then-ac_pred
+    returns-else-ac_pred)

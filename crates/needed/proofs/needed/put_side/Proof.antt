@@ -14,52 +14,52 @@ use Rattle.needed.proofs.NeededLaws.{not_there, there}
 use Rattle.needed.proofs.needed.put_side.Statement.{statement}
 use Rattle.needed.proofs.needed.put_side.Tie as tie
 
-enum_told : tie.Need-enum-told
-enum_told c = search rules
+enum_told-1 : tie.Need-enum_told-1
+enum_told-1 c = search rules
 
-put-values-requires : tie.Need-put-values-requires
-put-values-requires c κs = search rules
+put_values-requires : tie.Need-put_values-requires
+put_values-requires c κs = search rules
 
-enum-told-2 : tie.Need-enum-told-2
-enum-told-2 c = search rules
+enum_told-in-Left : tie.Need-enum_told-in-Left
+enum_told-in-Left c = search rules
 
-cast-put-values : tie.Need-overflow-cast-put-values
-cast-put-values c = search rules
+overflow_cast-p : tie.Need-overflow_cast-p
+overflow_cast-p c = search rules
 
-put-values-requires-2 : tie.Need-put-values-requires-2
-put-values-requires-2 c κs = search rules
+put_values-requires-then-p : tie.Need-put_values-requires-then-p
+put_values-requires-then-p c κs = search rules
 
-put-none-requires : tie.Need-put-none-requires
-put-none-requires c κs = search rules
+put_none-requires : tie.Need-put_none-requires
+put_none-requires c κs = search rules
 
-enum-told-3 : tie.Need-enum-told-3
-enum-told-3 c = search rules
+enum_told-in-AboveLeft : tie.Need-enum_told-in-AboveLeft
+enum_told-in-AboveLeft c = search rules
 
-cast-put-values-2 : tie.Need-overflow-cast-put-values-2
-cast-put-values-2 c = search rules
+overflow_cast-p-then-p-2 : tie.Need-overflow_cast-p-then-p-2
+overflow_cast-p-then-p-2 c = search rules
 
-put-values-requires-3 : tie.Need-put-values-requires-3
-put-values-requires-3 c κs = search rules
+put_values-requires-then-p-2 : tie.Need-put_values-requires-then-p-2
+put_values-requires-then-p-2 c κs = search rules
 
-put-none-requires-2 : tie.Need-put-none-requires-2
-put-none-requires-2 c κs = search rules
+put_none-requires-else-p-2 : tie.Need-put_none-requires-else-p-2
+put_none-requires-else-p-2 c κs = search rules
 
-enum-told-4 : tie.Need-enum-told-4
-enum-told-4 c = search rules
+enum_told-in-Above : tie.Need-enum_told-in-Above
+enum_told-in-Above c = search rules
 
-cast-put-values-3 : tie.Need-overflow-cast-put-values-3
-cast-put-values-3 c = search rules
+overflow_cast-p-then-p-3 : tie.Need-overflow_cast-p-then-p-3
+overflow_cast-p-then-p-3 c = search rules
 
-put-values-requires-4 : tie.Need-put-values-requires-4
-put-values-requires-4 c κs = search rules
+put_values-requires-then-p-3 : tie.Need-put_values-requires-then-p-3
+put_values-requires-then-p-3 c κs = search rules
 
-put-none-requires-3 : tie.Need-put-none-requires-3
-put-none-requires-3 c κs = search rules
+put_none-requires-else-p-3 : tie.Need-put_none-requires-else-p-3
+put_none-requires-else-p-3 c κs = search rules
 
 -- what the code reads of the three DCs
 module _ (s : tie.Start) where
   reads_a : to_z w32 (of_z w32 s.args.a) ≡ s.args.a
-  reads_a = let g = s.well-formed in search rules
+  reads_a = let g = s.well_formed in search rules
 
   reads_b : to_z w32 (of_z w32 s.args.b) ≡ s.args.b
   reads_b = let g = s.good in search rules
@@ -83,88 +83,88 @@ module _ (s : tie.Start) where
   told : {x : Source} {r : List ℤ} → s.args.source ≡ x → r ≡ due x → r ≡ due s.args.source
   told e h = h ∙ ap due (sym e)
 
-returns : tie.Need-returns
-returns c =
+returns-in-Own : tie.Need-returns-in-Own
+returns-in-Own c =
     let e = c.before.before in
-    let s = e.before.before in
-    told s e.enum_told.given.1 (c.put-values.ensures ∙ left s (some (record_at s.args.own.now 0)))
+    let s = e.before in
+    told s e.in-Own.is (c.put_values.ensures ∙ left s (some (record_at s.args.own.now 0)))
 
-returns_2 : tie.Need-returns-2
-returns_2 c =
+returns-then-p : tie.Need-returns-then-p
+returns-then-p c =
     let t = c.before.before.before in
     let e = t.before in
-    let s = e.before.before in
+    let s = e.before in
     let a = s.args in
-    told s e.enum-told2.given.1
-    (c.put-values2.ensures ∙ left s (some (record_at a.store.now a.p.left)) ∙ there a.p.quantiser_scale a.at a.a a.b a.c (record_at a.store.now a.p.left) t.if1.true)
+    told s e.in-Left.is
+    (c.put_values-then-p.ensures ∙ left s (some (record_at a.store.now a.p.left)) ∙ there a.p.quantiser_scale a.at a.a a.b a.c (record_at a.store.now a.p.left) t.if-p.true)
 
-returns_3 : tie.Need-returns-3
-returns_3 c =
+returns-else-p : tie.Need-returns-else-p
+returns-else-p c =
     let t = c.before.before in
     let e = t.before in
-    let s = e.before.before in
+    let s = e.before in
     let a = s.args in
-    told s e.enum-told2.given.1
-    (c.put-none.ensures ∙ left s none ∙ not_there a.p.quantiser_scale a.at a.a a.b a.c (record_at a.store.now a.p.left) t.if1.false)
+    told s e.in-Left.is
+    (c.put_none.ensures ∙ left s none ∙ not_there a.p.quantiser_scale a.at a.a a.b a.c (record_at a.store.now a.p.left) t.if-p.false)
 
-returns_4 : tie.Need-returns-4
-returns_4 c =
+returns-then-p-2 : tie.Need-returns-then-p-2
+returns-then-p-2 c =
     let t = c.before.before.before in
     let e = t.before in
-    let s = e.before.before in
+    let s = e.before in
     let a = s.args in
-    told s e.enum-told3.given.1
-    (c.put-values3.ensures ∙ left s (some (record_at a.store.now a.p.above_left)) ∙ there a.p.quantiser_scale a.at a.a a.b a.c (record_at a.store.now a.p.above_left) t.if2.true)
+    told s e.in-AboveLeft.is
+    (c.put_values-then-p-2.ensures ∙ left s (some (record_at a.store.now a.p.above_left)) ∙ there a.p.quantiser_scale a.at a.a a.b a.c (record_at a.store.now a.p.above_left) t.if-p-2.true)
 
-returns_5 : tie.Need-returns-5
-returns_5 c =
+returns-else-p-2 : tie.Need-returns-else-p-2
+returns-else-p-2 c =
     let t = c.before.before in
     let e = t.before in
-    let s = e.before.before in
+    let s = e.before in
     let a = s.args in
-    told s e.enum-told3.given.1
-    (c.put-none2.ensures ∙ left s none ∙ not_there a.p.quantiser_scale a.at a.a a.b a.c (record_at a.store.now a.p.above_left) t.if2.false)
+    told s e.in-AboveLeft.is
+    (c.put_none-else-p-2.ensures ∙ left s none ∙ not_there a.p.quantiser_scale a.at a.a a.b a.c (record_at a.store.now a.p.above_left) t.if-p-2.false)
 
-returns_6 : tie.Need-returns-6
-returns_6 c =
+returns-then-p-3 : tie.Need-returns-then-p-3
+returns-then-p-3 c =
     let t = c.before.before.before in
     let e = t.before in
-    let s = e.before.before in
+    let s = e.before in
     let a = s.args in
-    told s e.enum-told4.given.1
-    (c.put-values4.ensures ∙ left s (some (record_at a.store.now a.p.above)) ∙ there a.p.quantiser_scale a.at a.a a.b a.c (record_at a.store.now a.p.above) t.if3.true)
+    told s e.in-Above.is
+    (c.put_values-then-p-3.ensures ∙ left s (some (record_at a.store.now a.p.above)) ∙ there a.p.quantiser_scale a.at a.a a.b a.c (record_at a.store.now a.p.above) t.if-p-3.true)
 
-returns-7 : tie.Need-returns-7
-returns-7 c =
+returns-else-p-3 : tie.Need-returns-else-p-3
+returns-else-p-3 c =
     let t = c.before.before in
     let e = t.before in
-    let s = e.before.before in
+    let s = e.before in
     let a = s.args in
-    told s e.enum-told4.given.1
-    (c.put-none3.ensures ∙ left s none ∙ not_there a.p.quantiser_scale a.at a.a a.b a.c (record_at a.store.now a.p.above) t.if3.false)
+    told s e.in-Above.is
+    (c.put_none-else-p-3.ensures ∙ left s none ∙ not_there a.p.quantiser_scale a.at a.a a.b a.c (record_at a.store.now a.p.above) t.if-p-3.false)
 
 pub put_side_spec : {M : Type 1} → statement M
 put_side_spec =
     tie.close
     (tie.spec
-    enum_told
-    put-values-requires
-    enum-told-2
-    cast-put-values
-    put-values-requires-2
-    put-none-requires
-    enum-told-3
-    cast-put-values-2
-    put-values-requires-3
-    put-none-requires-2
-    enum-told-4
-    cast-put-values-3
-    put-values-requires-4
-    put-none-requires-3
-    returns
-    returns_2
-    returns_3
-    returns_4
-    returns_5
-    returns_6
-    returns-7)
+    enum_told-1
+    put_values-requires
+    enum_told-in-Left
+    overflow_cast-p
+    put_values-requires-then-p
+    put_none-requires
+    enum_told-in-AboveLeft
+    overflow_cast-p-then-p-2
+    put_values-requires-then-p-2
+    put_none-requires-else-p-2
+    enum_told-in-Above
+    overflow_cast-p-then-p-3
+    put_values-requires-then-p-3
+    put_none-requires-else-p-3
+    returns-in-Own
+    returns-then-p
+    returns-else-p
+    returns-then-p-2
+    returns-else-p-2
+    returns-then-p-3
+    returns-else-p-3)

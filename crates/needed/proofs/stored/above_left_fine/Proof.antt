@@ -9,44 +9,44 @@ use Rattle.needed.specs.Stored.{above_left_fine}
 use Rattle.needed.proofs.stored.above_left_fine.Statement.{statement}
 use Rattle.needed.proofs.stored.above_left_fine.Tie as tie
 
-shared-slice-copy-out-fine : tie.Need-shared-slice-copy-out-fine
-shared-slice-copy-out-fine c = search rules
+bounds-s-45 : tie.Need-bounds-s-45
+bounds-s-45 c = search rules
 
-fine-requires : tie.Need-fine-requires
-fine-requires c κs = search rules
+fine-three-requires : tie.Need-fine-three-requires
+fine-three-requires c κs = search rules
 
-shared-slice-copy-out-fine-2 : tie.Need-shared-slice-copy-out-fine-2
-shared-slice-copy-out-fine-2 c = search rules
+bounds-s-60 : tie.Need-bounds-s-60
+bounds-s-60 c = search rules
 
-fine-requires-2 : tie.Need-fine-requires-2
-fine-requires-2 c κs = search rules
+fine-four-requires : tie.Need-fine-four-requires
+fine-four-requires c κs = search rules
 
-shared-slice-copy-out-fine-3 : tie.Need-shared-slice-copy-out-fine-3
-shared-slice-copy-out-fine-3 c = search rules
+bounds-s-75 : tie.Need-bounds-s-75
+bounds-s-75 c = search rules
 
-fine-requires-3 : tie.Need-fine-requires-3
-fine-requires-3 c κs = search rules
+fine-five-requires : tie.Need-fine-five-requires
+fine-five-requires c κs = search rules
 
 returns : tie.Need-returns
 unfolding above_left_fine
 returns c =
     let u = c.before.before in
     let t = u.before.before in
-    let s = t.before.before.args.s.now in
+    let s = t.args.s.now in
     rw (
-      t.fine.ensures ∙ ap dc_fine (held (get_or s 45 (pos 0)) t.before.fine-arg.given),
-      u.fine2.ensures ∙ ap dc_fine (held (get_or s 60 (pos 0)) u.before.fine-arg2.given),
-      c.fine3.ensures ∙ ap dc_fine (held (get_or s 75 (pos 0)) c.before.fine-arg3.given),
+      t.fine-three.ensures ∙ ap dc_fine (held (get_or s 45 (pos 0)) t.fine-arg-1.given),
+      u.fine-four.ensures ∙ ap dc_fine (held (get_or s 60 (pos 0)) u.fine-arg-2-1.given),
+      c.fine-five.ensures ∙ ap dc_fine (held (get_or s 75 (pos 0)) c.fine-arg-3-1.given),
     )
 
 pub above_left_fine_spec : {M : Type 1} → statement M
 above_left_fine_spec =
     tie.close
     (tie.spec
-    shared-slice-copy-out-fine
-    fine-requires
-    shared-slice-copy-out-fine-2
-    fine-requires-2
-    shared-slice-copy-out-fine-3
-    fine-requires-3
+    bounds-s-45
+    fine-three-requires
+    bounds-s-60
+    fine-four-requires
+    bounds-s-75
+    fine-five-requires
     returns)

@@ -10,44 +10,44 @@ use Rattle.needed.specs.Stored.{block_fine}
 use Rattle.needed.proofs.stored.block_fine.Statement.{statement}
 use Rattle.needed.proofs.stored.block_fine.Tie as tie
 
-mul-fine : tie.Need-mul-fine
-mul-fine c = search rules
+overflow_mul-b : tie.Need-overflow_mul-b
+overflow_mul-b c = search rules
 
-mul-fine-2 : tie.Need-mul-fine-2
-mul-fine-2 c = search rules
+offset_bounds-s-b : tie.Need-offset_bounds-s-b
+offset_bounds-s-b c = search rules
 
-shared-slice-copy-out-fine : tie.Need-shared-slice-copy-out-fine
-shared-slice-copy-out-fine c = search rules
+bounds-s-b : tie.Need-bounds-s-b
+bounds-s-b c = search rules
 
-fine-requires : tie.Need-fine-requires
-fine-requires c κs = search rules
+fine-dc-requires : tie.Need-fine-dc-requires
+fine-dc-requires c κs = search rules
 
-mul-seven-levels : tie.Need-mul-seven-levels
-mul-seven-levels c = search rules
+overflow_mul-b-2 : tie.Need-overflow_mul-b-2
+overflow_mul-b-2 c = search rules
 
-add-seven-levels : tie.Need-add-seven-levels
-add-seven-levels c = search rules
+overflow_add-b : tie.Need-overflow_add-b
+overflow_add-b c = search rules
 
-seven-levels-requires : tie.Need-seven-levels-requires
-seven-levels-requires c κs = search rules
+seven_levels-levels-requires : tie.Need-seven_levels-levels-requires
+seven_levels-levels-requires c κs = search rules
 
 returns : tie.Need-returns
 unfolding block_fine
 returns c =
     let t = c.before in
-    let a = t.before.before.args in
+    let a = t.args in
     let z = get_or a.s.now (15 * a.b) (pos 0) in
-    rw (t.fine.ensures ∙ ap dc_fine (held z t.before.fine-arg.given), c.seven-levels.ensures)
+    rw (t.fine-dc.ensures ∙ ap dc_fine (held z t.fine-arg-1.given), c.seven_levels-levels.ensures)
 
 pub block_fine_spec : {M : Type 1} → statement M
 block_fine_spec =
     tie.close
     (tie.spec
-    mul-fine
-    mul-fine-2
-    shared-slice-copy-out-fine
-    fine-requires
-    mul-seven-levels
-    add-seven-levels
-    seven-levels-requires
+    overflow_mul-b
+    offset_bounds-s-b
+    bounds-s-b
+    fine-dc-requires
+    overflow_mul-b-2
+    overflow_add-b
+    seven_levels-levels-requires
     returns)

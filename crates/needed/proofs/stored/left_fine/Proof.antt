@@ -10,23 +10,23 @@ use Rattle.needed.proofs.StoredLaws.{quantiser-within}
 use Rattle.needed.proofs.stored.left_fine.Statement.{statement}
 use Rattle.needed.proofs.stored.left_fine.Tie as tie
 
-block-fine-requires : tie.Need-block-fine-requires
-block-fine-requires c κs = search rules
+block_fine-one-requires : tie.Need-block_fine-one-requires
+block_fine-one-requires c κs = search rules
 
-block-fine-requires-2 : tie.Need-block-fine-requires-2
-block-fine-requires-2 c κs = search rules
+block_fine-three-requires : tie.Need-block_fine-three-requires
+block_fine-three-requires c κs = search rules
 
-block-fine-requires-3 : tie.Need-block-fine-requires-3
-block-fine-requires-3 c κs = search rules
+block_fine-four-requires : tie.Need-block_fine-four-requires
+block_fine-four-requires c κs = search rules
 
-block-fine-requires-4 : tie.Need-block-fine-requires-4
-block-fine-requires-4 c κs = search rules
+block_fine-five-requires : tie.Need-block_fine-five-requires
+block_fine-five-requires c κs = search rules
 
-shared-slice-copy-out-inside : tie.Need-shared-slice-copy-out-inside
-shared-slice-copy-out-inside c = search rules
+bounds-s-90 : tie.Need-bounds-s-90
+bounds-s-90 c = search rules
 
-inside-requires : tie.Need-inside-requires
-inside-requires c κs = search rules
+inside-qp-requires : tie.Need-inside-qp-requires
+inside-qp-requires c κs = search rules
 
 returns : tie.Need-returns
 unfolding left_fine
@@ -35,23 +35,23 @@ returns c =
     let t₃ = t₄.before in
     let t₂ = t₃.before in
     let t₁ = t₂.before in
-    let z = get_or t₁.before.args.s.now 90 (pos 0) in
+    let z = get_or t₁.args.s.now 90 (pos 0) in
     rw (
-      t₁.block-fine.ensures,
-      t₂.block-fine2.ensures,
-      t₃.block-fine3.ensures,
-      t₄.block-fine4.ensures,
-      c.inside.ensures ∙ ap (within (pos 1) (pos 31)) (held z c.before.inside-arg.given) ∙ quantiser-within z,
+      t₁.block_fine-one.ensures,
+      t₂.block_fine-three.ensures,
+      t₃.block_fine-four.ensures,
+      t₄.block_fine-five.ensures,
+      c.inside-qp.ensures ∙ ap (within (pos 1) (pos 31)) (held z c.inside-arg-1.given) ∙ quantiser-within z,
     )
 
 pub left_fine_spec : {M : Type 1} → statement M
 left_fine_spec =
     tie.close
     (tie.spec
-    block-fine-requires
-    block-fine-requires-2
-    block-fine-requires-3
-    block-fine-requires-4
-    shared-slice-copy-out-inside
-    inside-requires
+    block_fine-one-requires
+    block_fine-three-requires
+    block_fine-four-requires
+    block_fine-five-requires
+    bounds-s-90
+    inside-qp-requires
     returns)

@@ -18,53 +18,53 @@ use Rattle.needed.proofs.stored.seven_levels.Tie as tie
 abbrev f : List ℤ → ℕ → ℕ → ℤ
 f s at k = get_or s (at + k) (pos 0)
 
-abbrev invariant_loop : tie.invariant-loop
-invariant_loop s at fine₀ k₀ fine k = (k ≤ 7) × (every level_fine (seven_from s at) ≡ (fine && every level_fine (drop k (seven_from s at))))
+abbrev invariant-loop-k : tie.invariant-loop-k
+invariant-loop-k s at fine₀ k₀ fine k = (k ≤ 7) × (every level_fine (seven_from s at) ≡ (fine && every level_fine (drop k (seven_from s at))))
 
-abbrev decreases-loop : tie.decreases-loop
-decreases-loop s at fine₀ k₀ fine k = 7 - k
+abbrev decreases-loop-k : tie.decreases-loop-k
+decreases-loop-k s at fine₀ k₀ fine k = 7 - k
 
-loop_holds : tie.Need-loop-init invariant_loop decreases-loop
-loop_holds c = (omega arith, refl)
+loop-k-init : tie.Need-loop-k-init invariant-loop-k decreases-loop-k
+loop-k-init c = (omega arith, refl)
 
-add-fine : tie.Need-overflow-add-fine invariant_loop decreases-loop
-add-fine c = omega arith
+overflow_add-at : tie.Need-overflow_add-at invariant-loop-k decreases-loop-k
+overflow_add-at c = omega arith
 
-mul-fine : tie.Need-overflow-mul-fine invariant_loop decreases-loop
-mul-fine c = omega arith
+offset_bounds-s-at : tie.Need-offset_bounds-s-at invariant-loop-k decreases-loop-k
+offset_bounds-s-at c = omega arith
 
-shared-slice-copy-out-fine : tie.Need-shared-slice-copy-out-fine invariant_loop decreases-loop
-shared-slice-copy-out-fine c = omega arith
+bounds-s-at : tie.Need-bounds-s-at invariant-loop-k decreases-loop-k
+bounds-s-at c = omega arith
 
-fine-requires : tie.Need-fine-requires invariant_loop decreases-loop
-fine-requires c κs = tt
+fine-level-requires : tie.Need-fine-level-requires invariant-loop-k decreases-loop-k
+fine-level-requires c κs = tt
 
-add-k : tie.Need-overflow-add-k invariant_loop decreases-loop
-add-k c = omega arith
+overflow_step-k : tie.Need-overflow_step-k invariant-loop-k decreases-loop-k
+overflow_step-k c = omega arith
 
-loop-less : tie.Need-loop-smaller invariant_loop decreases-loop
-loop-less c = omega arith
+loop-k-smaller : tie.Need-loop-k-smaller invariant-loop-k decreases-loop-k
+loop-k-smaller c = omega arith
 
-loop_again : tie.Need-loop-preserved invariant_loop decreases-loop
-loop_again c =
+loop-k-preserved : tie.Need-loop-k-preserved invariant-loop-k decreases-loop-k
+loop-k-preserved c =
     let a = c.before.before.before in
-    let s = a.before.args.s.now in
-    let at = a.before.args.at in
+    let s = a.args.s.now in
+    let at = a.args.at in
     let l = seven_from s at in
-    let k = a.loop.k in
-    let h = c.before.before.loop-test.true in (
+    let k = a.loop-k.k in
+    let h = c.loop-k-test.true in (
       omega arith,
-      test_more level_fine (pos 0) l (every level_fine l) k a.loop.fine c.fine.result (omega (arith, length-build 7 (f s at))) a.loop.invariant.1
-          (c.fine.ensures ∙ ap level_fine (held (get_or s (at + k) (pos 0)) c.before.fine-arg.given ∙ sym (get_or-build 7 (f s at) k (pos 0) h))),
+      test_more level_fine (pos 0) l (every level_fine l) k a.loop-k.fine c.fine-level.result (omega (arith, length-build 7 (f s at))) a.loop-k.invariant.1
+          (c.fine-level.ensures ∙ ap level_fine (held (get_or s (at + k) (pos 0)) c.fine-arg-1.given ∙ sym (get_or-build 7 (f s at) k (pos 0) h))),
     )
 
-returns : tie.Need-returns invariant_loop decreases-loop
+returns : tie.Need-returns invariant-loop-k decreases-loop-k
 returns c =
     let a = c.before in
-    let s = a.before.args.s.now in
-    let at = a.before.args.at in
+    let s = a.args.s.now in
+    let at = a.args.at in
     let l = seven_from s at in
-    test_done level_fine (pos 0) l (every level_fine l) a.loop.k a.loop.fine (omega (arith, length-build 7 (f s at))) a.loop.invariant.1
+    test_done level_fine (pos 0) l (every level_fine l) a.loop-k.k a.loop-k.fine (omega (arith, length-build 7 (f s at))) a.loop-k.invariant.1
 
 pub seven_levels_spec : {M : Type 1} → statement M
-seven_levels_spec = tie.close (tie.spec invariant_loop decreases-loop loop_holds add-fine mul-fine shared-slice-copy-out-fine fine-requires add-k loop-less loop_again returns)
+seven_levels_spec = tie.close (tie.spec invariant-loop-k decreases-loop-k loop-k-init overflow_add-at offset_bounds-s-at bounds-s-at fine-level-requires overflow_step-k loop-k-smaller loop-k-preserved returns)

@@ -14,86 +14,86 @@ use Rattle.needed.proofs.stored.stored_fine.Tie as tie
 fine-requires : tie.Need-fine-requires
 fine-requires c κs = search rules
 
-returns : tie.Need-returns
-returns c =
-    let a = c.before.before.args in
-    sym (no-quantiser a.p.bits_per_pixel a.p.quantiser_scale (around_by a.p a.store.now) (flag_refuses c.before.fine.ensures c.if1.taken))
+returns-then-not-fine : tie.Need-returns-then-not-fine
+returns-then-not-fine c =
+    let a = c.args in
+    sym (no-quantiser a.p.bits_per_pixel a.p.quantiser_scale (around_by a.p a.store.now) (flag_refuses c.fine.ensures c.if-not-fine.true))
 
-place-lies-requires : tie.Need-place-lies-requires
-place-lies-requires c κs = search rules
+place_lies-requires : tie.Need-place_lies-requires
+place_lies-requires c κs = search rules
 
 plainly-requires : tie.Need-plainly-requires
 plainly-requires c κs = search rules
 
-returns_2 : tie.Need-returns-2
-returns_2 c = search rules
+returns-then-not-place_lies : tie.Need-returns-then-not-place_lies
+returns-then-not-place_lies c = search rules
 
 -- the quantiser is one, and the records lie in the store
-quantiser-ok : (c : tie.Else2) → quantiser_fine c.before.before.before.before.args.p.quantiser_scale ≡ true
-quantiser-ok c = let t = c.before.before in flag_passes t.before.fine.ensures t.if1.left
+quantiser-ok : (c : tie.Else-not-place_lies) → quantiser_fine c.args.p.quantiser_scale ≡ true
+quantiser-ok c = let t = c.before.before in flag_passes t.fine.ensures t.if-not-fine.false
 
-place_ok : (c : tie.Else2) → place_lies (length c.before.before.before.before.args.store.now) c.before.before.before.before.args.p ≡ true
-place_ok c = flag_passes c.before.place-lies.ensures c.if2.left
+place_ok : (c : tie.Else-not-place_lies) → place_lies (length c.args.store.now) c.args.p ≡ true
+place_ok c = flag_passes c.place_lies.ensures c.if-not-place_lies.false
 
-left-if-requires : tie.Need-left-if-requires
-left-if-requires c κs =
-    let a = c.before.before.before.before.args in
+left_if-requires : tie.Need-left_if-requires
+left_if-requires c κs =
+    let a = c.args in
     (place_each (length a.store.now) a.p (place_ok c)).0
 
-returns_3 : tie.Need-returns-3
-returns_3 c =
+returns-then-not-left_if : tie.Need-returns-then-not-left_if
+returns-then-not-left_if c =
     let t = c.before.before in
-    let a = t.before.before.before.before.args in
-    rw (three_tests a.p.bits_per_pixel a.p.quantiser_scale (around_by a.p a.store.now) (quantiser-ok t), flag_refuses c.before.left-if.ensures c.if3.taken)
+    let a = t.args in
+    rw (three_tests a.p.bits_per_pixel a.p.quantiser_scale (around_by a.p a.store.now) (quantiser-ok t), flag_refuses c.left_if.ensures c.if-not-left_if.true)
 
-above-left-if-requires : tie.Need-above-left-if-requires
-above-left-if-requires c κs =
+above_left_if-requires : tie.Need-above_left_if-requires
+above_left_if-requires c κs =
     let t = c.before.before in
-    let a = t.before.before.before.before.args in
+    let a = t.args in
     (place_each (length a.store.now) a.p (place_ok t)).1
 
-returns_4 : tie.Need-returns-4
-returns_4 c =
+returns-then-not-above_left_if : tie.Need-returns-then-not-above_left_if
+returns-then-not-above_left_if c =
     let u = c.before.before in
     let t = u.before.before in
-    let a = t.before.before.before.before.args in
+    let a = t.args in
     rw (
       three_tests a.p.bits_per_pixel a.p.quantiser_scale (around_by a.p a.store.now) (quantiser-ok t),
-      flag_passes u.before.left-if.ensures u.if3.left,
-      flag_refuses c.before.above-left-if.ensures c.if4.taken,
+      flag_passes u.left_if.ensures u.if-not-left_if.false,
+      flag_refuses c.above_left_if.ensures c.if-not-above_left_if.true,
     )
 
-above-if-requires : tie.Need-above-if-requires
-above-if-requires c κs =
+above_if-requires : tie.Need-above_if-requires
+above_if-requires c κs =
     let t = c.before.before.before.before in
-    let a = t.before.before.before.before.args in
+    let a = t.args in
     (place_each (length a.store.now) a.p (place_ok t)).2
 
-returns_5 : tie.Need-returns-5
-returns_5 c =
+returns : tie.Need-returns
+returns c =
     let v = c.before in
     let u = v.before.before in
     let t = u.before.before in
-    let a = t.before.before.before.before.args in
+    let a = t.args in
     rw (
       three_tests a.p.bits_per_pixel a.p.quantiser_scale (around_by a.p a.store.now) (quantiser-ok t),
-      flag_passes u.before.left-if.ensures u.if3.left,
-      flag_passes v.before.above-left-if.ensures v.if4.left,
+      flag_passes u.left_if.ensures u.if-not-left_if.false,
+      flag_passes v.above_left_if.ensures v.if-not-above_left_if.false,
     )
-    c.Above-if.ensures
+    c.above_if.ensures
 
 pub stored_fine_spec : {M : Type 1} → statement M
 stored_fine_spec =
     tie.close
     (tie.spec
     fine-requires
-    returns
-    place-lies-requires
+    returns-then-not-fine
+    place_lies-requires
     plainly-requires
-    returns_2
-    left-if-requires
-    returns_3
-    above-left-if-requires
-    returns_4
-    above-if-requires
-    returns_5)
+    returns-then-not-place_lies
+    left_if-requires
+    returns-then-not-left_if
+    above_left_if-requires
+    returns-then-not-above_left_if
+    above_if-requires
+    returns)

@@ -9,41 +9,41 @@ use Rattle.neighbours.proofs.TakenLaws.{taken_due_lem}
 use Rattle.neighbours.proofs.predictors.block_predictors.Statement.{statement}
 use Rattle.neighbours.proofs.predictors.block_predictors.Tie as tie
 
-check-taken-requires : tie.Need-check-taken-requires
-check-taken-requires c κs = tt
+check_taken-answer-requires : tie.Need-check_taken-answer-requires
+check_taken-answer-requires c κs = tt
 
-enum-known-answer : tie.Need-enum-known-answer
-enum-known-answer c = search rules
+enum_known-answer : tie.Need-enum_known-answer
+enum_known-answer c = search rules
 
-outside-requires : tie.Need-outside-requires
-outside-requires c κs = tt
+outside-predictors-requires : tie.Need-outside-predictors-requires
+outside-predictors-requires c κs = tt
 
-enum_told : tie.Need-enum-told
-enum_told c = search rules
+enum_told-1 : tie.Need-enum_told-1
+enum_told-1 c = search rules
 
-taken-by-requires : tie.Need-taken-by-requires
-taken-by-requires c κs = tt
+taken_by-predictors-requires : tie.Need-taken_by-predictors-requires
+taken_by-predictors-requires c κs = tt
 
-returns : tie.Need-returns
-returns c =
-    let t = c.before.before.before.before in
-    let a = t.before.args in
-    also recorded_outcome (beside _ _ (sym t.check-taken.ensures.0 ∙ c.before.before.answer.given.1) c.outside.ensures) (taken_due_lem (length a.store.now) (length a.own.now) a.p a.i)
+returns-in-Refused : tie.Need-returns-in-Refused
+returns-in-Refused c =
+    let t = c.before.before in
+    let a = t.args in
+    also recorded_outcome (beside _ _ (sym t.check_taken-answer.ensures.0 ∙ c.in-Refused.is) c.outside-predictors.ensures) (taken_due_lem (length a.store.now) (length a.own.now) a.p a.i)
 
-returns_2 : tie.Need-returns-2
-returns_2 c =
-    let t = c.before.before.before in
-    let a = t.before.args in
-    also recorded_outcome (beside _ _ (sym t.check-taken.ensures.0 ∙ c.before.enum_told.given.1) c.taken-by.ensures) (taken_due_lem (length a.store.now) (length a.own.now) a.p a.i)
+returns-in-Done : tie.Need-returns-in-Done
+returns-in-Done c =
+    let t = c.before.before in
+    let a = t.args in
+    also recorded_outcome (beside _ _ (sym t.check_taken-answer.ensures.0 ∙ c.in-Done.is) c.taken_by-predictors.ensures) (taken_due_lem (length a.store.now) (length a.own.now) a.p a.i)
 
 pub block_predictors_spec : {M : Type 1} → statement M
 block_predictors_spec =
     tie.close
     (tie.spec
-    check-taken-requires
-    enum-known-answer
-    outside-requires
-    enum_told
-    taken-by-requires
-    returns
-    returns_2)
+    check_taken-answer-requires
+    enum_known-answer
+    outside-predictors-requires
+    enum_told-1
+    taken_by-predictors-requires
+    returns-in-Refused
+    returns-in-Done)

@@ -3,79 +3,79 @@ use borrow.Author.Rules.{rules}
 use Rattle.neighbours.proofs.predictors.neighbour.Statement.{statement}
 use Rattle.neighbours.proofs.predictors.neighbour.Tie as tie
 
-enum_told : tie.Need-enum-told
-enum_told c = search rules
+enum_told-1 : tie.Need-enum_told-1
+enum_told-1 c = search rules
 
 known-requires : tie.Need-known-requires
 known-requires c κs = search rules
 
-enum-told-2 : tie.Need-enum-told-2
-enum-told-2 c = search rules
+enum_told-in-Left : tie.Need-enum_told-in-Left
+enum_told-in-Left c = search rules
 
-known-requires-2 : tie.Need-known-requires-2
-known-requires-2 c κs = search rules
+known-requires-then-p : tie.Need-known-requires-then-p
+known-requires-then-p c κs = search rules
 
 missing-requires : tie.Need-missing-requires
 missing-requires c κs = search rules
 
-enum-told-3 : tie.Need-enum-told-3
-enum-told-3 c = search rules
+enum_told-in-AboveLeft : tie.Need-enum_told-in-AboveLeft
+enum_told-in-AboveLeft c = search rules
 
-known-requires-3 : tie.Need-known-requires-3
-known-requires-3 c κs = search rules
+known-requires-then-p-2 : tie.Need-known-requires-then-p-2
+known-requires-then-p-2 c κs = search rules
 
-missing-requires-2 : tie.Need-missing-requires-2
-missing-requires-2 c κs = search rules
+missing-requires-else-p-2 : tie.Need-missing-requires-else-p-2
+missing-requires-else-p-2 c κs = search rules
 
-enum-told-4 : tie.Need-enum-told-4
-enum-told-4 c = search rules
+enum_told-in-Above : tie.Need-enum_told-in-Above
+enum_told-in-Above c = search rules
 
-known-requires-4 : tie.Need-known-requires-4
-known-requires-4 c κs = search rules
+known-requires-then-p-3 : tie.Need-known-requires-then-p-3
+known-requires-then-p-3 c κs = search rules
 
-missing-requires-3 : tie.Need-missing-requires-3
-missing-requires-3 c κs = search rules
+missing-requires-else-p-3 : tie.Need-missing-requires-else-p-3
+missing-requires-else-p-3 c κs = search rules
 
-returns : tie.Need-returns
-returns c = rw c.before.enum_told.given.1 c.known.ensures
+returns-in-Own : tie.Need-returns-in-Own
+returns-in-Own c = rw c.in-Own.is c.known.ensures
 
-returns_2 : tie.Need-returns-2
-returns_2 c = rw (c.before.before.enum-told2.given.1, c.before.if1.true) c.known2.ensures
+returns-then-p : tie.Need-returns-then-p
+returns-then-p c = rw (c.in-Left.is, c.if-p.true) c.known-then-p.ensures
 
-returns_3 : tie.Need-returns-3
-returns_3 c = rw (c.before.before.enum-told2.given.1, c.before.if1.false) c.missing.ensures
+returns-else-p : tie.Need-returns-else-p
+returns-else-p c = rw (c.in-Left.is, c.if-p.false) c.missing.ensures
 
-returns_4 : tie.Need-returns-4
-returns_4 c = rw (c.before.before.enum-told3.given.1, c.before.if2.true) c.known3.ensures
+returns-then-p-2 : tie.Need-returns-then-p-2
+returns-then-p-2 c = rw (c.in-AboveLeft.is, c.if-p-2.true) c.known-then-p-2.ensures
 
-returns_5 : tie.Need-returns-5
-returns_5 c = rw (c.before.before.enum-told3.given.1, c.before.if2.false) c.missing2.ensures
+returns-else-p-2 : tie.Need-returns-else-p-2
+returns-else-p-2 c = rw (c.in-AboveLeft.is, c.if-p-2.false) c.missing-else-p-2.ensures
 
-returns_6 : tie.Need-returns-6
-returns_6 c = rw (c.before.before.enum-told4.given.1, c.before.if3.true) c.known4.ensures
+returns-then-p-3 : tie.Need-returns-then-p-3
+returns-then-p-3 c = rw (c.in-Above.is, c.if-p-3.true) c.known-then-p-3.ensures
 
-returns-7 : tie.Need-returns-7
-returns-7 c = rw (c.before.before.enum-told4.given.1, c.before.if3.false) c.missing3.ensures
+returns-else-p-3 : tie.Need-returns-else-p-3
+returns-else-p-3 c = rw (c.in-Above.is, c.if-p-3.false) c.missing-else-p-3.ensures
 
 pub neighbour_spec : {M : Type 1} → statement M
 neighbour_spec =
     tie.close
     (tie.spec
-    enum_told
+    enum_told-1
     known-requires
-    enum-told-2
-    known-requires-2
+    enum_told-in-Left
+    known-requires-then-p
     missing-requires
-    enum-told-3
-    known-requires-3
-    missing-requires-2
-    enum-told-4
-    known-requires-4
-    missing-requires-3
-    returns
-    returns_2
-    returns_3
-    returns_4
-    returns_5
-    returns_6
-    returns-7)
+    enum_told-in-AboveLeft
+    known-requires-then-p-2
+    missing-requires-else-p-2
+    enum_told-in-Above
+    known-requires-then-p-3
+    missing-requires-else-p-3
+    returns-in-Own
+    returns-then-p
+    returns-else-p
+    returns-then-p-2
+    returns-else-p-2
+    returns-then-p-3
+    returns-else-p-3)

@@ -5,79 +5,79 @@ use Rattle.numbers.proofs.Words.{held}
 use Rattle.neighbours.proofs.predictors.neighbour_dc.Statement.{statement}
 use Rattle.neighbours.proofs.predictors.neighbour_dc.Tie as tie
 
-enum_told : tie.Need-enum-told
-enum_told c = search rules
+enum_told-1 : tie.Need-enum_told-1
+enum_told-1 c = search rules
 
-known-dc-requires : tie.Need-known-dc-requires
-known-dc-requires c κs = search rules
+known_dc-requires : tie.Need-known_dc-requires
+known_dc-requires c κs = search rules
 
-enum-told-2 : tie.Need-enum-told-2
-enum-told-2 c = search rules
+enum_told-in-Left : tie.Need-enum_told-in-Left
+enum_told-in-Left c = search rules
 
-known-dc-requires-2 : tie.Need-known-dc-requires-2
-known-dc-requires-2 c κs = search rules
+known_dc-requires-then-p : tie.Need-known_dc-requires-then-p
+known_dc-requires-then-p c κs = search rules
 
-no-dc-requires : tie.Need-no-dc-requires
-no-dc-requires c κs = search rules
+no_dc-requires : tie.Need-no_dc-requires
+no_dc-requires c κs = search rules
 
-enum-told-3 : tie.Need-enum-told-3
-enum-told-3 c = search rules
+enum_told-in-AboveLeft : tie.Need-enum_told-in-AboveLeft
+enum_told-in-AboveLeft c = search rules
 
-known-dc-requires-3 : tie.Need-known-dc-requires-3
-known-dc-requires-3 c κs = search rules
+known_dc-requires-then-p-2 : tie.Need-known_dc-requires-then-p-2
+known_dc-requires-then-p-2 c κs = search rules
 
-no-dc-requires-2 : tie.Need-no-dc-requires-2
-no-dc-requires-2 c κs = search rules
+no_dc-requires-else-p-2 : tie.Need-no_dc-requires-else-p-2
+no_dc-requires-else-p-2 c κs = search rules
 
-enum-told-4 : tie.Need-enum-told-4
-enum-told-4 c = search rules
+enum_told-in-Above : tie.Need-enum_told-in-Above
+enum_told-in-Above c = search rules
 
-known-dc-requires-4 : tie.Need-known-dc-requires-4
-known-dc-requires-4 c κs = search rules
+known_dc-requires-then-p-3 : tie.Need-known_dc-requires-then-p-3
+known_dc-requires-then-p-3 c κs = search rules
 
-no-dc-requires-3 : tie.Need-no-dc-requires-3
-no-dc-requires-3 c κs = search rules
+no_dc-requires-else-p-3 : tie.Need-no_dc-requires-else-p-3
+no_dc-requires-else-p-3 c κs = search rules
 
-returns : tie.Need-returns
-returns c = rw c.before.enum_told.given.1 (held c.known-dc.result c.known-dc.type-inv ∙ c.known-dc.ensures)
+returns-in-Own : tie.Need-returns-in-Own
+returns-in-Own c = rw c.in-Own.is (held c.known_dc.result c.known_dc.type_inv ∙ c.known_dc.ensures)
 
-returns_2 : tie.Need-returns-2
-returns_2 c = rw (c.before.before.enum-told2.given.1, c.before.if1.true) (held c.known-dc2.result c.known-dc2.type-inv ∙ c.known-dc2.ensures)
+returns-then-p : tie.Need-returns-then-p
+returns-then-p c = rw (c.in-Left.is, c.if-p.true) (held c.known_dc-then-p.result c.known_dc-then-p.type_inv ∙ c.known_dc-then-p.ensures)
 
-returns_3 : tie.Need-returns-3
-returns_3 c = rw (c.before.before.enum-told2.given.1, c.before.if1.false) (held c.no-dc.result c.no-dc.type-inv ∙ c.no-dc.ensures)
+returns-else-p : tie.Need-returns-else-p
+returns-else-p c = rw (c.in-Left.is, c.if-p.false) (held c.no_dc.result c.no_dc.type_inv ∙ c.no_dc.ensures)
 
-returns_4 : tie.Need-returns-4
-returns_4 c = rw (c.before.before.enum-told3.given.1, c.before.if2.true) (held c.known-dc3.result c.known-dc3.type-inv ∙ c.known-dc3.ensures)
+returns-then-p-2 : tie.Need-returns-then-p-2
+returns-then-p-2 c = rw (c.in-AboveLeft.is, c.if-p-2.true) (held c.known_dc-then-p-2.result c.known_dc-then-p-2.type_inv ∙ c.known_dc-then-p-2.ensures)
 
-returns_5 : tie.Need-returns-5
-returns_5 c = rw (c.before.before.enum-told3.given.1, c.before.if2.false) (held c.no-dc2.result c.no-dc2.type-inv ∙ c.no-dc2.ensures)
+returns-else-p-2 : tie.Need-returns-else-p-2
+returns-else-p-2 c = rw (c.in-AboveLeft.is, c.if-p-2.false) (held c.no_dc-else-p-2.result c.no_dc-else-p-2.type_inv ∙ c.no_dc-else-p-2.ensures)
 
-returns_6 : tie.Need-returns-6
-returns_6 c = rw (c.before.before.enum-told4.given.1, c.before.if3.true) (held c.known-dc4.result c.known-dc4.type-inv ∙ c.known-dc4.ensures)
+returns-then-p-3 : tie.Need-returns-then-p-3
+returns-then-p-3 c = rw (c.in-Above.is, c.if-p-3.true) (held c.known_dc-then-p-3.result c.known_dc-then-p-3.type_inv ∙ c.known_dc-then-p-3.ensures)
 
-returns-7 : tie.Need-returns-7
-returns-7 c = rw (c.before.before.enum-told4.given.1, c.before.if3.false) (held c.no-dc3.result c.no-dc3.type-inv ∙ c.no-dc3.ensures)
+returns-else-p-3 : tie.Need-returns-else-p-3
+returns-else-p-3 c = rw (c.in-Above.is, c.if-p-3.false) (held c.no_dc-else-p-3.result c.no_dc-else-p-3.type_inv ∙ c.no_dc-else-p-3.ensures)
 
 pub neighbour_dc_spec : {M : Type 1} → statement M
 neighbour_dc_spec =
     tie.close
     (tie.spec
-    enum_told
-    known-dc-requires
-    enum-told-2
-    known-dc-requires-2
-    no-dc-requires
-    enum-told-3
-    known-dc-requires-3
-    no-dc-requires-2
-    enum-told-4
-    known-dc-requires-4
-    no-dc-requires-3
-    returns
-    returns_2
-    returns_3
-    returns_4
-    returns_5
-    returns_6
-    returns-7)
+    enum_told-1
+    known_dc-requires
+    enum_told-in-Left
+    known_dc-requires-then-p
+    no_dc-requires
+    enum_told-in-AboveLeft
+    known_dc-requires-then-p-2
+    no_dc-requires-else-p-2
+    enum_told-in-Above
+    known_dc-requires-then-p-3
+    no_dc-requires-else-p-3
+    returns-in-Own
+    returns-then-p
+    returns-else-p
+    returns-then-p-2
+    returns-else-p-2
+    returns-then-p-3
+    returns-else-p-3)

@@ -6,11 +6,11 @@ use Rattle.record.specs.declared.record.Side.{Side}
 use Rattle.neighbours.proofs.predictors.no_dc.Statement.{statement}
 use Rattle.neighbours.proofs.predictors.no_dc.Tie as tie
 
-missing-requires : tie.Need-missing-requires
-missing-requires c κs = search rules
+missing-none-requires : tie.Need-missing-none-requires
+missing-none-requires c κs = search rules
 
 returns : tie.Need-returns
-returns c = held c.before.missing.result.dc (search rules) ∙ ap (λ (s : Side). s.dc) c.before.missing.ensures
+returns c = held c.missing-none.result.dc (search rules) ∙ ap (λ (s : Side). s.dc) c.missing-none.ensures
 
 pub no_dc_spec : {M : Type 1} → statement M
-no_dc_spec = tie.close (tie.spec missing-requires returns)
+no_dc_spec = tie.close (tie.spec missing-none-requires returns)

@@ -9,32 +9,32 @@ use Rattle.neighbours.proofs.SideLaws.{predictors_of, side_here, side_is}
 use Rattle.neighbours.proofs.predictors.taken_by.Statement.{statement}
 use Rattle.neighbours.proofs.predictors.taken_by.Tie as tie
 
-a-source-requires : tie.Need-a-source-requires
-a-source-requires c κs = search rules
+a_source-requires : tie.Need-a_source-requires
+a_source-requires c κs = search rules
 
-a-block-requires : tie.Need-a-block-requires
-a-block-requires c κs = search rules
+a_block-requires : tie.Need-a_block-requires
+a_block-requires c κs = search rules
 
-neighbour-requires : tie.Need-neighbour-requires
-neighbour-requires c κs = search rules
+neighbour-a-requires : tie.Need-neighbour-a-requires
+neighbour-a-requires c κs = search rules
 
-b-source-requires : tie.Need-b-source-requires
-b-source-requires c κs = search rules
+b_source-requires : tie.Need-b_source-requires
+b_source-requires c κs = search rules
 
-b-block-requires : tie.Need-b-block-requires
-b-block-requires c κs = search rules
+b_block-requires : tie.Need-b_block-requires
+b_block-requires c κs = search rules
 
-neighbour-dc-requires : tie.Need-neighbour-dc-requires
-neighbour-dc-requires c κs = search rules
+neighbour_dc-b-requires : tie.Need-neighbour_dc-b-requires
+neighbour_dc-b-requires c κs = search rules
 
-c-source-requires : tie.Need-c-source-requires
-c-source-requires c κs = search rules
+c_source-requires : tie.Need-c_source-requires
+c_source-requires c κs = search rules
 
-c-block-requires : tie.Need-c-block-requires
-c-block-requires c κs = search rules
+c_block-requires : tie.Need-c_block-requires
+c_block-requires c κs = search rules
 
-neighbour-requires-2 : tie.Need-neighbour-requires-2
-neighbour-requires-2 c κs = search rules
+neighbour-c-requires : tie.Need-neighbour-c-requires
+neighbour-c-requires c κs = search rules
 
 join-requires : tie.Need-join-requires
 join-requires c κs = search rules
@@ -49,24 +49,24 @@ returns c =
     let here = side_here a.p.bits_per_pixel a.p.quantiser_scale a.p a.store.now a.own.now in
     c.join.ensures
     ∙ predictors_of _ _ _ _ a.i
-    (n₁.neighbour.ensures ∙ side_is _ _ _ _ n₁.before.before.a-source.ensures n₁.before.a_Block.ensures.0 ∙ here (a_source a.i) (a_block a.i) (a_below a.i))
-    (held n₂.neighbour-dc.result n₂.neighbour-dc.type-inv
-    ∙ n₂.neighbour-dc.ensures
-    ∙ ap (λ (s : Side). s.dc) (side_is _ _ _ _ n₂.before.before.b-source.ensures n₂.before.b-block.ensures.0 ∙ here (b_source a.i) (b_block a.i) (b_below a.i)))
-    (n₃.neighbour2.ensures ∙ side_is _ _ _ _ n₃.before.before.c-source.ensures n₃.before.c-block.ensures.0 ∙ here (c_source a.i) (c_block a.i) (c-below a.i))
+    (n₁.neighbour-a.ensures ∙ side_is _ _ _ _ n₁.a_source.ensures n₁.a_block.ensures.0 ∙ here (a_source a.i) (a_block a.i) (a_below a.i))
+    (held n₂.neighbour_dc-b.result n₂.neighbour_dc-b.type_inv
+    ∙ n₂.neighbour_dc-b.ensures
+    ∙ ap (λ (s : Side). s.dc) (side_is _ _ _ _ n₂.b_source.ensures n₂.b_block.ensures.0 ∙ here (b_source a.i) (b_block a.i) (b_below a.i)))
+    (n₃.neighbour-c.ensures ∙ side_is _ _ _ _ n₃.c_source.ensures n₃.c_block.ensures.0 ∙ here (c_source a.i) (c_block a.i) (c-below a.i))
 
 pub taken_by_spec : {M : Type 1} → statement M
 taken_by_spec =
     tie.close
     (tie.spec
-    a-source-requires
-    a-block-requires
-    neighbour-requires
-    b-source-requires
-    b-block-requires
-    neighbour-dc-requires
-    c-source-requires
-    c-block-requires
-    neighbour-requires-2
+    a_source-requires
+    a_block-requires
+    neighbour-a-requires
+    b_source-requires
+    b_block-requires
+    neighbour_dc-b-requires
+    c_source-requires
+    c_block-requires
+    neighbour-c-requires
     join-requires
     returns)

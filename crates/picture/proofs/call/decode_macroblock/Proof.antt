@@ -9,53 +9,53 @@ use Rattle.picture.proofs.call.decode_macroblock.Tie as tie
 
 -- what the call brings
 abbrev brought : tie.Start → Input
-brought s = let a = s.args in given a.«data».now a.c.bit_pos a.header a.m a.quant-matrix a.samples.now
+brought s = let a = s.args in given a.«data».now a.c.bit_pos a.header a.m a.quant_matrix a.samples.now
 
-check-state-requires : tie.Need-check-state-requires
-check-state-requires c κs = search rules
+check_state-checked-requires : tie.Need-check_state-checked-requires
+check_state-checked-requires c κs = search rules
 
-enum-known-checked : tie.Need-enum-known-checked
-enum-known-checked c = search rules
+enum_known-checked : tie.Need-enum_known-checked
+enum_known-checked c = search rules
 
-enum-known-checked-2 : tie.Need-enum-known-checked-2
-enum-known-checked-2 c = search rules
+enum_known-checked-in-Ready-1 : tie.Need-enum_known-checked-in-Ready-1
+enum_known-checked-in-Ready-1 c = search rules
 
-decode-due-requires : tie.Need-decode-due-requires
-decode-due-requires c κs =
-    let t = c.before.before.before in
-    let k = t.before.before in
+decode_due-requires : tie.Need-decode_due-requires
+decode_due-requires c κs =
+    let t = c.before.before in
+    let k = t.before in
     let s = k.before.before.before in
-    checked_ready s.args.p (context_here s.args.p (brought s)) (state_here s.args.p (brought s) s.args.store.now) (sym k.check-state.ensures.0 ∙ t.checked2.given.1)
+    checked_ready s.args.p (context_here s.args.p (brought s)) (state_here s.args.p (brought s) s.args.store.now) (sym k.check_state-checked.ensures.0 ∙ t.in-Ready.is)
 
-same_length : tie.Need-same-length
-same_length c = search rules
+shape_of-store-in-Refused : tie.Need-shape_of-store-in-Refused
+shape_of-store-in-Refused c = search rules
 
-returns : tie.Need-returns
-returns c =
-    let k = c.before.before.before in
+returns-in-Refused : tie.Need-returns-in-Refused
+returns-in-Refused c =
+    let k = c.before in
     let s = k.before.before.before in
     let x = brought s in
-    refused s.args.p x s.args.store.now (checked_refused s.args.p (context_here s.args.p x) (state_here s.args.p x s.args.store.now) (sym k.check-state.ensures.0 ∙ c.before.checked.given.1))
+    refused s.args.p x s.args.store.now (checked_refused s.args.p (context_here s.args.p x) (state_here s.args.p x s.args.store.now) (sym k.check_state-checked.ensures.0 ∙ c.in-Refused.is))
 
-same-length-2 : tie.Need-same-length-2
-same-length-2 c = search rules
+shape_of-samples : tie.Need-shape_of-samples
+shape_of-samples c = search rules
 
-same-length-3 : tie.Need-same-length-3
-same-length-3 c = search rules
+shape_of-store-in-Ready : tie.Need-shape_of-store-in-Ready
+shape_of-store-in-Ready c = search rules
 
-returns_2 : tie.Need-returns-2
-returns_2 c = search rules
+returns-in-Ready : tie.Need-returns-in-Ready
+returns-in-Ready c = search rules
 
 pub decode_macroblock_spec : {M : Type 1} → statement M
 decode_macroblock_spec =
     tie.close
     (tie.spec
-    check-state-requires
-    enum-known-checked
-    enum-known-checked-2
-    decode-due-requires
-    same_length
-    returns
-    same-length-2
-    same-length-3
-    returns_2)
+    check_state-checked-requires
+    enum_known-checked
+    enum_known-checked-in-Ready-1
+    decode_due-requires
+    shape_of-store-in-Refused
+    returns-in-Refused
+    shape_of-samples
+    shape_of-store-in-Ready
+    returns-in-Ready)

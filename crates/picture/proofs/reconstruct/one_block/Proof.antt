@@ -16,64 +16,64 @@ use Rattle.picture.proofs.reconstruct.one_block.Tie as tie
 abbrev dc : tie.Start → ℤ
 dc s = let a = s.args in dc_here (component_at a.i) a.ctx (taken_by a.ctx a.place a.store.now a.own.now a.i) a.w a.qfs.now
 
-rebuilt : (r : tie.After-reconstruct-up-to) → r.reconstruct-up-to.result ≡ Rebuilt (dc r.before.before.before.before.before.before.before)
+rebuilt : (r : tie.After-reconstruct_up_to-one) → r.reconstruct_up_to-one.result ≡ Rebuilt (dc r.before.before.before.before.before.before.before)
 rebuilt r =
     let b = r.before.before.before.before in
     let s = b.before.before.before in
     let a = s.args in
-    rebuilt_is a.ctx a.w a.place a.store.now a.own.now a.qfs.now a.i a.end (length a.samples.now) s.requires _ _ b.predictors-needed.ensures.0.1 r.reconstruct-up-to.ensures.0
+    rebuilt_is a.ctx a.w a.place a.store.now a.own.now a.qfs.now a.i a.end (length a.samples.now) s.requires _ _ b.predictors_needed.ensures.0.1 r.reconstruct_up_to-one.ensures.0
 
-predictors-needed-requires : tie.Need-predictors-needed-requires
-predictors-needed-requires c κs = search rules
+predictors_needed-requires : tie.Need-predictors_needed-requires
+predictors_needed-requires c κs = search rules
 
-reconstruct-up-to-requires : tie.Need-reconstruct-up-to-requires
-reconstruct-up-to-requires c κs = search rules
+reconstruct_up_to-one-requires : tie.Need-reconstruct_up_to-one-requires
+reconstruct_up_to-one-requires c κs = search rules
 
-enum-known-one : tie.Need-enum-known-one
-enum-known-one c = c.match.keys1
+enum_known-one : tie.Need-enum_known-one
+enum_known-one c = c.in-Rebuilt.keys1
 
-enum_told : tie.Need-enum-told
-enum_told c = c.match.keys2
+enum_told-1 : tie.Need-enum_told-1
+enum_told-1 c = c.in_default.keys2
 
-same_length : tie.Need-same-length
-same_length c = refl
+shape_of-own-in_default : tie.Need-shape_of-own-in_default
+shape_of-own-in_default c = refl
 
-returns : tie.Need-returns
-returns c = absurd (not-refused (rebuilt c.before.before) c.enum_told.given.1)
+returns-in_default : tie.Need-returns-in_default
+returns-in_default c = absurd (not-refused (rebuilt c.before) c.in_default.is)
 
 put-requires : tie.Need-put-requires
 put-requires c κs = search rules
 
-same-length-2 : tie.Need-same-length-2
-same-length-2 c = search rules
+shape_of-own : tie.Need-shape_of-own
+shape_of-own c = search rules
 
-same-length-3 : tie.Need-same-length-3
-same-length-3 c = search rules
+shape_of-samples : tie.Need-shape_of-samples
+shape_of-samples c = search rules
 
-returns_2 : tie.Need-returns-2
-returns_2 c =
+returns : tie.Need-returns
+returns c =
     let v = c.before.before in
     let k = v.before.before.before in
-    let r = k.before.before.before in
+    let r = k.before in
     let b = r.before.before.before.before in
     let s = b.before.before.before in
     let a = s.args in
-    let e = b.predictors-needed.ensures.0.1 in (
-      record_is a.ctx a.w a.place a.store.now a.own.now a.qfs.now a.i a.end (length a.samples.now) s.requires _ _ e _ (held k.before.one.given.0.0 k.known-told.given.0.1 ∙ same-dc (rebuilt r) k.before.one.given.1) r.reconstruct-up-to.ensures.1.1.0 v.put.ensures.0,
-      samples-are a.ctx a.w a.place a.store.now a.own.now a.qfs.now a.i a.end (length a.samples.now) s.requires _ _ e a.samples.now _ r.reconstruct-up-to.ensures.1.0 v.put.ensures.1,
+    let e = b.predictors_needed.ensures.0.1 in (
+      record_is a.ctx a.w a.place a.store.now a.own.now a.qfs.now a.i a.end (length a.samples.now) s.requires _ _ e _ (held k.in-Rebuilt.dc k.in-Rebuilt.known_told-1-own.given.0.1 ∙ same-dc (rebuilt r) k.in-Rebuilt.is) r.reconstruct_up_to-one.ensures.1.1.0 v.put.ensures.0,
+      samples-are a.ctx a.w a.place a.store.now a.own.now a.qfs.now a.i a.end (length a.samples.now) s.requires _ _ e a.samples.now _ r.reconstruct_up_to-one.ensures.1.0 v.put.ensures.1,
     )
 
 pub one_block_spec : {M : Type 1} → statement M
 one_block_spec =
     tie.close
     (tie.spec
-    predictors-needed-requires
-    reconstruct-up-to-requires
-    enum-known-one
-    enum_told
-    same_length
-    returns
+    predictors_needed-requires
+    reconstruct_up_to-one-requires
+    enum_known-one
+    enum_told-1
+    shape_of-own-in_default
+    returns-in_default
     put-requires
-    same-length-2
-    same-length-3
-    returns_2)
+    shape_of-own
+    shape_of-samples
+    returns)

@@ -9,26 +9,26 @@ use Rattle.record.specs.Refusals.{block_tests, first_bad, unless}
 use Rattle.picture.proofs.reconstruct.put.Statement.{statement}
 use Rattle.picture.proofs.reconstruct.put.Tie as tie
 
-write-one-requires : tie.Need-write-one-requires
-write-one-requires c κs = search rules
+write_one-requires : tie.Need-write_one-requires
+write_one-requires c κs = search rules
 
-with-block-requires : tie.Need-with-block-requires
-with-block-requires c κs = search rules
+with_block-requires : tie.Need-with_block-requires
+with_block-requires c κs = search rules
 
-same_length : tie.Need-same-length
-same_length c = search rules
+shape_of-samples : tie.Need-shape_of-samples
+shape_of-samples c = search rules
 
-same-length-2 : tie.Need-same-length-2
-same-length-2 c = search rules
+shape_of-own : tie.Need-shape_of-own
+shape_of-own c = search rules
 
 returns : tie.Need-returns
 returns c =
     let s = c.before.before.before.before.before.before in
     let a = s.args in
     let own = a.own.now in (
-      c.before.with-block.ensures.0.1 ∙ ap (λ (z : ℤ). unless (first_bad (block_tests (length own) a.i)) (with_block own a.i z a.qf) own) (to_z-of_z s.ranges.dc),
-      c.before.before.before.before.write-one.ensures.0.1,
+      c.with_block.ensures.0.1 ∙ ap (λ (z : ℤ). unless (first_bad (block_tests (length own) a.i)) (with_block own a.i z a.qf) own) (to_z-of_z s.ranges.dc),
+      c.write_one.ensures.0.1,
     )
 
 pub put_spec : {M : Type 1} → statement M
-put_spec = tie.close (tie.spec write-one-requires with-block-requires same_length same-length-2 returns)
+put_spec = tie.close (tie.spec write_one-requires with_block-requires shape_of-samples shape_of-own returns)

@@ -15,91 +15,91 @@ use Rattle.picture.proofs.whole.decode_macroblock_with_header.Tie as tie
 
 -- what the call brings
 abbrev brought : tie.Start → Bare
-brought s = let a = s.args in bare a.«data».now a.c.bit_pos a.m a.quant-matrix a.samples.now
+brought s = let a = s.args in bare a.«data».now a.c.bit_pos a.m a.quant_matrix a.samples.now
 
 -- the state is fine, and the macroblock that is due is known
-ready : (k : tie.After-known-told2) → let s = k.before.before.before.before.before.before in let a = s.args in
-    (state_bare a.p (brought s) a.store.now ≡ Fine) × (k.before.checked2.given.0.0 ≡ due_of a.p (context_of a.p a.m))
+ready : (k : tie.In-Ready) → let s = k.before.before.before.before.before.before in let a = s.args in
+    (state_bare a.p (brought s) a.store.now ≡ Fine) × (k.in-Ready.due ≡ due_of a.p (context_of a.p a.m))
 ready k =
-    let t = k.before.before.before in
+    let t = k.before in
     let s = t.before.before.before in
     let a = s.args in
-    checked_ready a.p (context_of a.p a.m) (state_bare a.p (brought s) a.store.now) (sym t.check-before-header.ensures.0 ∙ k.before.checked2.given.1)
+    checked_ready a.p (context_of a.p a.m) (state_bare a.p (brought s) a.store.now) (sym t.check_before_header-checked.ensures.0 ∙ k.in-Ready.is)
 
 -- so the header is what the bits say
-read : (r : tie.After-parse-macroblock-header) → let a = r.before.before.before.before.before.before.before.args in let d = a.«data».now in
-    r.parse-macroblock-header.result ≡ header_told d a.m.quantiser_scale (read_header (bits_from d a.c.bit_pos))
+read : (r : tie.After-parse_macroblock_header-read) → let a = r.before.before.before.before.before.before.before.args in let d = a.«data».now in
+    r.parse_macroblock_header-read.result ≡ header_told d a.m.quantiser_scale (read_header (bits_from d a.c.bit_pos))
 read r =
     let s = r.before.before.before.before.before.before.before in
-    r.parse-macroblock-header.ensures.0 ∙ header_asked s.args.p (brought s) s.args.store.now (ready r.before).0
+    r.parse_macroblock_header-read.ensures.0 ∙ header_asked s.args.p (brought s) s.args.store.now (ready r.before).0
 
-check-before-header-requires : tie.Need-check-before-header-requires
-check-before-header-requires c κs = search rules
+check_before_header-checked-requires : tie.Need-check_before_header-checked-requires
+check_before_header-checked-requires c κs = search rules
 
-enum-known-checked : tie.Need-enum-known-checked
-enum-known-checked c = search rules
+enum_known-checked : tie.Need-enum_known-checked
+enum_known-checked c = search rules
 
-enum-known-checked-2 : tie.Need-enum-known-checked-2
-enum-known-checked-2 c = search rules
+enum_known-checked-in-Ready-1 : tie.Need-enum_known-checked-in-Ready-1
+enum_known-checked-in-Ready-1 c = search rules
 
-parse-macroblock-header-requires : tie.Need-parse-macroblock-header-requires
-parse-macroblock-header-requires c κs = search rules
+parse_macroblock_header-read-requires : tie.Need-parse_macroblock_header-read-requires
+parse_macroblock_header-read-requires c κs = search rules
 
-enum-known-read : tie.Need-enum-known-read
-enum-known-read c = search rules
+enum_known-read : tie.Need-enum_known-read
+enum_known-read c = search rules
 
-enum-known-read-2 : tie.Need-enum-known-read-2
-enum-known-read-2 c = search rules
+enum_known-read-in-Read-1 : tie.Need-enum_known-read-in-Read-1
+enum_known-read-in-Read-1 c = search rules
 
-decode-after-requires : tie.Need-decode-after-requires
-decode-after-requires c κs =
-    let k = c.before.before.before in
-    let r = k.before.before in
-    ((ready r.before).0, (ready r.before).1, sym k.read2.given.1 ∙ read r)
+decode_after-requires : tie.Need-decode_after-requires
+decode_after-requires c κs =
+    let k = c.before.before in
+    let r = k.before in
+    ((ready r.before).0, (ready r.before).1, sym k.in-Read.is ∙ read r)
 
-same_length : tie.Need-same-length
-same_length c = search rules
+shape_of-store-in-Refused : tie.Need-shape_of-store-in-Refused
+shape_of-store-in-Refused c = search rules
 
-returns : tie.Need-returns
-returns c =
-    let t = c.before.before.before in
+returns-in-Refused : tie.Need-returns-in-Refused
+returns-in-Refused c =
+    let t = c.before in
     let s = t.before.before.before in
     let a = s.args in
-    bare-refused a.p (brought s) a.store.now (checked_refused a.p (context_of a.p a.m) (state_bare a.p (brought s) a.store.now) (sym t.check-before-header.ensures.0 ∙ c.before.checked.given.1))
+    bare-refused a.p (brought s) a.store.now (checked_refused a.p (context_of a.p a.m) (state_bare a.p (brought s) a.store.now) (sym t.check_before_header-checked.ensures.0 ∙ c.in-Refused.is))
 
-same-length-2 : tie.Need-same-length-2
-same-length-2 c = search rules
+shape_of-store-in-Refused-read : tie.Need-shape_of-store-in-Refused-read
+shape_of-store-in-Refused-read c = search rules
 
-returns_2 : tie.Need-returns-2
-returns_2 c =
-    let r = c.before.before.before in
+returns-in-Refused-read : tie.Need-returns-in-Refused-read
+returns-in-Refused-read c =
+    let r = c.before in
     let s = r.before.before.before.before.before.before.before in
-    header_refused s.args.p (brought s) s.args.store.now (ready r.before).0 _ (read r) c.before.read.given.1
+    header_refused s.args.p (brought s) s.args.store.now (ready r.before).0 _ (read r) c.in-Refused-read.is
 
-same-length-3 : tie.Need-same-length-3
-same-length-3 c = search rules
+shape_of-samples : tie.Need-shape_of-samples
+shape_of-samples c = search rules
 
-same-length-4 : tie.Need-same-length-4
-same-length-4 c = search rules
+shape_of-store-in-Read : tie.Need-shape_of-store-in-Read
+shape_of-store-in-Read c = search rules
 
-returns_3 : tie.Need-returns-3
-returns_3 c = search rules
+returns-in-Read : tie.Need-returns-in-Read
+returns-in-Read c = search rules
 
 pub decode_macroblock_with_header_spec : {M : Type 1} → statement M
 decode_macroblock_with_header_spec =
     tie.close
     (tie.spec
-    check-before-header-requires
-    enum-known-checked
-    enum-known-checked-2
-    parse-macroblock-header-requires
-    enum-known-read
-    enum-known-read-2
-    decode-after-requires
-    same_length
-    returns
-    same-length-2
-    returns_2
-    same-length-3
-    same-length-4
-    returns_3)
+    check_before_header-checked-requires
+    enum_known-checked
+    enum_known-checked-in-Ready-1
+    parse_macroblock_header-read-requires
+    enum_known-read
+    enum_known-read-in-Read-1
+    decode_after-requires
+    shape_of-store-in-Refused
+    returns-in-Refused
+    shape_of-store-in-Refused-read
+    returns-in-Refused-read
+    shape_of-samples
+    shape_of-store-in-Read
+    returns-in-Read)

@@ -6,32 +6,32 @@ use Rattle.picture_state.proofs.RingLaws.{place_by}
 use Rattle.picture_state.proofs.ring.place_of.Statement.{statement}
 use Rattle.picture_state.proofs.ring.place_of.Tie as tie
 
-offset-of-requires : tie.Need-offset-of-requires
-offset-of-requires c κs = search rules
+offset_of-left-requires : tie.Need-offset_of-left-requires
+offset_of-left-requires c κs = search rules
 
-add-offset-of : tie.Need-overflow-add-offset-of
-add-offset-of c = search rules
+overflow_add-w : tie.Need-overflow_add-w
+overflow_add-w c = search rules
 
-offset-of-requires-2 : tie.Need-offset-of-requires-2
-offset-of-requires-2 c κs = search rules
+offset_of-above_left-requires : tie.Need-offset_of-above_left-requires
+offset_of-above_left-requires c κs = search rules
 
-offset-of-requires-3 : tie.Need-offset-of-requires-3
-offset-of-requires-3 c κs = search rules
+offset_of-above-requires : tie.Need-offset_of-above-requires
+offset_of-above-requires c κs = search rules
 
-rem-inside : tie.Need-nonzero-rem-inside
-rem-inside c = search rules
+nonzero_rem-inside : tie.Need-nonzero_rem-inside
+nonzero_rem-inside c = search rules
 
-returns : tie.Need-returns
-returns c =
+returns-then-inside : tie.Need-returns-then-inside
+returns-then-inside c =
     let o = c.before.before.before in
-    let a = o.before.args in
-    place_by a.p a.quantiser-scale _ _ _ true _ o.offset-of.ensures.0 c.before.before.offset-of2.ensures.0 c.before.offset-of3.ensures.0 c.if1.true refl
+    let a = o.args in
+    place_by a.p a.quantiser_scale _ _ _ true _ o.offset_of-left.ensures.0 c.offset_of-above_left.ensures.0 c.offset_of-above.ensures.0 c.if-inside.true refl
 
-returns_2 : tie.Need-returns-2
-returns_2 c =
+returns-else-inside : tie.Need-returns-else-inside
+returns-else-inside c =
     let o = c.before.before.before in
-    let a = o.before.args in
-    place_by a.p a.quantiser-scale _ _ _ false _ o.offset-of.ensures.0 c.before.before.offset-of2.ensures.0 c.before.offset-of3.ensures.0 c.if1.false c.if1.false
+    let a = o.args in
+    place_by a.p a.quantiser_scale _ _ _ false _ o.offset_of-left.ensures.0 c.offset_of-above_left.ensures.0 c.offset_of-above.ensures.0 c.if-inside.false c.if-inside.false
 
 pub place_of_spec : {M : Type 1} → statement M
-place_of_spec = tie.close (tie.spec offset-of-requires add-offset-of offset-of-requires-2 offset-of-requires-3 rem-inside returns returns_2)
+place_of_spec = tie.close (tie.spec offset_of-left-requires overflow_add-w offset_of-above_left-requires offset_of-above-requires nonzero_rem-inside returns-then-inside returns-else-inside)

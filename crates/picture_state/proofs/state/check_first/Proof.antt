@@ -17,113 +17,113 @@ use Rattle.picture_state.proofs.state.check_first.Tie as tie
 
 -- ---- the tests that passed
 
-size_is : (k : tie.Else1) → let a = k.before.before.before.args in size_fine a.p.width a.p.height ≡ true
-size_is k = flag_passes k.before.size-fine.ensures k.if1.false
+size_is : (k : tie.Else-not-size_fine) → let a = k.args in size_fine a.p.width a.p.height ≡ true
+size_is k = flag_passes k.size_fine.ensures k.if-not-size_fine.false
 
-inside_is : (k : tie.After-enum-told2) → let a = k.before.before.before.before.before.before.args in in_data (length a.«data».now) a.c.bit_pos ≡ true
-inside_is k = let a = k.before.before.before.before.before.before.args in counted a.«data».now a.c.bit_pos _ _ k.before.before.remaining-bits.ensures.0 k.enum-told2.given.1
+inside_is : (k : tie.In-Bits) → let a = k.args in in_data (length a.«data».now) a.c.bit_pos ≡ true
+inside_is k = let a = k.args in counted a.«data».now a.c.bit_pos _ _ k.remaining_bits-left.ensures.0 k.in-Bits.is
 
-context-is : (k : tie.Else2) → let a = k.before.before.before.before.before.before.before.before.args in context_fine a.ctx a.w ≡ true
-context-is k = flag_passes k.before.context-fine.ensures k.if2.false
+context-is : (k : tie.Else-not-context_fine) → let a = k.args in context_fine a.ctx a.w ≡ true
+context-is k = flag_passes k.context_fine.ensures k.if-not-context_fine.false
 
 -- ---- the answers
 
-size-fine-requires : tie.Need-size-fine-requires
-size-fine-requires c κs = search rules
+size_fine-requires : tie.Need-size_fine-requires
+size_fine-requires c κs = search rules
 
-returns : tie.Need-returns
-returns c =
-    let a = c.before.before.before.args in
-    sym (first_by a.p a.«data».now a.c.bit_pos a.ctx a.w a.room a.stored false _ _ _ _ _ (flag_refuses c.before.size-fine.ensures c.if1.true) refl refl refl refl refl)
+returns-then-not-size_fine : tie.Need-returns-then-not-size_fine
+returns-then-not-size_fine c =
+    let a = c.args in
+    sym (first_by a.p a.«data».now a.c.bit_pos a.ctx a.w a.room a.stored false _ _ _ _ _ (flag_refuses c.size_fine.ensures c.if-not-size_fine.true) refl refl refl refl refl)
 
-remaining-bits-requires : tie.Need-remaining-bits-requires
-remaining-bits-requires c κs = search rules
+remaining_bits-left-requires : tie.Need-remaining_bits-left-requires
+remaining_bits-left-requires c κs = search rules
 
-enum_told : tie.Need-enum-told
-enum_told c = search rules
+enum_told-1 : tie.Need-enum_told-1
+enum_told-1 c = search rules
 
-enum-told-2 : tie.Need-enum-told-2
-enum-told-2 c = search rules
+enum_told-in-Bits : tie.Need-enum_told-in-Bits
+enum_told-in-Bits c = search rules
 
-context-fine-requires : tie.Need-context-fine-requires
-context-fine-requires c κs = search rules
+context_fine-requires : tie.Need-context_fine-requires
+context_fine-requires c κs = search rules
 
-returns_2 : tie.Need-returns-2
-returns_2 c =
+returns-then-not-context_fine : tie.Need-returns-then-not-context_fine
+returns-then-not-context_fine c =
     let k = c.before.before in
-    let a = k.before.before.before.before.before.before.args in
-    sym (first_by a.p a.«data».now a.c.bit_pos a.ctx a.w a.room a.stored true true false _ _ _ (size_is k.before.before.before) (inside_is k) (flag_refuses c.before.context-fine.ensures c.if2.true) refl refl refl)
+    let a = k.args in
+    sym (first_by a.p a.«data».now a.c.bit_pos a.ctx a.w a.room a.stored true true false _ _ _ (size_is k.before.before) (inside_is k) (flag_refuses c.context_fine.ensures c.if-not-context_fine.true) refl refl refl)
 
-returns_3 : tie.Need-returns-3
-returns_3 c =
+returns-then-room-lt-SAMPLES : tie.Need-returns-then-room-lt-SAMPLES
+returns-then-room-lt-SAMPLES c =
     let e = c.before in
     let k = e.before.before in
-    let a = k.before.before.before.before.before.before.args in
-    sym (first_by a.p a.«data».now a.c.bit_pos a.ctx a.w a.room a.stored true true true false _ _ (size_is k.before.before.before) (inside_is k) (context-is e) (lt-leb 384 a.room c.if3.true) refl refl)
+    let a = k.args in
+    sym (first_by a.p a.«data».now a.c.bit_pos a.ctx a.w a.room a.stored true true true false _ _ (size_is k.before.before) (inside_is k) (context-is e) (lt-leb 384 a.room c.if-room-lt-SAMPLES.true) refl refl)
 
-cast-if4 : tie.Need-overflow-cast-if4
-cast-if4 c = search rules
+overflow_cast-p : tie.Need-overflow_cast-p
+overflow_cast-p c = search rules
 
-mul-if4 : tie.Need-overflow-mul-if4
-mul-if4 c = search rules
+overflow_mul-p : tie.Need-overflow_mul-p
+overflow_mul-p c = search rules
 
-returns_4 : tie.Need-returns-4
-returns_4 c =
+returns-then-stored-p : tie.Need-returns-then-stored-p
+returns-then-stored-p c =
     let f = c.before.before in
     let e = f.before in
     let k = e.before.before in
-    let a = k.before.before.before.before.before.before.args in
-    sym (first_by a.p a.«data».now a.c.bit_pos a.ctx a.w a.room a.stored true true true true false _ (size_is k.before.before.before) (inside_is k) (context-is e) (le-leb 384 a.room f.if3.false) (lt-leb (192 * a.p.width) a.stored c.if4.true) refl)
+    let a = k.args in
+    sym (first_by a.p a.«data».now a.c.bit_pos a.ctx a.w a.room a.stored true true true true false _ (size_is k.before.before) (inside_is k) (context-is e) (le-leb 384 a.room f.if-room-lt-SAMPLES.false) (lt-leb (192 * a.p.width) a.stored c.if-stored-p.true) refl)
 
-mul-if5 : tie.Need-overflow-mul-if5
-mul-if5 c =
+overflow_mul-p-in-Bits : tie.Need-overflow_mul-p-in-Bits
+overflow_mul-p-in-Bits c =
     let k = c.before.before.before.before.before.before in
-    let a = k.before.before.before.before.before.before.args in
-    let z = sized a.p.width a.p.height (size_is k.before.before.before) in
+    let a = k.args in
+    let z = sized a.p.width a.p.height (size_is k.before.before) in
     omega (arith, z.cells)
 
-returns_5 : tie.Need-returns-5
-returns_5 c =
+returns-then-p : tie.Need-returns-then-p
+returns-then-p c =
     let g = c.before.before.before in
     let f = g.before.before in
     let e = f.before in
     let k = e.before.before in
-    let a = k.before.before.before.before.before.before.args in
-    sym (first_by a.p a.«data».now a.c.bit_pos a.ctx a.w a.room a.stored true true true true true false (size_is k.before.before.before) (inside_is k) (context-is e) (le-leb 384 a.room f.if3.false)
-    (le-leb (192 * a.p.width) a.stored g.if4.false) (le-ltb a.p.accepted (a.p.width * a.p.height) c.if5.true))
+    let a = k.args in
+    sym (first_by a.p a.«data».now a.c.bit_pos a.ctx a.w a.room a.stored true true true true true false (size_is k.before.before) (inside_is k) (context-is e) (le-leb 384 a.room f.if-room-lt-SAMPLES.false)
+    (le-leb (192 * a.p.width) a.stored g.if-stored-p.false) (le-ltb a.p.accepted (a.p.width * a.p.height) c.if-p.true))
 
-returns_6 : tie.Need-returns-6
-returns_6 c =
-    let a = c.before.before.before.before.before.before.args in
+returns-in-Refused : tie.Need-returns-in-Refused
+returns-in-Refused c =
+    let a = c.args in
     let d = a.«data».now in
-    sym (first_by a.p d a.c.bit_pos a.ctx a.w a.room a.stored true false _ _ _ _ (size_is c.before.before.before) (not-counted d a.c.bit_pos _ _ c.before.before.remaining-bits.ensures.0 c.enum_told.given.1) refl refl refl refl)
+    sym (first_by a.p d a.c.bit_pos a.ctx a.w a.room a.stored true false _ _ _ _ (size_is c.before.before) (not-counted d a.c.bit_pos _ _ c.remaining_bits-left.ensures.0 c.in-Refused.is) refl refl refl refl)
 
-returns-7 : tie.Need-returns-7
-returns-7 c =
+returns-else-p : tie.Need-returns-else-p
+returns-else-p c =
     let g = c.before.before.before in
     let f = g.before.before in
     let e = f.before in
     let k = e.before.before in
-    let a = k.before.before.before.before.before.before.args in
-    sym (first_by a.p a.«data».now a.c.bit_pos a.ctx a.w a.room a.stored true true true true true true (size_is k.before.before.before) (inside_is k) (context-is e) (le-leb 384 a.room f.if3.false)
-    (le-leb (192 * a.p.width) a.stored g.if4.false) (lt-ltb a.p.accepted (a.p.width * a.p.height) c.if5.false))
+    let a = k.args in
+    sym (first_by a.p a.«data».now a.c.bit_pos a.ctx a.w a.room a.stored true true true true true true (size_is k.before.before) (inside_is k) (context-is e) (le-leb 384 a.room f.if-room-lt-SAMPLES.false)
+    (le-leb (192 * a.p.width) a.stored g.if-stored-p.false) (lt-ltb a.p.accepted (a.p.width * a.p.height) c.if-p.false))
 
 pub check_first_spec : {M : Type 1} → statement M
 check_first_spec =
     tie.close
     (tie.spec
-    size-fine-requires
-    returns
-    remaining-bits-requires
-    enum_told
-    enum-told-2
-    context-fine-requires
-    returns_2
-    returns_3
-    cast-if4
-    mul-if4
-    returns_4
-    mul-if5
-    returns_5
-    returns_6
-    returns-7)
+    size_fine-requires
+    returns-then-not-size_fine
+    remaining_bits-left-requires
+    enum_told-1
+    enum_told-in-Bits
+    context_fine-requires
+    returns-then-not-context_fine
+    returns-then-room-lt-SAMPLES
+    overflow_cast-p
+    overflow_mul-p
+    returns-then-stored-p
+    overflow_mul-p-in-Bits
+    returns-then-p
+    returns-in-Refused
+    returns-else-p)

@@ -13,65 +13,65 @@ use Rattle.picture_state.proofs.state.check_state.Statement.{statement}
 use Rattle.picture_state.proofs.state.check_state.Tie as tie
 
 -- what the tests without a header say
-abbrev without : tie.After-check-before-header → Checked
+abbrev without : tie.After-check_before_header-asked → Checked
 without k =
-    let a = k.before.before.args in
+    let a = k.args in
     state_before a.p a.«data».now a.c.bit_pos (context_of a.p a.m) a.w a.room (length a.store.now) (around_due a.p a.m.quantiser_scale a.store.now)
 
 -- they pass, and the header's are left
-left : (h : tie.After-check-header) → let k = h.before.before.before.before in let a = k.before.before.args in
-    state_by a.p a.«data».now a.c.bit_pos a.header (context_of a.p a.m) a.w a.room (length a.store.now) (around_due a.p a.m.quantiser_scale a.store.now) ≡ h.check-header.result
+left : (h : tie.After-check_header-last) → let k = h.before.before in let a = k.args in
+    state_by a.p a.«data».now a.c.bit_pos a.header (context_of a.p a.m) a.w a.room (length a.store.now) (around_due a.p a.m.quantiser_scale a.store.now) ≡ h.check_header-last.result
 left h =
-    let t = h.before.before in
-    let k = t.before.before in
-    let a = k.before.before.args in
+    let t = h.before in
+    let k = t.before in
+    let a = k.args in
     let x = context_of a.p a.m in
-    state-after a.p a.«data».now a.c.bit_pos x a.w a.room (length a.store.now) a.header _ (checked_ready a.p x (without k) (sym k.check-before-header.ensures.0 ∙ t.asked2.given.1)).0
-    ∙ sym h.check-header.ensures.0
+    state-after a.p a.«data».now a.c.bit_pos x a.w a.room (length a.store.now) a.header _ (checked_ready a.p x (without k) (sym k.check_before_header-asked.ensures.0 ∙ t.in-Ready.is)).0
+    ∙ sym h.check_header-last.ensures.0
 
-check-before-header-requires : tie.Need-check-before-header-requires
-check-before-header-requires c κs = search rules
+check_before_header-asked-requires : tie.Need-check_before_header-asked-requires
+check_before_header-asked-requires c κs = search rules
 
-enum-known-asked : tie.Need-enum-known-asked
-enum-known-asked c = search rules
+enum_known-asked : tie.Need-enum_known-asked
+enum_known-asked c = search rules
 
-enum-known-asked-2 : tie.Need-enum-known-asked-2
-enum-known-asked-2 c = search rules
+enum_known-asked-in-Ready-1 : tie.Need-enum_known-asked-in-Ready-1
+enum_known-asked-in-Ready-1 c = search rules
 
-check-header-requires : tie.Need-check-header-requires
-check-header-requires c κs = search rules
+check_header-last-requires : tie.Need-check_header-last-requires
+check_header-last-requires c κs = search rules
 
-enum-known-last : tie.Need-enum-known-last
-enum-known-last c = search rules
+enum_known-last : tie.Need-enum_known-last
+enum_known-last c = search rules
 
-enum_told : tie.Need-enum-told
-enum_told c = search rules
+enum_told-1 : tie.Need-enum_told-1
+enum_told-1 c = search rules
 
-returns : tie.Need-returns
-returns c =
-    let k = c.before.before.before in
-    let a = k.before.before.args in
+returns-in-Refused : tie.Need-returns-in-Refused
+returns-in-Refused c =
+    let k = c.before in
+    let a = k.args in
     let x = context_of a.p a.m in
     both state_outcome
-    (sym (ap (checked_by a.p x) (state-bad a.p a.«data».now a.c.bit_pos x a.w a.room (length a.store.now) a.header _ (checked_refused a.p x (without k) (sym k.check-before-header.ensures.0 ∙ c.before.asked.given.1)))))
+    (sym (ap (checked_by a.p x) (state-bad a.p a.«data».now a.c.bit_pos x a.w a.room (length a.store.now) a.header _ (checked_refused a.p x (without k) (sym k.check_before_header-asked.ensures.0 ∙ c.in-Refused.is)))))
     (state_due_lem a.p a.«data».now a.c.bit_pos a.header a.m a.w a.room a.store.now)
 
-returns_2 : tie.Need-returns-2
-returns_2 c =
-    let h = c.before.before.before in
-    let a = h.before.before.before.before.before.before.args in
-    both state_outcome (sym (ap (checked_by a.p (context_of a.p a.m)) (left h ∙ c.before.last.given.1)))
+returns-in-Bad : tie.Need-returns-in-Bad
+returns-in-Bad c =
+    let h = c.before in
+    let a = h.args in
+    both state_outcome (sym (ap (checked_by a.p (context_of a.p a.m)) (left h ∙ c.in-Bad.is)))
     (state_due_lem a.p a.«data».now a.c.bit_pos a.header a.m a.w a.room a.store.now)
 
-returns_3 : tie.Need-returns-3
-returns_3 c =
-    let h = c.before.before in
-    let t = h.before.before in
-    let k = t.before.before in
-    let a = k.before.before.args in
+returns-in-Fine : tie.Need-returns-in-Fine
+returns-in-Fine c =
+    let h = c.before in
+    let t = h.before in
+    let k = t.before in
+    let a = k.args in
     let x = context_of a.p a.m in
-    both state_outcome (checked-after a.p x _ _ (checked_ready a.p x (without k) (sym k.check-before-header.ensures.0 ∙ t.asked2.given.1)).1 (left h ∙ c.enum_told.given.1))
+    both state_outcome (checked-after a.p x _ _ (checked_ready a.p x (without k) (sym k.check_before_header-asked.ensures.0 ∙ t.in-Ready.is)).1 (left h ∙ c.in-Fine.is))
     (state_due_lem a.p a.«data».now a.c.bit_pos a.header a.m a.w a.room a.store.now)
 
 pub check_state_spec : {M : Type 1} → statement M
-check_state_spec = tie.close (tie.spec check-before-header-requires enum-known-asked enum-known-asked-2 check-header-requires enum-known-last enum_told returns returns_2 returns_3)
+check_state_spec = tie.close (tie.spec check_before_header-asked-requires enum_known-asked enum_known-asked-in-Ready-1 check_header-last-requires enum_known-last enum_told-1 returns-in-Refused returns-in-Bad returns-in-Fine)

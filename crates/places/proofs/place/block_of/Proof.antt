@@ -8,79 +8,79 @@ use Rattle.places.proofs.PlaceLaws.{past_five}
 use Rattle.places.proofs.place.block_of.Statement.{statement}
 use Rattle.places.proofs.place.block_of.Tie as tie
 
-array-read-result : tie.Need-array-read-result
-array-read-result c = search rules
+bounds-t-0 : tie.Need-bounds-t-0
+bounds-t-0 c = search rules
+
+returns-then-i-eq0 : tie.Need-returns-then-i-eq0
+returns-then-i-eq0 c =
+    let a = c.args in
+    ap (λ (k : ℕ). get_or a.t k 0) (sym c.if-i-eq0.true)
+
+bounds-t-1 : tie.Need-bounds-t-1
+bounds-t-1 c = search rules
+
+returns-then-i-eq1 : tie.Need-returns-then-i-eq1
+returns-then-i-eq1 c =
+    let a = c.args in
+    ap (λ (k : ℕ). get_or a.t k 0) (sym c.if-i-eq1.true)
+
+bounds-t-2 : tie.Need-bounds-t-2
+bounds-t-2 c = search rules
+
+returns-then-i-eq2 : tie.Need-returns-then-i-eq2
+returns-then-i-eq2 c =
+    let a = c.args in
+    ap (λ (k : ℕ). get_or a.t k 0) (sym c.if-i-eq2.true)
+
+bounds-t-3 : tie.Need-bounds-t-3
+bounds-t-3 c = search rules
+
+returns-then-i-eq3 : tie.Need-returns-then-i-eq3
+returns-then-i-eq3 c =
+    let a = c.args in
+    ap (λ (k : ℕ). get_or a.t k 0) (sym c.if-i-eq3.true)
+
+bounds-t-4 : tie.Need-bounds-t-4
+bounds-t-4 c = search rules
+
+returns-then-i-eq4 : tie.Need-returns-then-i-eq4
+returns-then-i-eq4 c =
+    let a = c.args in
+    ap (λ (k : ℕ). get_or a.t k 0) (sym c.if-i-eq4.true)
+
+bounds-t-5 : tie.Need-bounds-t-5
+bounds-t-5 c = search rules
+
+returns-then-i-eq5 : tie.Need-returns-then-i-eq5
+returns-then-i-eq5 c =
+    let a = c.args in
+    ap (λ (k : ℕ). get_or a.t k 0) (sym c.if-i-eq5.true)
 
 returns : tie.Need-returns
 returns c =
-    let a = c.before.args in
-    ap (λ (k : ℕ). get_or a.t1 k 0) (sym c.if1.true)
-
-array-read-result-2 : tie.Need-array-read-result-2
-array-read-result-2 c = search rules
-
-returns_2 : tie.Need-returns-2
-returns_2 c =
-    let a = c.before.before.args in
-    ap (λ (k : ℕ). get_or a.t1 k 0) (sym c.if2.true)
-
-array-read-result-3 : tie.Need-array-read-result-3
-array-read-result-3 c = search rules
-
-returns_3 : tie.Need-returns-3
-returns_3 c =
-    let a = c.before.before.before.args in
-    ap (λ (k : ℕ). get_or a.t1 k 0) (sym c.if3.true)
-
-array-read-result-4 : tie.Need-array-read-result-4
-array-read-result-4 c = search rules
-
-returns_4 : tie.Need-returns-4
-returns_4 c =
-    let a = c.before.before.before.before.args in
-    ap (λ (k : ℕ). get_or a.t1 k 0) (sym c.if4.true)
-
-array-read-result-5 : tie.Need-array-read-result-5
-array-read-result-5 c = search rules
-
-returns_5 : tie.Need-returns-5
-returns_5 c =
-    let a = c.before.before.before.before.before.args in
-    ap (λ (k : ℕ). get_or a.t1 k 0) (sym c.if5.true)
-
-array-read-result-6 : tie.Need-array-read-result-6
-array-read-result-6 c = search rules
-
-returns_6 : tie.Need-returns-6
-returns_6 c =
-    let a = c.before.before.before.before.before.before.args in
-    ap (λ (k : ℕ). get_or a.t1 k 0) (sym c.if6.true)
-
-returns-7 : tie.Need-returns-7
-returns-7 c =
     let e₅ = c.before in
     let e₄ = e₅.before in
     let e₃ = e₄.before in
     let e₂ = e₃.before in
     let e₁ = e₂.before in
-    let a = e₁.before.args in
-    let past = past_five a.i e₁.if1.false e₂.if2.false e₃.if3.false e₄.if4.false e₅.if5.false c.if6.false in
-    sym (get_or-eq_default a.t1 0 (omega arith))
+    let a = e₁.args in
+    let past = past_five a.i e₁.if-i-eq0.false e₂.if-i-eq1.false e₃.if-i-eq2.false e₄.if-i-eq3.false e₅.if-i-eq4.false c.if-i-eq5.false in
+    sym (get_or-eq_default a.t 0 (omega arith))
 
 pub block_of_spec : {M : Type 1} → statement M
 block_of_spec =
     tie.close
     (tie.spec
-    array-read-result
-    returns
-    array-read-result-2
-    returns_2
-    array-read-result-3
-    returns_3
-    array-read-result-4
-    returns_4
-    array-read-result-5
-    returns_5
-    array-read-result-6
-    returns_6
-    returns-7)
+    bounds-t-0
+    returns-then-i-eq0
+    bounds-t-1
+    returns-then-i-eq1
+    bounds-t-2
+    returns-then-i-eq2
+    bounds-t-3
+    returns-then-i-eq3
+    bounds-t-4
+    returns-then-i-eq4
+    bounds-t-5
+    returns-then-i-eq5
+    returns)

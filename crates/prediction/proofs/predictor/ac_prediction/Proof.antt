@@ -13,24 +13,24 @@ use Rattle.prediction.proofs.predictor.ac_prediction.Tie as tie
 abbrev product : tie.Start → Sx w32
 product s = loc s.args.qf 2048 s.requires.0 ⊠ loc (pos s.args.qp) 511 s.requires.1
 
-cast-div-round-half-away : tie.Need-overflow-cast-div-round-half-away
-cast-div-round-half-away c = search rules
+overflow_cast-qp : tie.Need-overflow_cast-qp
+overflow_cast-qp c = search rules
 
-mul-div-round-half-away : tie.Need-overflow-mul-div-round-half-away
-mul-div-round-half-away c = fits (product c) tt
+overflow_mul-qf : tie.Need-overflow_mul-qf
+overflow_mul-qf c = fits (product c) tt
 
-div-round-half-away-requires : tie.Need-div-round-half-away-requires
-div-round-half-away-requires c κs = search rules
+div_round_half_away-requires : tie.Need-div_round_half_away-requires
+div_round_half_away-requires c κs = search rules
 
 returns : tie.Need-returns
 returns c =
     let s = c.before in
     let e =
-    held c.div-round-half-away.result c.div-round-half-away.type-inv
-    ∙ c.div-round-half-away.ensures.0
-    ∙ ap (λ (z : ℤ). div_away z s.args.qp-x) (back (product s) tt) in
-    (e, rw e (ac_prediction_abs s.args.qf s.args.qp s.args.qp-x s.requires.0 s.requires.1))
+    held c.div_round_half_away.result c.div_round_half_away.type_inv
+    ∙ c.div_round_half_away.ensures.0
+    ∙ ap (λ (z : ℤ). div_away z s.args.qp_x) (back (product s) tt) in
+    (e, rw e (ac_prediction_abs s.args.qf s.args.qp s.args.qp_x s.requires.0 s.requires.1))
 
 pub ac_prediction_spec : {M : Type 1} → statement M
 ac_prediction_spec =
-    tie.close (tie.spec cast-div-round-half-away mul-div-round-half-away div-round-half-away-requires returns)
+    tie.close (tie.spec overflow_cast-qp overflow_mul-qf div_round_half_away-requires returns)

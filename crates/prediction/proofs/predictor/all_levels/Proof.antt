@@ -14,48 +14,48 @@ use Rattle.numbers.proofs.EveryLaws.{test_done, test_more}
 use Rattle.prediction.proofs.predictor.all_levels.Statement.{statement}
 use Rattle.prediction.proofs.predictor.all_levels.Tie as tie
 
-abbrev invariant_loop : tie.invariant-loop
-invariant_loop values fine₀ k₀ fine k = (k ≤ 7) × (every level_fine values ≡ (fine && every level_fine (drop k values)))
+abbrev invariant-loop-k : tie.invariant-loop-k
+invariant-loop-k values fine₀ k₀ fine k = (k ≤ 7) × (every level_fine values ≡ (fine && every level_fine (drop k values)))
 
-abbrev decreases-loop : tie.decreases-loop
-decreases-loop values fine₀ k₀ fine k = 7 - k
+abbrev decreases-loop-k : tie.decreases-loop-k
+decreases-loop-k values fine₀ k₀ fine k = 7 - k
 
-seven : (s : tie.Start invariant_loop decreases-loop) → length s.args.t1 ≡ 7
-seven s = good_length (e_s_int w32) 7 s.args.t1 _ s.well-formed.0
+seven : (s : tie.Start invariant-loop-k decreases-loop-k) → length s.args.values ≡ 7
+seven s = good_length (e_s_int w32) 7 s.args.values _ s.well_formed.0
 
-loop_holds : tie.Need-loop-init invariant_loop decreases-loop
-loop_holds c = (omega arith, refl)
+loop-k-init : tie.Need-loop-k-init invariant-loop-k decreases-loop-k
+loop-k-init c = (omega arith, refl)
 
-mul-fine : tie.Need-overflow-mul-fine invariant_loop decreases-loop
-mul-fine c = omega arith
+offset_bounds-values-k : tie.Need-offset_bounds-values-k invariant-loop-k decreases-loop-k
+offset_bounds-values-k c = omega arith
 
-array-copy-out-fine : tie.Need-array-copy-out-fine invariant_loop decreases-loop
-array-copy-out-fine c = omega arith
+bounds-values-k : tie.Need-bounds-values-k invariant-loop-k decreases-loop-k
+bounds-values-k c = omega arith
 
-fine-requires : tie.Need-fine-requires invariant_loop decreases-loop
-fine-requires c κs = tt
+fine-level-requires : tie.Need-fine-level-requires invariant-loop-k decreases-loop-k
+fine-level-requires c κs = tt
 
-add-k : tie.Need-overflow-add-k invariant_loop decreases-loop
-add-k c = omega arith
+overflow_step-k : tie.Need-overflow_step-k invariant-loop-k decreases-loop-k
+overflow_step-k c = omega arith
 
-loop-less : tie.Need-loop-smaller invariant_loop decreases-loop
-loop-less c = omega arith
+loop-k-smaller : tie.Need-loop-k-smaller invariant-loop-k decreases-loop-k
+loop-k-smaller c = omega arith
 
-loop_again : tie.Need-loop-preserved invariant_loop decreases-loop
-loop_again c =
+loop-k-preserved : tie.Need-loop-k-preserved invariant-loop-k decreases-loop-k
+loop-k-preserved c =
     let a = c.before.before.before in
     let s = a.before in
-    let z = get_or s.args.t1 a.loop.k (pos 0) in (
+    let z = get_or s.args.values a.loop-k.k (pos 0) in (
       omega arith,
-      test_more level_fine (pos 0) s.args.t1 (every level_fine s.args.t1) a.loop.k a.loop.fine c.fine.result (omega (arith, seven s)) a.loop.invariant.1
-          (c.fine.ensures ∙ ap level_fine (held z c.before.fine-arg.given)),
+      test_more level_fine (pos 0) s.args.values (every level_fine s.args.values) a.loop-k.k a.loop-k.fine c.fine-level.result (omega (arith, seven s)) a.loop-k.invariant.1
+          (c.fine-level.ensures ∙ ap level_fine (held z c.fine-arg-1.given)),
     )
 
-returns : tie.Need-returns invariant_loop decreases-loop
+returns : tie.Need-returns invariant-loop-k decreases-loop-k
 returns c =
     let a = c.before in
     let s = a.before in
-    test_done level_fine (pos 0) s.args.t1 (every level_fine s.args.t1) a.loop.k a.loop.fine (omega (arith, seven s)) a.loop.invariant.1
+    test_done level_fine (pos 0) s.args.values (every level_fine s.args.values) a.loop-k.k a.loop-k.fine (omega (arith, seven s)) a.loop-k.invariant.1
 
 pub all_levels_spec : {M : Type 1} → statement M
-all_levels_spec = tie.close (tie.spec invariant_loop decreases-loop loop_holds mul-fine array-copy-out-fine fine-requires add-k loop-less loop_again returns)
+all_levels_spec = tie.close (tie.spec invariant-loop-k decreases-loop-k loop-k-init offset_bounds-values-k bounds-values-k fine-level-requires overflow_step-k loop-k-smaller loop-k-preserved returns)

@@ -10,16 +10,16 @@ use Rattle.prediction.proofs.predictor.dc_scaler.Tie as tie
 fine-requires : tie.Need-fine-requires
 fine-requires c κs = search rules
 
+returns-then-not-fine : tie.Need-returns-then-not-fine
+returns-then-not-fine c = rw (flag_refuses c.fine.ensures c.if-not-fine.true) (refl, refl)
+
+scaler_of-requires : tie.Need-scaler_of-requires
+scaler_of-requires c κs =
+    omega (arith, quantiser_range c.args.quantiser_scale (flag_passes c.fine.ensures c.if-not-fine.false))
+
 returns : tie.Need-returns
-returns c = rw (flag_refuses c.before.fine.ensures c.if1.taken) (refl, refl)
-
-scaler-of-requires : tie.Need-scaler-of-requires
-scaler-of-requires c κs =
-    omega (arith, quantiser_range c.before.before.args.quantiser-scale (flag_passes c.before.fine.ensures c.if1.left))
-
-returns_2 : tie.Need-returns-2
-returns_2 c =
-    rw (flag_passes c.before.before.fine.ensures c.before.if1.left, c.scaler-of.ensures.0) (refl, refl)
+returns c =
+    rw (flag_passes c.fine.ensures c.if-not-fine.false, c.scaler_of.ensures.0) (refl, refl)
 
 pub dc_scaler_spec : {M : Type 1} → statement M
-dc_scaler_spec = tie.close (tie.spec fine-requires returns scaler-of-requires returns_2)
+dc_scaler_spec = tie.close (tie.spec fine-requires returns-then-not-fine scaler_of-requires returns)

@@ -15,21 +15,21 @@ use Rattle.prediction.proofs.predictor.default_neighbour_dc.Tie as tie
 fine-requires : tie.Need-fine-requires
 fine-requires c κs = search rules
 
+returns-then-not-fine : tie.Need-returns-then-not-fine
+returns-then-not-fine c =
+    let args = c.args in
+    both value_outcome (rw (flag_refuses c.fine.ensures c.if-not-fine.true)) (default_due_lem args.bits_per_pixel)
+
+missing_dc-requires : tie.Need-missing_dc-requires
+missing_dc-requires c κs = search rules
+
 returns : tie.Need-returns
 returns c =
-    let args = c.before.before.args in
-    both value_outcome (rw (flag_refuses c.before.fine.ensures c.if1.taken)) (default_due_lem args.bits-per-pixel)
-
-missing-dc-requires : tie.Need-missing-dc-requires
-missing-dc-requires c κs = search rules
-
-returns_2 : tie.Need-returns-2
-returns_2 c =
-    let args = c.before.before.before.args in
-    both value_outcome (let b = c.before.before.before.args.bits-per-pixel in
-    let t = flag_passes c.before.before.fine.ensures c.before.if1.left in
+    let args = c.args in
+    both value_outcome (let b = c.args.bits_per_pixel in
+    let t = flag_passes c.fine.ensures c.if-not-fine.false in
     let m : min b 12 ≡ b = omega (arith, depth_range b t) in
-    rw (t, held c.missing-dc.result c.missing-dc.ok, c.missing-dc.ensures, m)) (default_due_lem args.bits-per-pixel)
+    rw (t, held c.missing_dc.result c.missing_dc.type_inv, c.missing_dc.ensures, m)) (default_due_lem args.bits_per_pixel)
 
 pub default_neighbour_dc_spec : {M : Type 1} → statement M
-default_neighbour_dc_spec = tie.close (tie.spec fine-requires returns missing-dc-requires returns_2)
+default_neighbour_dc_spec = tie.close (tie.spec fine-requires returns-then-not-fine missing_dc-requires returns)

@@ -13,70 +13,70 @@ use Rattle.ranges.specs.Range.{level_fine, quantiser_fine}
 use Rattle.prediction.proofs.predictor.predict_intra_ac.Tie as tie
 
 -- the four tests that passed
-context-ok : (c : tie.Else1) → quantiser_fine c.before.before.args.qp-x ≡ true
-context-ok c = flag_passes c.before.fine.ensures c.if1.left
+context-ok : (c : tie.Else-not-fine) → quantiser_fine c.args.qp_x ≡ true
+context-ok c = flag_passes c.fine.ensures c.if-not-fine.false
 
-levels-ok : (c : tie.Else2) → every level_fine c.before.before.before.before.args.pqfx ≡ true
-levels-ok c = flag_passes c.before.all-levels.ensures c.if2.left
+levels-ok : (c : tie.Else-not-all_levels) → every level_fine c.args.pqfx ≡ true
+levels-ok c = flag_passes c.all_levels.ensures c.if-not-all_levels.false
 
-quantiser-ok : (c : tie.Else3) → quantiser_fine c.before.before.before.before.before.before.args.qp ≡ true
-quantiser-ok c = flag_passes c.before.fine2.ensures c.if3.left
+quantiser-ok : (c : tie.Else-not-fine-2) → quantiser_fine c.args.qp ≡ true
+quantiser-ok c = flag_passes c.fine-2.ensures c.if-not-fine-2.false
 
-values-ok : (c : tie.Else4) → let a = c.before.before.before.before.before.before.before.before.args in values_fine a.has a.qf ≡ true
-values-ok c = flag_passes c.before.values-fine.ensures c.if4.left
+values-ok : (c : tie.Else-not-values_fine) → let a = c.args in values_fine a.has a.qf ≡ true
+values-ok c = flag_passes c.values_fine.ensures c.if-not-values_fine.false
 
 fine-requires : tie.Need-fine-requires
 fine-requires c κs = search rules
 
-returns : tie.Need-returns
-returns c = rw (flag_refuses c.before.fine.ensures c.if1.taken) (refl, refl)
+returns-then-not-fine : tie.Need-returns-then-not-fine
+returns-then-not-fine c = rw (flag_refuses c.fine.ensures c.if-not-fine.true) (refl, refl)
 
-all-levels-requires : tie.Need-all-levels-requires
-all-levels-requires c κs = search rules
+all_levels-requires : tie.Need-all_levels-requires
+all_levels-requires c κs = search rules
 
-returns_2 : tie.Need-returns-2
-returns_2 c = rw (context-ok c.before.before, flag_refuses c.before.all-levels.ensures c.if2.taken) (refl, refl)
+returns-then-not-all_levels : tie.Need-returns-then-not-all_levels
+returns-then-not-all_levels c = rw (context-ok c.before.before, flag_refuses c.all_levels.ensures c.if-not-all_levels.true) (refl, refl)
 
 fine-requires-2 : tie.Need-fine-requires-2
 fine-requires-2 c κs = search rules
 
-returns_3 : tie.Need-returns-3
-returns_3 c =
-    rw (context-ok c.before.before.before.before, levels-ok c.before.before, flag_refuses c.before.fine2.ensures c.if3.taken) (refl, refl)
+returns-then-not-fine-2 : tie.Need-returns-then-not-fine-2
+returns-then-not-fine-2 c =
+    rw (context-ok c.before.before.before.before, levels-ok c.before.before, flag_refuses c.fine-2.ensures c.if-not-fine-2.true) (refl, refl)
 
-values-fine-requires : tie.Need-values-fine-requires
-values-fine-requires c κs = search rules
+values_fine-requires : tie.Need-values_fine-requires
+values_fine-requires c κs = search rules
 
-returns_4 : tie.Need-returns-4
-returns_4 c =
-    rw (context-ok c.before.before.before.before.before.before, levels-ok c.before.before.before.before, quantiser-ok c.before.before, flag_refuses c.before.values-fine.ensures c.if4.taken)
+returns-then-not-values_fine : tie.Need-returns-then-not-values_fine
+returns-then-not-values_fine c =
+    rw (context-ok c.before.before.before.before.before.before, levels-ok c.before.before.before.before, quantiser-ok c.before.before, flag_refuses c.values_fine.ensures c.if-not-values_fine.true)
     (refl, refl)
 
-ac-added-requires : tie.Need-ac-added-requires
-ac-added-requires c κs =
-    let a = c.before.before.before.before.before.before.before.before.args in (
+ac_added-requires : tie.Need-ac_added-requires
+ac_added-requires c κs =
+    let a = c.args in (
       λ k h. levels-good a.pqfx (levels-ok c.before.before.before.before) k,
       λ t k h. values-good a.has a.qf (values-ok c) t k,
       omega (arith, quantiser_range a.qp (quantiser-ok c.before.before)),
-      (quantiser_range a.qp-x (context-ok c.before.before.before.before.before.before)).0,
+      (quantiser_range a.qp_x (context-ok c.before.before.before.before.before.before)).0,
     )
 
-returns_5 : tie.Need-returns-5
-returns_5 c =
+returns : tie.Need-returns
+returns c =
     rw (context-ok c.before.before.before.before.before.before.before, levels-ok c.before.before.before.before.before, quantiser-ok c.before.before.before, values-ok c.before)
-    (refl, c.ac-added.ensures)
+    (refl, c.ac_added.ensures)
 
 pub predict_intra_ac_spec : {M : Type 1} → statement M
 predict_intra_ac_spec =
     tie.close
     (tie.spec
     fine-requires
-    returns
-    all-levels-requires
-    returns_2
+    returns-then-not-fine
+    all_levels-requires
+    returns-then-not-all_levels
     fine-requires-2
-    returns_3
-    values-fine-requires
-    returns_4
-    ac-added-requires
-    returns_5)
+    returns-then-not-fine-2
+    values_fine-requires
+    returns-then-not-values_fine
+    ac_added-requires
+    returns)

@@ -6,13 +6,13 @@ use Rattle.prediction.specs.Outcomes.{stage_outcome}
 use Rattle.prediction.proofs.OutcomeLaws.{ac_due_lem}
 use Rattle.prediction.proofs.predictor.predict_intra_ac_row.Tie as tie
 
-predict-intra-ac-requires : tie.Need-predict-intra-ac-requires
-predict-intra-ac-requires c κs = search rules
+predict_intra_ac-requires : tie.Need-predict_intra_ac-requires
+predict_intra_ac-requires c κs = search rules
 
 returns : tie.Need-returns
 returns c =
-    let args = c.before.before.args in
-    also stage_outcome (search rules) (ac_due_lem args.pqfx-row args.has-row args.qfc-row args.qp-c args.qp-x)
+    let args = c.args in
+    also stage_outcome (search rules) (ac_due_lem args.pqfx_row args.has_row args.qfc_row args.qp_c args.qp_x)
 
 pub predict_intra_ac_row_spec : {M : Type 1} → statement M
-predict_intra_ac_row_spec = tie.close (tie.spec predict-intra-ac-requires returns)
+predict_intra_ac_row_spec = tie.close (tie.spec predict_intra_ac-requires returns)

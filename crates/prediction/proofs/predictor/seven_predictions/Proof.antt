@@ -14,78 +14,78 @@ use Rattle.prediction.proofs.PredictionLaws.{same-quantiser}
 use Rattle.prediction.proofs.predictor.seven_predictions.Statement.{statement}
 use Rattle.prediction.proofs.predictor.seven_predictions.Tie as tie
 
-abbrev invariant_loop : tie.invariant-loop
-invariant_loop qp q values more₀ k₀ more k = (k ≤ 7) × (more ≡ part 7 (λ (j : ℕ). ac_prediction (get_or values j (pos 0)) qp q) (λ (j : ℕ). pos 0) k)
+abbrev invariant-loop-k : tie.invariant-loop-k
+invariant-loop-k qp q values more₀ k₀ more k = (k ≤ 7) × (more ≡ part 7 (λ (j : ℕ). ac_prediction (get_or values j (pos 0)) qp q) (λ (j : ℕ). pos 0) k)
 
-abbrev decreases-loop : tie.decreases-loop
-decreases-loop qp q values more₀ k₀ more k = 7 - k
+abbrev decreases-loop-k : tie.decreases-loop-k
+decreases-loop-k qp q values more₀ k₀ more k = 7 - k
 
-returns : tie.Need-returns invariant_loop decreases-loop
-returns c =
-    let a = c.before.args in
+returns-then-qp-q : tie.Need-returns-then-qp-q invariant-loop-k decreases-loop-k
+returns-then-qp-q c =
+    let a = c.args in
     let e : a.qp ≡ a.q = omega arith in
-    is-build (pos 0) a.t1 7 (λ (k : ℕ). ac_prediction (get_or a.t1 k (pos 0)) a.qp a.q) (good_length (e_s_int w32) 7 a.t1 _ c.before.well-formed.0)
-    (λ (k : ℕ) (h : k < 7). rw e (sym (same-quantiser (get_or a.t1 k (pos 0)) a.q (omega arith))))
+    is-build (pos 0) a.values 7 (λ (k : ℕ). ac_prediction (get_or a.values k (pos 0)) a.qp a.q) (good_length (e_s_int w32) 7 a.values _ c.well_formed.0)
+    (λ (k : ℕ) (h : k < 7). rw e (sym (same-quantiser (get_or a.values k (pos 0)) a.q (omega arith))))
 
-loop_holds : tie.Need-loop-init invariant_loop decreases-loop
+loop-k-init : tie.Need-loop-k-init invariant-loop-k decreases-loop-k
 unfolding build
-loop_holds c = (omega arith, cells-none 7 _ (λ (j : ℕ). pos 0) _ refl)
+loop-k-init c = (omega arith, cells-none 7 _ (λ (j : ℕ). pos 0) _ refl)
 
-mul-ac-prediction : tie.Need-overflow-mul-ac-prediction invariant_loop decreases-loop
-mul-ac-prediction c = omega arith
+offset_bounds-values-k : tie.Need-offset_bounds-values-k invariant-loop-k decreases-loop-k
+offset_bounds-values-k c = omega arith
 
-array-copy-out-ac-prediction : tie.Need-array-copy-out-ac-prediction invariant_loop decreases-loop
-array-copy-out-ac-prediction c = omega arith
+bounds-values-k : tie.Need-bounds-values-k invariant-loop-k decreases-loop-k
+bounds-values-k c = omega arith
 
-ac-prediction-requires : tie.Need-ac-prediction-requires invariant_loop decreases-loop
-ac-prediction-requires c κs =
+ac_prediction-requires : tie.Need-ac_prediction-requires invariant-loop-k decreases-loop-k
+ac_prediction-requires c κs =
     let s = c.before.before.before.before in
-    let k = c.before.before.loop.k in
-    rw (held (get_or s.args.t1 k (pos 0)) c.ac-prediction-arg.given) (s.requires.0 k c.before.loop-test.true, s.requires.1)
+    let k = c.loop-k.k in
+    rw (held (get_or s.args.values k (pos 0)) c.ac_prediction-arg-1.given) (s.requires.0 k c.loop-k-test.true, s.requires.1)
 
-mul-more : tie.Need-overflow-mul-more invariant_loop decreases-loop
-mul-more c = omega arith
+offset_bounds-more-k : tie.Need-offset_bounds-more-k invariant-loop-k decreases-loop-k
+offset_bounds-more-k c = omega arith
 
-array-set-from-more : tie.Need-array-set-from-more invariant_loop decreases-loop
-array-set-from-more c = omega arith
+bounds-more-k : tie.Need-bounds-more-k invariant-loop-k decreases-loop-k
+bounds-more-k c = omega arith
 
-add-k : tie.Need-overflow-add-k invariant_loop decreases-loop
-add-k c = omega arith
+overflow_step-k : tie.Need-overflow_step-k invariant-loop-k decreases-loop-k
+overflow_step-k c = omega arith
 
-loop-less : tie.Need-loop-smaller invariant_loop decreases-loop
-loop-less c = omega arith
+loop-k-smaller : tie.Need-loop-k-smaller invariant-loop-k decreases-loop-k
+loop-k-smaller c = omega arith
 
-loop_again : tie.Need-loop-preserved invariant_loop decreases-loop
-loop_again c =
-    let a = c.before.before.before.before.before.args in
-    let l = c.before.before.before.loop in
-    let y = get_or a.t1 l.k (pos 0) in (
+loop-k-preserved : tie.Need-loop-k-preserved invariant-loop-k decreases-loop-k
+loop-k-preserved c =
+    let a = c.args in
+    let l = c.loop-k in
+    let y = get_or a.values l.k (pos 0) in (
       omega arith,
-      cells-more 7 _ _ (pos 0) _ _ _ c.before.before.loop-test.true l.invariant.1
-          (held c.ac-prediction.result c.ac-prediction.type-inv
-          ∙ c.ac-prediction.ensures.0
-          ∙ ap (λ (t : ℤ). ac_prediction t a.qp a.q) (held y c.before.ac-prediction-arg.given)),
+      cells-more 7 _ _ (pos 0) _ _ _ c.loop-k-test.true l.invariant.1
+          (held c.ac_prediction.result c.ac_prediction.type_inv
+          ∙ c.ac_prediction.ensures.0
+          ∙ ap (λ (t : ℤ). ac_prediction t a.qp a.q) (held y c.ac_prediction-arg-1.given)),
     )
 
-returns_2 : tie.Need-returns-2 invariant_loop decreases-loop
-returns_2 c =
-    let l = c.before.loop in
-    cells_all 7 _ _ _ _ c.loop-test.false l.invariant.0 l.invariant.1
+returns : tie.Need-returns invariant-loop-k decreases-loop-k
+returns c =
+    let l = c.loop-k in
+    cells_all 7 _ _ _ _ c.loop-k-test.false l.invariant.0 l.invariant.1
 
 pub seven_predictions_spec : {M : Type 1} → statement M
 seven_predictions_spec =
     tie.close
     (tie.spec
-    invariant_loop
-    decreases-loop
-    returns
-    loop_holds
-    mul-ac-prediction
-    array-copy-out-ac-prediction
-    ac-prediction-requires
-    mul-more
-    array-set-from-more
-    add-k
-    loop-less
-    loop_again
-    returns_2)
+    invariant-loop-k
+    decreases-loop-k
+    returns-then-qp-q
+    loop-k-init
+    offset_bounds-values-k
+    bounds-values-k
+    ac_prediction-requires
+    offset_bounds-more-k
+    bounds-more-k
+    overflow_step-k
+    loop-k-smaller
+    loop-k-preserved
+    returns)

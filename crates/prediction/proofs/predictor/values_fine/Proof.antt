@@ -3,14 +3,14 @@ use borrow.Author.Rules.{rules}
 use Rattle.prediction.proofs.predictor.values_fine.Statement.{statement}
 use Rattle.prediction.proofs.predictor.values_fine.Tie as tie
 
-all-levels-requires : tie.Need-all-levels-requires
-all-levels-requires c κs = search rules
+all_levels-requires : tie.Need-all_levels-requires
+all_levels-requires c κs = search rules
+
+returns-then-has : tie.Need-returns-then-has
+returns-then-has c = rw c.if-has.true c.all_levels.ensures
 
 returns : tie.Need-returns
-returns c = rw c.before.if1.true c.all-levels.ensures
-
-returns_2 : tie.Need-returns-2
-returns_2 c = search rules
+returns c = search rules
 
 pub values_fine_spec : {M : Type 1} → statement M
-values_fine_spec = tie.close (tie.spec all-levels-requires returns returns_2)
+values_fine_spec = tie.close (tie.spec all_levels-requires returns-then-has returns)

@@ -3,11 +3,11 @@ use borrow.Author.Tests.{lt-leb, le-leb}
 use Rattle.ranges.proofs.Depth.fine.Statement.{statement}
 use Rattle.ranges.proofs.Depth.fine.Tie as tie
 
-returns : tie.Need-returns
-returns c = simp (lt-leb _ _ c.if1.taken)
+returns-then-bits_per_pixel-lt-LEAST : tie.Need-returns-then-bits_per_pixel-lt-LEAST
+returns-then-bits_per_pixel-lt-LEAST c = simp (lt-leb _ _ c.if-bits_per_pixel-lt-LEAST.true)
 
-returns_2 : tie.Need-returns-2
-returns_2 c = simp (le-leb _ _ c.if1.left)
+returns : tie.Need-returns
+returns c = simp (le-leb _ _ c.if-bits_per_pixel-lt-LEAST.false)
 
 pub fine_spec : {M : Type 1} → statement M
-fine_spec = tie.close (tie.spec returns returns_2)
+fine_spec = tie.close (tie.spec returns-then-bits_per_pixel-lt-LEAST returns)

@@ -12,17 +12,17 @@ use Rattle.ranges.proofs.Depth.value_limits.Tie as tie
 fine-requires : tie.Need-fine-requires
 fine-requires c κs = search rules
 
+returns-then-not-fine : tie.Need-returns-then-not-fine
+returns-then-not-fine c = limits_not _ _ (flag_refuses c.fine.ensures c.if-not-fine.true)
+
+overflow_add-bits_per_pixel : tie.Need-overflow_add-bits_per_pixel
+overflow_add-bits_per_pixel c = omega (arith, (depth_range c.args.bits_per_pixel (flag_passes c.fine.ensures c.if-not-fine.false)).1)
+
+limits_of-requires : tie.Need-limits_of-requires
+limits_of-requires c κs = omega (arith, (depth_range c.args.bits_per_pixel (flag_passes c.fine.ensures c.if-not-fine.false)).1)
+
 returns : tie.Need-returns
-returns c = limits_not _ _ (flag_refuses c.before.fine.ensures c.if1.taken)
-
-add-limits-of : tie.Need-add-limits-of
-add-limits-of c = omega (arith, (depth_range c.before.before.args.bits-per-pixel (flag_passes c.before.fine.ensures c.if1.left)).1)
-
-limits-of-requires : tie.Need-limits-of-requires
-limits-of-requires c κs = omega (arith, (depth_range c.before.before.args.bits-per-pixel (flag_passes c.before.fine.ensures c.if1.left)).1)
-
-returns_2 : tie.Need-returns-2
-returns_2 c = ap limits_outcome c.Limits-of.ensures ∙ limits_fine _ _ _ (flag_passes c.before.before.fine.ensures c.before.if1.left)
+returns c = ap limits_outcome c.limits_of.ensures ∙ limits_fine _ _ _ (flag_passes c.fine.ensures c.if-not-fine.false)
 
 pub value_limits_spec : {M : Type 1} → statement M
-value_limits_spec = tie.close (tie.spec fine-requires returns add-limits-of limits-of-requires returns_2)
+value_limits_spec = tie.close (tie.spec fine-requires returns-then-not-fine overflow_add-bits_per_pixel limits_of-requires returns)

@@ -8,7 +8,7 @@ inside-requires : tie.Need-inside-requires
 inside-requires c κs = search rules
 
 returns : tie.Need-returns
-returns c = simp (to_z-of_z, c.before.fits.value) at c.inside.ensures
+returns c = simp (to_z-of_z, c.ranges.value) at c.inside.ensures
 
 pub fine_spec : {M : Type 1} → statement M
 fine_spec = tie.close (tie.spec inside-requires returns)

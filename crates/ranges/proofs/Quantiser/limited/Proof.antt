@@ -8,11 +8,11 @@ use Rattle.numbers.specs.Limit.{clamp_z}
 use Rattle.ranges.proofs.Quantiser.limited.Statement.{statement}
 use Rattle.ranges.proofs.Quantiser.limited.Tie as tie
 
-cast-clamp : tie.Need-cast-clamp
-cast-clamp c = search rules
+overflow_cast-clamp : tie.Need-overflow_cast-clamp
+overflow_cast-clamp c = search rules
 
-cast-clamp-2 : tie.Need-cast-clamp-2
-cast-clamp-2 c = search rules
+overflow_cast-clamp-2 : tie.Need-overflow_cast-clamp-2
+overflow_cast-clamp-2 c = search rules
 
 clamp-requires : tie.Need-clamp-requires
 clamp-requires c κs = search rules
@@ -24,7 +24,7 @@ returns : tie.Need-returns
 returns c =
     let k = c.before in
     c.abs.ensures
-    ∙ ap nat_abs (held k.clamp.result k.clamp.ok ∙ k.clamp.ensures ∙ ap (λ (z : ℤ). clamp_z z (pos 1) (pos 31)) (to_z-of_z k.before.fits.changed))
+    ∙ ap nat_abs (held k.clamp.result k.clamp.type_inv ∙ k.clamp.ensures ∙ ap (λ (z : ℤ). clamp_z z (pos 1) (pos 31)) (to_z-of_z k.ranges.changed))
 
 pub limited_spec : {M : Type 1} → statement M
-limited_spec = tie.close (tie.spec cast-clamp cast-clamp-2 clamp-requires abs-requires returns)
+limited_spec = tie.close (tie.spec overflow_cast-clamp overflow_cast-clamp-2 clamp-requires abs-requires returns)

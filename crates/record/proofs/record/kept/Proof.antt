@@ -9,55 +9,55 @@ use Rattle.record.proofs.RecordLaws.{kept_row, kept-column}
 use Rattle.record.proofs.record.kept.Statement.{statement}
 use Rattle.record.proofs.record.kept.Tie as tie
 
-returns : tie.Need-returns
-returns c = let s = c.before in rw (eq-eqb s.args.u 0 c.if1.true) (to_z-of_z s.ranges.dc)
+returns-then-u-eq0 : tie.Need-returns-then-u-eq0
+returns-then-u-eq0 c = let s = c.before in rw (eq-eqb s.args.u 0 c.if-u-eq0.true) (to_z-of_z s.ranges.dc)
 
 -- after the first test
-above : (c : tie.Else1) → 1 ≤ c.before.args.u
-above c = omega (arith, c.if1.false)
+above : (c : tie.Else-u-eq0) → 1 ≤ c.args.u
+above c = omega (arith, c.if-u-eq0.false)
 
-mul-result : tie.Need-overflow-mul-result
-mul-result c = search rules
+offset_bounds-qf-u : tie.Need-offset_bounds-qf-u
+offset_bounds-qf-u c = search rules
 
-index-1-result : tie.Need-bounds-1-result
-index-1-result c = search rules
+bounds-qf-0 : tie.Need-bounds-qf-0
+bounds-qf-0 c = search rules
 
-index-2-result : tie.Need-bounds-2-result
-index-2-result c = search rules
+bounds-qf-u : tie.Need-bounds-qf-u
+bounds-qf-u c = search rules
 
-returns_2 : tie.Need-returns-2
-returns_2 c =
-    let a = c.before.before.before.args in
-    rw (kept_row a.dc a.t2 a.u (above c.before.before) c.before.if2.true) (held _ c.result.given)
+returns-then-u-le7 : tie.Need-returns-then-u-le7
+returns-then-u-le7 c =
+    let a = c.args in
+    rw (kept_row a.dc a.qf a.u (above c.before.before) c.if-u-le7.true) (held _ c.result-1.given)
 
-sub-result : tie.Need-overflow-sub-result
-sub-result c = search rules
+overflow_sub-result : tie.Need-overflow_sub-result
+overflow_sub-result c = search rules
 
-mul-result-2 : tie.Need-overflow-mul-result-2
-mul-result-2 c = search rules
+offset_bounds-qf-u-2 : tie.Need-offset_bounds-qf-u-2
+offset_bounds-qf-u-2 c = search rules
 
-index-1-result-2 : tie.Need-bounds-1-result-2
-index-1-result-2 c = search rules
+bounds-qf-u-else-u-le7 : tie.Need-bounds-qf-u-else-u-le7
+bounds-qf-u-else-u-le7 c = search rules
 
-index-2-result-2 : tie.Need-bounds-2-result-2
-index-2-result-2 c = search rules
+bounds-qf-0-else-u-le7 : tie.Need-bounds-qf-0-else-u-le7
+bounds-qf-0-else-u-le7 c = search rules
 
-returns_3 : tie.Need-returns-3
-returns_3 c =
-    let a = c.before.before.before.args in
-    rw (kept-column a.dc a.t2 a.u c.before.if2.false) (held _ c.result2.given)
+returns : tie.Need-returns
+returns c =
+    let a = c.args in
+    rw (kept-column a.dc a.qf a.u c.if-u-le7.false) (held _ c.result-2-1.given)
 
 pub kept_spec : {M : Type 1} → statement M
 kept_spec =
     tie.close
     (tie.spec
-    returns
-    mul-result
-    index-1-result
-    index-2-result
-    returns_2
-    sub-result
-    mul-result-2
-    index-1-result-2
-    index-2-result-2
-    returns_3)
+    returns-then-u-eq0
+    offset_bounds-qf-u
+    bounds-qf-0
+    bounds-qf-u
+    returns-then-u-le7
+    overflow_sub-result
+    offset_bounds-qf-u-2
+    bounds-qf-u-else-u-le7
+    bounds-qf-0-else-u-le7
+    returns)

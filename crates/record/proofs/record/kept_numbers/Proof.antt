@@ -16,53 +16,53 @@ use Rattle.record.proofs.record.kept_numbers.Tie as tie
 abbrev z : ℕ → ℤ
 z u = pos 0
 
-abbrev invariant_loop : tie.invariant-loop
-invariant_loop dc qf out₀ u₀ out u = (u ≤ 15) × (out ≡ part 15 (kept_of (to_z w32 dc) qf) z u)
+abbrev invariant-loop-u : tie.invariant-loop-u
+invariant-loop-u dc qf out₀ u₀ out u = (u ≤ 15) × (out ≡ part 15 (kept_of (to_z w32 dc) qf) z u)
 
-abbrev decreases-loop : tie.decreases-loop
-decreases-loop dc qf out₀ u₀ out u = 15 - u
+abbrev decreases-loop-u : tie.decreases-loop-u
+decreases-loop-u dc qf out₀ u₀ out u = 15 - u
 
-loop_holds : tie.Need-loop-init invariant_loop decreases-loop
+loop-u-init : tie.Need-loop-u-init invariant-loop-u decreases-loop-u
 unfolding build
-loop_holds c = (omega arith, cells-none 15 _ z _ refl)
+loop-u-init c = (omega arith, cells-none 15 _ z _ refl)
 
-kept-requires : tie.Need-kept-requires invariant_loop decreases-loop
+kept-requires : tie.Need-kept-requires invariant-loop-u decreases-loop-u
 kept-requires c κs = omega arith
 
-mul-out : tie.Need-overflow-mul-out invariant_loop decreases-loop
-mul-out c = omega arith
+offset_bounds-out-u : tie.Need-offset_bounds-out-u invariant-loop-u decreases-loop-u
+offset_bounds-out-u c = omega arith
 
-array-set-from-out : tie.Need-array-set-from-out invariant_loop decreases-loop
-array-set-from-out c = omega arith
+bounds-out-u : tie.Need-bounds-out-u invariant-loop-u decreases-loop-u
+bounds-out-u c = omega arith
 
-add-u : tie.Need-overflow-add-u invariant_loop decreases-loop
-add-u c = omega arith
+overflow_step-u : tie.Need-overflow_step-u invariant-loop-u decreases-loop-u
+overflow_step-u c = omega arith
 
-loop-less : tie.Need-loop-smaller invariant_loop decreases-loop
-loop-less c = omega arith
+loop-u-smaller : tie.Need-loop-u-smaller invariant-loop-u decreases-loop-u
+loop-u-smaller c = omega arith
 
-loop_again : tie.Need-loop-preserved invariant_loop decreases-loop
-loop_again c =
-    (omega arith, cells-more 15 _ _ (pos 0) _ _ _ c.before.loop-test.true c.before.before.loop.invariant.1 (held c.kept.result c.kept.type-inv ∙ c.kept.ensures))
+loop-u-preserved : tie.Need-loop-u-preserved invariant-loop-u decreases-loop-u
+loop-u-preserved c =
+    (omega arith, cells-more 15 _ _ (pos 0) _ _ _ c.loop-u-test.true c.loop-u.invariant.1 (held c.kept.result c.kept.type_inv ∙ c.kept.ensures))
 
-returns : tie.Need-returns invariant_loop decreases-loop
+returns : tie.Need-returns invariant-loop-u decreases-loop-u
 unfolding fifteen
 returns c =
-    let l = c.before.loop in
+    let l = c.loop-u in
     let s = c.before.before in
-    cells_all 15 _ _ _ _ c.loop-test.false l.invariant.0 l.invariant.1 ∙ ap (λ (d : ℤ). build 15 (kept_of d s.args.qf)) (to_z-of_z s.ranges.dc)
+    cells_all 15 _ _ _ _ c.loop-u-test.false l.invariant.0 l.invariant.1 ∙ ap (λ (d : ℤ). build 15 (kept_of d s.args.qf)) (to_z-of_z s.ranges.dc)
 
 pub kept_numbers_spec : {M : Type 1} → statement M
 kept_numbers_spec =
     tie.close
     (tie.spec
-    invariant_loop
-    decreases-loop
-    loop_holds
+    invariant-loop-u
+    decreases-loop-u
+    loop-u-init
     kept-requires
-    mul-out
-    array-set-from-out
-    add-u
-    loop-less
-    loop_again
+    offset_bounds-out-u
+    bounds-out-u
+    overflow_step-u
+    loop-u-smaller
+    loop-u-preserved
     returns)

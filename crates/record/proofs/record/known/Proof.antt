@@ -7,35 +7,35 @@ use Rattle.record.proofs.KnownLaws.{known_is}
 use Rattle.record.proofs.record.known.Statement.{statement}
 use Rattle.record.proofs.record.known.Tie as tie
 
-mul-base : tie.Need-overflow-mul-base
-mul-base c = search rules
+overflow_mul-base : tie.Need-overflow_mul-base
+overflow_mul-base c = search rules
 
-add-base : tie.Need-overflow-add-base
-add-base c = search rules
+overflow_add-base : tie.Need-overflow_add-base
+overflow_add-base c = search rules
+
+number-dc-requires : tie.Need-number-dc-requires
+number-dc-requires c κs = search rules
+
+overflow_add-start : tie.Need-overflow_add-start
+overflow_add-start c = search rules
 
 number-requires : tie.Need-number-requires
 number-requires c κs = search rules
 
-add-number : tie.Need-overflow-add-number
-add-number c = search rules
+quantiser-qp-requires : tie.Need-quantiser-qp-requires
+quantiser-qp-requires c κs = search rules
 
-number-requires-2 : tie.Need-number-requires-2
-number-requires-2 c κs = search rules
+overflow_add-base-2 : tie.Need-overflow_add-base-2
+overflow_add-base-2 c = search rules
 
-quantiser-requires : tie.Need-quantiser-requires
-quantiser-requires c κs = search rules
+seven-row-requires : tie.Need-seven-row-requires
+seven-row-requires c κs = search rules
 
-add_seven : tie.Need-overflow-add-seven
-add_seven c = search rules
+overflow_add-base-3 : tie.Need-overflow_add-base-3
+overflow_add-base-3 c = search rules
 
-seven-requires : tie.Need-seven-requires
-seven-requires c κs = search rules
-
-add-seven-2 : tie.Need-overflow-add-seven-2
-add-seven-2 c = search rules
-
-seven-requires-2 : tie.Need-seven-requires-2
-seven-requires-2 c κs = search rules
+seven-column-requires : tie.Need-seven-column-requires
+seven-column-requires c κs = search rules
 
 returns : tie.Need-returns
 returns c =
@@ -44,23 +44,23 @@ returns c =
     let n = m.before in
     let s = n.before in
     known_is s.args.s.now s.args.at s.args.b
-    (held n.number.result n.number.type-inv ∙ n.number.ensures)
-    (q.quantiser.ensures ∙ ap quantiser_of (held m.number2.result m.number2.type-inv ∙ m.number2.ensures))
-    c.before.seven.ensures
-    c.seven2.ensures
+    (held n.number-dc.result n.number-dc.type_inv ∙ n.number-dc.ensures)
+    (q.quantiser-qp.ensures ∙ ap quantiser_of (held m.number.result m.number.type_inv ∙ m.number.ensures))
+    c.seven-row.ensures
+    c.seven-column.ensures
 
 pub known_spec : {M : Type 1} → statement M
 known_spec =
     tie.close
     (tie.spec
-    mul-base
-    add-base
+    overflow_mul-base
+    overflow_add-base
+    number-dc-requires
+    overflow_add-start
     number-requires
-    add-number
-    number-requires-2
-    quantiser-requires
-    add_seven
-    seven-requires
-    add-seven-2
-    seven-requires-2
+    quantiser-qp-requires
+    overflow_add-base-2
+    seven-row-requires
+    overflow_add-base-3
+    seven-column-requires
     returns)

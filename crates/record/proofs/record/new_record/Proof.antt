@@ -18,26 +18,26 @@ use Rattle.record.proofs.record.new_record.Tie as tie
 fine-requires : tie.Need-fine-requires
 fine-requires c κs = search rules
 
+returns-then-not-fine : tie.Need-returns-then-not-fine
+returns-then-not-fine c =
+    let q = c.args.quantiser_scale in
+    also recorded_outcome (rw (flag_refuses c.fine.ensures c.if-not-fine.true) (refl, refl)) (quantiser_due_lem q)
+
+is_one : (c : tie.Else-not-fine) → quantiser_fine c.args.quantiser_scale ≡ true
+is_one c = flag_passes c.fine.ensures c.if-not-fine.false
+
+overflow_cast-fresh : tie.Need-overflow_cast-fresh
+overflow_cast-fresh c = omega (arith, (quantiser_range c.args.quantiser_scale (is_one c)).1)
+
+bounds-fresh-90 : tie.Need-bounds-fresh-90
+bounds-fresh-90 c = search rules
+
 returns : tie.Need-returns
-returns c =
-    let q = c.before.before.args.quantiser-scale in
-    also recorded_outcome (rw (flag_refuses c.before.fine.ensures c.if1.taken) (refl, refl)) (quantiser_due_lem q)
-
-is_one : (c : tie.Else1) → quantiser_fine c.before.before.args.quantiser-scale ≡ true
-is_one c = flag_passes c.before.fine.ensures c.if1.left
-
-cast-fresh : tie.Need-cast-fresh
-cast-fresh c = omega (arith, (quantiser_range c.before.before.args.quantiser-scale (is_one c)).1)
-
-array-set-from-fresh : tie.Need-array-set-from-fresh
-array-set-from-fresh c = search rules
-
-returns_2 : tie.Need-returns-2
 unfolding blank
-returns_2 c =
-    let q = c.before.before.args.quantiser-scale in
+returns c =
+    let q = c.args.quantiser_scale in
     also recorded_outcome (rw (is_one c, to_z_pos w32 {n = q} (omega (arith, (quantiser_range q (is_one c)).1))) (refl, refl)) (quantiser_due_lem q)
 
 pub new_record_spec : {M : Type 1} → statement M
 new_record_spec =
-    tie.close (tie.spec fine-requires returns cast-fresh array-set-from-fresh returns_2)
+    tie.close (tie.spec fine-requires returns-then-not-fine overflow_cast-fresh bounds-fresh-90 returns)

@@ -6,17 +6,17 @@ use borrow.Author.Rules.{rules}
 use Rattle.record.proofs.record.number.Statement.{statement}
 use Rattle.record.proofs.record.number.Tie as tie
 
-mul-result : tie.Need-overflow-mul-result
-mul-result c = search rules
+offset_bounds-s-at : tie.Need-offset_bounds-s-at
+offset_bounds-s-at c = search rules
 
-shared-slice-copy-out-result : tie.Need-shared-slice-copy-out-result
-shared-slice-copy-out-result c = search rules
+bounds-s-at : tie.Need-bounds-s-at
+bounds-s-at c = search rules
+
+returns-then-at-s : tie.Need-returns-then-at-s
+returns-then-at-s c = search rules
 
 returns : tie.Need-returns
-returns c = search rules
-
-returns_2 : tie.Need-returns-2
-returns_2 c = sym (get_or-eq_default c.before.args.s.now (pos 0) c.if1.false)
+returns c = sym (get_or-eq_default c.args.s.now (pos 0) c.if-at-s.false)
 
 pub number_spec : {M : Type 1} → statement M
-number_spec = tie.close (tie.spec mul-result shared-slice-copy-out-result returns returns_2)
+number_spec = tie.close (tie.spec offset_bounds-s-at bounds-s-at returns-then-at-s returns)

@@ -11,22 +11,22 @@ use Rattle.record.proofs.KnownLaws.{quantiser-negative, quantiser-is, quantiser_
 use Rattle.record.proofs.record.quantiser.Statement.{statement}
 use Rattle.record.proofs.record.quantiser.Tie as tie
 
-returns : tie.Need-returns
-returns c =
+returns-then-z-lt0 : tie.Need-returns-then-z-lt0
+returns-then-z-lt0 c =
     let s = c.before in
-    let h : lt_z s.args.z (pos 0) ≡ true = simp (to_z-of_z s.ranges.z) at c.if1.true in
+    let h : lt_z s.args.z (pos 0) ≡ true = simp (to_z-of_z s.ranges.z) at c.if-z-lt0.true in
     quantiser-negative s.args.z h
 
-not_negative : (c : tie.Else1) → lt_z c.before.args.z (pos 0) ≡ false
-not_negative c = simp (to_z-of_z c.before.ranges.z) at c.if1.false
+not_negative : (c : tie.Else-z-lt0) → lt_z c.args.z (pos 0) ≡ false
+not_negative c = simp (to_z-of_z c.ranges.z) at c.if-z-lt0.false
 
-cast_result : tie.Need-overflow-cast-result
-cast_result c =
+overflow_cast-result : tie.Need-overflow_cast-result
+overflow_cast-result c =
     let s = c.before in
     subst (λ (z : ℤ). T (non_neg z) × Fits w32 (nat_abs z)) (sym (to_z-of_z s.ranges.z)) (quantiser_fits s.args.z s.ranges.z (not_negative c))
 
-returns_2 : tie.Need-returns-2
-returns_2 c = simp (to_z-of_z c.before.ranges.z) (quantiser-is c.before.args.z (not_negative c))
+returns : tie.Need-returns
+returns c = simp (to_z-of_z c.ranges.z) (quantiser-is c.args.z (not_negative c))
 
 pub quantiser_spec : {M : Type 1} → statement M
-quantiser_spec = tie.close (tie.spec returns cast_result returns_2)
+quantiser_spec = tie.close (tie.spec returns-then-z-lt0 overflow_cast-result returns)

@@ -22,114 +22,114 @@ z k = pos 0
 abbrev Before : List ℤ → ℕ → List ℤ → ℕ → Type 0
 Before s at out k = (k ≤ 7) × (out ≡ part 7 (f s at) z k)
 
-abbrev invariant_loop : tie.invariant-loop
-invariant_loop s at out₀ k₀ out k = Before s at out k
+abbrev invariant-loop-k : tie.invariant-loop-k
+invariant-loop-k s at out₀ k₀ out k = Before s at out k
 
-abbrev decreases-loop : tie.decreases-loop
-decreases-loop s at out₀ k₀ out k = 7 - k
+abbrev decreases-loop-k : tie.decreases-loop-k
+decreases-loop-k s at out₀ k₀ out k = 7 - k
 
-abbrev invariant_loop2 : tie.invariant-loop2
-invariant_loop2 s at out₀ k₀ out k = Before s at out k
+abbrev invariant-loop-k-2 : tie.invariant-loop-k-2
+invariant-loop-k-2 s at out₀ k₀ out k = Before s at out k
 
-abbrev decreases-loop2 : tie.decreases-loop2
-decreases-loop2 s at out₀ k₀ out k = 7 - k
+abbrev decreases-loop-k-2 : tie.decreases-loop-k-2
+decreases-loop-k-2 s at out₀ k₀ out k = 7 - k
 
-returns : tie.Need-returns invariant_loop decreases-loop invariant_loop2 decreases-loop2
+returns-then-s-at : tie.Need-returns-then-s-at invariant-loop-k decreases-loop-k invariant-loop-k-2 decreases-loop-k-2
 unfolding build
-returns c = seven_past c.before.args.s.now c.before.args.at c.if1.true
+returns-then-s-at c = seven_past c.args.s.now c.args.at c.if-s-at.true
 
-add-if2 : tie.Need-overflow-add-if2 invariant_loop decreases-loop invariant_loop2 decreases-loop2
-add-if2 c = omega arith
+overflow_add-at : tie.Need-overflow_add-at invariant-loop-k decreases-loop-k invariant-loop-k-2 decreases-loop-k-2
+overflow_add-at c = omega arith
 
-loop_holds : tie.Need-loop-init invariant_loop decreases-loop invariant_loop2 decreases-loop2
+loop-k-init : tie.Need-loop-k-init invariant-loop-k decreases-loop-k invariant-loop-k-2 decreases-loop-k-2
 unfolding build
-loop_holds c = (omega arith, cells-none 7 (f c.before.before.args.s.now c.before.before.args.at) z _ refl)
+loop-k-init c = (omega arith, cells-none 7 (f c.args.s.now c.args.at) z _ refl)
 
-add-out : tie.Need-overflow-add-out invariant_loop decreases-loop invariant_loop2 decreases-loop2
-add-out c = omega arith
+overflow_add-out : tie.Need-overflow_add-out invariant-loop-k decreases-loop-k invariant-loop-k-2 decreases-loop-k-2
+overflow_add-out c = omega arith
 
-mul-out : tie.Need-overflow-mul-out invariant_loop decreases-loop invariant_loop2 decreases-loop2
-mul-out c = omega arith
+offset_bounds-s-at : tie.Need-offset_bounds-s-at invariant-loop-k decreases-loop-k invariant-loop-k-2 decreases-loop-k-2
+offset_bounds-s-at c = omega arith
 
-shared-slice-copy-out-out : tie.Need-shared-slice-copy-out-out invariant_loop decreases-loop invariant_loop2 decreases-loop2
-shared-slice-copy-out-out c = let p = c.before.before.if2.true in omega arith
+bounds-s-at : tie.Need-bounds-s-at invariant-loop-k decreases-loop-k invariant-loop-k-2 decreases-loop-k-2
+bounds-s-at c = let p = c.if-at-s.true in omega arith
 
-mul-out-2 : tie.Need-overflow-mul-out-2 invariant_loop decreases-loop invariant_loop2 decreases-loop2
-mul-out-2 c = omega arith
+offset_bounds-out-k : tie.Need-offset_bounds-out-k invariant-loop-k decreases-loop-k invariant-loop-k-2 decreases-loop-k-2
+offset_bounds-out-k c = omega arith
 
-array-set-from-out : tie.Need-array-set-from-out invariant_loop decreases-loop invariant_loop2 decreases-loop2
-array-set-from-out c = omega arith
+bounds-out-k : tie.Need-bounds-out-k invariant-loop-k decreases-loop-k invariant-loop-k-2 decreases-loop-k-2
+bounds-out-k c = omega arith
 
-add-k : tie.Need-overflow-add-k invariant_loop decreases-loop invariant_loop2 decreases-loop2
-add-k c = omega arith
+overflow_step-k : tie.Need-overflow_step-k invariant-loop-k decreases-loop-k invariant-loop-k-2 decreases-loop-k-2
+overflow_step-k c = omega arith
 
-loop-less : tie.Need-loop-smaller invariant_loop decreases-loop invariant_loop2 decreases-loop2
-loop-less c = omega arith
+loop-k-smaller : tie.Need-loop-k-smaller invariant-loop-k decreases-loop-k invariant-loop-k-2 decreases-loop-k-2
+loop-k-smaller c = omega arith
 
-loop_again : tie.Need-loop-preserved invariant_loop decreases-loop invariant_loop2 decreases-loop2
-loop_again c =
+loop-k-preserved : tie.Need-loop-k-preserved invariant-loop-k decreases-loop-k invariant-loop-k-2 decreases-loop-k-2
+loop-k-preserved c =
     let l = c.before.before in
-    let a = l.before.before.before.args in
-    (omega arith, cells-more 7 _ _ (pos 0) _ _ _ c.before.loop-test.true l.loop.invariant.1 (held (get_or a.s.now (a.at + l.loop.k) (pos 0)) c.out.given))
+    let a = l.args in
+    (omega arith, cells-more 7 _ _ (pos 0) _ _ _ c.loop-k-test.true l.loop-k.invariant.1 (held (get_or a.s.now (a.at + l.loop-k.k) (pos 0)) c.out-1.given))
 
-returns_2 : tie.Need-returns-2 invariant_loop decreases-loop invariant_loop2 decreases-loop2
-returns_2 c = let l = c.before.loop in cells_all 7 _ _ _ _ c.loop-test.false l.invariant.0 l.invariant.1
+returns-then-at-s : tie.Need-returns-then-at-s invariant-loop-k decreases-loop-k invariant-loop-k-2 decreases-loop-k-2
+returns-then-at-s c = let l = c.loop-k in cells_all 7 _ _ _ _ c.loop-k-test.false l.invariant.0 l.invariant.1
 
-loop2-holds : tie.Need-loop2-init invariant_loop decreases-loop invariant_loop2 decreases-loop2
+loop-k-2-init : tie.Need-loop-k-2-init invariant-loop-k decreases-loop-k invariant-loop-k-2 decreases-loop-k-2
 unfolding build
-loop2-holds c = (omega arith, cells-none 7 (f c.before.before.args.s.now c.before.before.args.at) z _ refl)
+loop-k-2-init c = (omega arith, cells-none 7 (f c.args.s.now c.args.at) z _ refl)
 
-add-number : tie.Need-overflow-add-number invariant_loop decreases-loop invariant_loop2 decreases-loop2
-add-number c = omega arith
+overflow_add-at-in-loop-k-2 : tie.Need-overflow_add-at-in-loop-k-2 invariant-loop-k decreases-loop-k invariant-loop-k-2 decreases-loop-k-2
+overflow_add-at-in-loop-k-2 c = omega arith
 
-number-requires : tie.Need-number-requires invariant_loop decreases-loop invariant_loop2 decreases-loop2
+number-requires : tie.Need-number-requires invariant-loop-k decreases-loop-k invariant-loop-k-2 decreases-loop-k-2
 number-requires c κs = tt
 
-mul-out-3 : tie.Need-overflow-mul-out-3 invariant_loop decreases-loop invariant_loop2 decreases-loop2
-mul-out-3 c = omega arith
+offset_bounds-out-k-in-loop-k-2 : tie.Need-offset_bounds-out-k-in-loop-k-2 invariant-loop-k decreases-loop-k invariant-loop-k-2 decreases-loop-k-2
+offset_bounds-out-k-in-loop-k-2 c = omega arith
 
-array-set-from-out-2 : tie.Need-array-set-from-out-2 invariant_loop decreases-loop invariant_loop2 decreases-loop2
-array-set-from-out-2 c = omega arith
+bounds-out-k-in-loop-k-2 : tie.Need-bounds-out-k-in-loop-k-2 invariant-loop-k decreases-loop-k invariant-loop-k-2 decreases-loop-k-2
+bounds-out-k-in-loop-k-2 c = omega arith
 
-add-k-2 : tie.Need-overflow-add-k-2 invariant_loop decreases-loop invariant_loop2 decreases-loop2
-add-k-2 c = omega arith
+overflow_step-k-in-loop-k-2 : tie.Need-overflow_step-k-in-loop-k-2 invariant-loop-k decreases-loop-k invariant-loop-k-2 decreases-loop-k-2
+overflow_step-k-in-loop-k-2 c = omega arith
 
-loop2-less : tie.Need-loop2-smaller invariant_loop decreases-loop invariant_loop2 decreases-loop2
-loop2-less c = omega arith
+loop-k-2-smaller : tie.Need-loop-k-2-smaller invariant-loop-k decreases-loop-k invariant-loop-k-2 decreases-loop-k-2
+loop-k-2-smaller c = omega arith
 
-loop2-again : tie.Need-loop2-preserved invariant_loop decreases-loop invariant_loop2 decreases-loop2
-loop2-again c =
-    (omega arith, cells-more 7 _ _ (pos 0) _ _ _ c.before.loop2-test.true c.before.before.loop2.invariant.1 (held c.number.result c.number.type-inv ∙ c.number.ensures))
+loop-k-2-preserved : tie.Need-loop-k-2-preserved invariant-loop-k decreases-loop-k invariant-loop-k-2 decreases-loop-k-2
+loop-k-2-preserved c =
+    (omega arith, cells-more 7 _ _ (pos 0) _ _ _ c.loop-k-2-test.true c.loop-k-2.invariant.1 (held c.number.result c.number.type_inv ∙ c.number.ensures))
 
-returns_3 : tie.Need-returns-3 invariant_loop decreases-loop invariant_loop2 decreases-loop2
-returns_3 c = let l = c.before.loop2 in cells_all 7 _ _ _ _ c.loop2-test.false l.invariant.0 l.invariant.1
+returns : tie.Need-returns invariant-loop-k decreases-loop-k invariant-loop-k-2 decreases-loop-k-2
+returns c = let l = c.loop-k-2 in cells_all 7 _ _ _ _ c.loop-k-2-test.false l.invariant.0 l.invariant.1
 
 pub seven_spec : {M : Type 1} → statement M
 seven_spec =
     tie.close
     (tie.spec
-    invariant_loop
-    decreases-loop
-    invariant_loop2
-    decreases-loop2
-    returns
-    add-if2
-    loop_holds
-    add-out
-    mul-out
-    shared-slice-copy-out-out
-    mul-out-2
-    array-set-from-out
-    add-k
-    loop-less
-    loop_again
-    returns_2
-    loop2-holds
-    add-number
+    invariant-loop-k
+    decreases-loop-k
+    invariant-loop-k-2
+    decreases-loop-k-2
+    returns-then-s-at
+    overflow_add-at
+    loop-k-init
+    overflow_add-out
+    offset_bounds-s-at
+    bounds-s-at
+    offset_bounds-out-k
+    bounds-out-k
+    overflow_step-k
+    loop-k-smaller
+    loop-k-preserved
+    returns-then-at-s
+    loop-k-2-init
+    overflow_add-at-in-loop-k-2
     number-requires
-    mul-out-3
-    array-set-from-out-2
-    add-k-2
-    loop2-less
-    loop2-again
-    returns_3)
+    offset_bounds-out-k-in-loop-k-2
+    bounds-out-k-in-loop-k-2
+    overflow_step-k-in-loop-k-2
+    loop-k-2-smaller
+    loop-k-2-preserved
+    returns)

@@ -15,66 +15,66 @@ use Rattle.record.proofs.RefusalLaws.{store_passes}
 use Rattle.record.proofs.store.put_record.Statement.{statement}
 use Rattle.record.proofs.store.put_record.Tie as tie
 
-abbrev invariant_loop : tie.invariant-loop
-invariant_loop store₀ at r start k₀ store k = (k ≤ 91) × (length store ≡ length store₀) × (store ≡ paste store₀ at r k)
+abbrev invariant-loop-k : tie.invariant-loop-k
+invariant-loop-k store₀ at r start k₀ store k = (k ≤ 91) × (length store ≡ length store₀) × (store ≡ paste store₀ at r k)
 
-abbrev decreases-loop : tie.decreases-loop
-decreases-loop store₀ at r start k₀ store k = 91 - k
+abbrev decreases-loop-k : tie.decreases-loop-k
+decreases-loop-k store₀ at r start k₀ store k = 91 - k
 
-add-if1 : tie.Need-overflow-add-if1 invariant_loop decreases-loop
-add-if1 c = omega arith
+overflow_add-start : tie.Need-overflow_add-start invariant-loop-k decreases-loop-k
+overflow_add-start c = omega arith
 
-returns : tie.Need-returns invariant_loop decreases-loop
-returns c =
-    let a = c.before.args in
+returns-then-store-start : tie.Need-returns-then-store-start invariant-loop-k decreases-loop-k
+returns-then-store-start c =
+    let a = c.args in
     let s = a.store.now in
-    also recorded_outcome (rw (lt-leb (a.at + 91) (length s) c.if1.true) refl, sym (stored_not s a.at a.t3 c.if1.true)) (store_due_lem (length s) a.at)
+    also recorded_outcome (rw (lt-leb (a.at + 91) (length s) c.if-store-start.true) refl, sym (stored_not s a.at a.r c.if-store-start.true)) (store_due_lem (length s) a.at)
 
-loop_holds : tie.Need-loop-init invariant_loop decreases-loop
-loop_holds c = let a = c.before.args in (omega arith, refl, paste-zero a.store.now a.at a.t3)
+loop-k-init : tie.Need-loop-k-init invariant-loop-k decreases-loop-k
+loop-k-init c = let a = c.args in (omega arith, refl, paste-zero a.store.now a.at a.r)
 
-mul-store : tie.Need-overflow-mul-store invariant_loop decreases-loop
-mul-store c = omega arith
+offset_bounds-r-k : tie.Need-offset_bounds-r-k invariant-loop-k decreases-loop-k
+offset_bounds-r-k c = omega arith
 
-array-copy-out-store : tie.Need-array-copy-out-store invariant_loop decreases-loop
-array-copy-out-store c = omega arith
+bounds-r-k : tie.Need-bounds-r-k invariant-loop-k decreases-loop-k
+bounds-r-k c = omega arith
 
-add-t16 : tie.Need-overflow-add-t16 invariant_loop decreases-loop
-add-t16 c = omega arith
+overflow_add-start-in-loop-k : tie.Need-overflow_add-start-in-loop-k invariant-loop-k decreases-loop-k
+overflow_add-start-in-loop-k c = omega arith
 
-mul-t17 : tie.Need-overflow-mul-t17 invariant_loop decreases-loop
-mul-t17 c = omega arith
+offset_bounds-store-start : tie.Need-offset_bounds-store-start invariant-loop-k decreases-loop-k
+offset_bounds-store-start c = omega arith
 
-slice-set-from-store : tie.Need-slice-set-from-store invariant_loop decreases-loop
-slice-set-from-store c = omega arith
+bounds-store-start : tie.Need-bounds-store-start invariant-loop-k decreases-loop-k
+bounds-store-start c = omega arith
 
-add-k : tie.Need-overflow-add-k invariant_loop decreases-loop
-add-k c = omega arith
+overflow_step-k : tie.Need-overflow_step-k invariant-loop-k decreases-loop-k
+overflow_step-k c = omega arith
 
-loop-less : tie.Need-loop-smaller invariant_loop decreases-loop
-loop-less c = omega arith
+loop-k-smaller : tie.Need-loop-k-smaller invariant-loop-k decreases-loop-k
+loop-k-smaller c = omega arith
 
-loop_again : tie.Need-loop-preserved invariant_loop decreases-loop
-loop_again c =
+loop-k-preserved : tie.Need-loop-k-preserved invariant-loop-k decreases-loop-k
+loop-k-preserved c =
     let s = c.before.before.before.before in
-    let l = c.before.before.loop in (
+    let l = c.loop-k in (
       omega arith,
       simp length-set l.invariant.1,
-      paste_more _ _ _ _ _ _ l.invariant.2 (omega arith) (omega arith) (held (get_or s.args.t3 l.k (pos 0)) c.store.given),
+      paste_more _ _ _ _ _ _ l.invariant.2 (omega arith) (omega arith) (held (get_or s.args.r l.k (pos 0)) c.store-1.given),
     )
 
-same_length : tie.Need-same-length invariant_loop decreases-loop
-same_length c = omega arith
+shape_of-store : tie.Need-shape_of-store invariant-loop-k decreases-loop-k
+shape_of-store c = omega arith
 
-returns_2 : tie.Need-returns-2 invariant_loop decreases-loop
-returns_2 c =
-    let a = c.before.before.before.args in
+returns : tie.Need-returns invariant-loop-k decreases-loop-k
+returns c =
+    let a = c.args in
     let s = a.store.now in
-    let h = c.before.before.if1.false in
-    let z : c.before.loop.k ≡ 91 = omega arith in
+    let h = c.if-store-start.false in
+    let z : c.loop-k.k ≡ 91 = omega arith in
     also recorded_outcome (
       sym (store_passes (length s) a.at h),
-      c.before.loop.invariant.2 ∙ ap (λ (j : ℕ). paste s a.at a.t3 j) z ∙ sym (stored_is s a.at a.t3 h),
+      c.loop-k.invariant.2 ∙ ap (λ (j : ℕ). paste s a.at a.r j) z ∙ sym (stored_is s a.at a.r h),
     )
     (store_due_lem (length s) a.at)
 
@@ -82,18 +82,18 @@ pub put_record_spec : {M : Type 1} → statement M
 put_record_spec =
     tie.close
     (tie.spec
-    invariant_loop
-    decreases-loop
-    add-if1
-    returns
-    loop_holds
-    mul-store
-    array-copy-out-store
-    add-t16
-    mul-t17
-    slice-set-from-store
-    add-k
-    loop-less
-    loop_again
-    same_length
-    returns_2)
+    invariant-loop-k
+    decreases-loop-k
+    overflow_add-start
+    returns-then-store-start
+    loop-k-init
+    offset_bounds-r-k
+    bounds-r-k
+    overflow_add-start-in-loop-k
+    offset_bounds-store-start
+    bounds-store-start
+    overflow_step-k
+    loop-k-smaller
+    loop-k-preserved
+    shape_of-store
+    returns)

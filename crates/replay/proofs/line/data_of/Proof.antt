@@ -8,67 +8,67 @@ use lib.Seq.{length-take-le}
 use Rattle.replay.proofs.line.data_of.Statement.{statement}
 use Rattle.replay.proofs.line.data_of.Tie as tie
 
-abbrev invariant_loop : tie.invariant-loop
-invariant_loop line from data₀ n₀ «data» n = (n ≤ length data₀) × (length «data» ≡ length data₀)
+abbrev invariant-loop-n : tie.invariant-loop-n
+invariant-loop-n line from data₀ n₀ «data» n = (n ≤ length data₀) × (length «data» ≡ length data₀)
 
-abbrev decreases-loop : tie.decreases-loop
-decreases-loop line from data₀ n₀ «data» n = length data₀ - n
+abbrev decreases-loop-n : tie.decreases-loop-n
+decreases-loop-n line from data₀ n₀ «data» n = length data₀ - n
 
-loop_holds : tie.Need-loop-init invariant_loop decreases-loop
-loop_holds c = search rules
+loop-n-init : tie.Need-loop-n-init invariant-loop-n decreases-loop-n
+loop-n-init c = search rules
 
-same_length : tie.Need-same-length invariant_loop decreases-loop
-same_length c = search rules
+shape_of-data-then-from-line : tie.Need-shape_of-data-then-from-line invariant-loop-n decreases-loop-n
+shape_of-data-then-from-line c = search rules
 
-returns : tie.Need-returns invariant_loop decreases-loop
-returns c = (omega arith, sym (length-take-le _ _ (omega arith)))
+returns-then-from-line : tie.Need-returns-then-from-line invariant-loop-n decreases-loop-n
+returns-then-from-line c = (omega arith, sym (length-take-le _ _ (omega arith)))
 
-sub-if2 : tie.Need-overflow-sub-if2 invariant_loop decreases-loop
-sub-if2 c = search rules
+overflow_sub-line : tie.Need-overflow_sub-line invariant-loop-n decreases-loop-n
+overflow_sub-line c = search rules
 
-same-length-2 : tie.Need-same-length-2 invariant_loop decreases-loop
-same-length-2 c = search rules
+shape_of-data-then-n-line : tie.Need-shape_of-data-then-n-line invariant-loop-n decreases-loop-n
+shape_of-data-then-n-line c = search rules
 
-returns_2 : tie.Need-returns-2 invariant_loop decreases-loop
-returns_2 c = (omega arith, sym (length-take-le _ _ (omega arith)))
+returns-then-n-line : tie.Need-returns-then-n-line invariant-loop-n decreases-loop-n
+returns-then-n-line c = (omega arith, sym (length-take-le _ _ (omega arith)))
 
-byte-requires : tie.Need-byte-requires invariant_loop decreases-loop
+byte-requires : tie.Need-byte-requires invariant-loop-n decreases-loop-n
 byte-requires c κs = search rules
 
-slice-write-data : tie.Need-slice-write-data invariant_loop decreases-loop
-slice-write-data c = search rules
+bounds-data-n : tie.Need-bounds-data-n invariant-loop-n decreases-loop-n
+bounds-data-n c = search rules
 
-add-n : tie.Need-overflow-add-n invariant_loop decreases-loop
-add-n c = search rules
+overflow_add-n : tie.Need-overflow_add-n invariant-loop-n decreases-loop-n
+overflow_add-n c = search rules
 
-loop-less : tie.Need-loop-smaller invariant_loop decreases-loop
-loop-less c = search rules
+loop-n-smaller : tie.Need-loop-n-smaller invariant-loop-n decreases-loop-n
+loop-n-smaller c = search rules
 
-loop_again : tie.Need-loop-preserved invariant_loop decreases-loop
-loop_again c = search rules
+loop-n-preserved : tie.Need-loop-n-preserved invariant-loop-n decreases-loop-n
+loop-n-preserved c = search rules
 
-same-length-3 : tie.Need-same-length-3 invariant_loop decreases-loop
-same-length-3 c = search rules
+shape_of-data : tie.Need-shape_of-data invariant-loop-n decreases-loop-n
+shape_of-data c = search rules
 
-returns_3 : tie.Need-returns-3 invariant_loop decreases-loop
-returns_3 c = (omega arith, sym (length-take-le _ _ (omega arith)))
+returns : tie.Need-returns invariant-loop-n decreases-loop-n
+returns c = (omega arith, sym (length-take-le _ _ (omega arith)))
 
 pub data_of_spec : {M : Type 1} → statement M
 data_of_spec =
     tie.close
     (tie.spec
-    invariant_loop
-    decreases-loop
-    loop_holds
-    same_length
-    returns
-    sub-if2
-    same-length-2
-    returns_2
+    invariant-loop-n
+    decreases-loop-n
+    loop-n-init
+    shape_of-data-then-from-line
+    returns-then-from-line
+    overflow_sub-line
+    shape_of-data-then-n-line
+    returns-then-n-line
     byte-requires
-    slice-write-data
-    add-n
-    loop-less
-    loop_again
-    same-length-3
-    returns_3)
+    bounds-data-n
+    overflow_add-n
+    loop-n-smaller
+    loop-n-preserved
+    shape_of-data
+    returns)

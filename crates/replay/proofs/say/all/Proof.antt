@@ -6,47 +6,47 @@ use lib.ListN.{length}
 use Rattle.replay.proofs.say.all.Statement.{statement}
 use Rattle.replay.proofs.say.all.Tie as tie
 
-abbrev invariant_loop : tie.invariant-loop
-invariant_loop s k₀ k-end k = (k ≤ length s) × (k-end ≡ length s)
+abbrev invariant-loop-k : tie.invariant-loop-k
+invariant-loop-k s k₀ k-end k = (k ≤ length s) × (k-end ≡ length s)
 
-abbrev decreases-loop : tie.decreases-loop
-decreases-loop s k₀ k-end k = length s - k
+abbrev decreases-loop-k : tie.decreases-loop-k
+decreases-loop-k s k₀ k-end k = length s - k
 
-loop_holds : tie.Need-loop-init invariant_loop decreases-loop
-loop_holds c = search rules
+loop-k-init : tie.Need-loop-k-init invariant-loop-k decreases-loop-k
+loop-k-init c = search rules
 
-mul-signed : tie.Need-overflow-mul-signed invariant_loop decreases-loop
-mul-signed c = search rules
+offset_bounds-s-k : tie.Need-offset_bounds-s-k invariant-loop-k decreases-loop-k
+offset_bounds-s-k c = search rules
 
-shared-slice-copy-out-signed : tie.Need-shared-slice-copy-out-signed invariant_loop decreases-loop
-shared-slice-copy-out-signed c = search rules
+bounds-s-k : tie.Need-bounds-s-k invariant-loop-k decreases-loop-k
+bounds-s-k c = search rules
 
-signed-requires : tie.Need-signed-requires invariant_loop decreases-loop
+signed-requires : tie.Need-signed-requires invariant-loop-k decreases-loop-k
 signed-requires c κs = search rules
 
-add-k : tie.Need-overflow-add-k invariant_loop decreases-loop
-add-k c = search rules
+overflow_step-k : tie.Need-overflow_step-k invariant-loop-k decreases-loop-k
+overflow_step-k c = search rules
 
-loop-less : tie.Need-loop-smaller invariant_loop decreases-loop
-loop-less c = search rules
+loop-k-smaller : tie.Need-loop-k-smaller invariant-loop-k decreases-loop-k
+loop-k-smaller c = search rules
 
-loop_again : tie.Need-loop-preserved invariant_loop decreases-loop
-loop_again c = search rules
+loop-k-preserved : tie.Need-loop-k-preserved invariant-loop-k decreases-loop-k
+loop-k-preserved c = search rules
 
-returns : tie.Need-returns invariant_loop decreases-loop
+returns : tie.Need-returns invariant-loop-k decreases-loop-k
 returns c = search rules
 
 pub all_spec : {M : Type 1} → statement M
 all_spec =
     tie.close
     (tie.spec
-    invariant_loop
-    decreases-loop
-    loop_holds
-    mul-signed
-    shared-slice-copy-out-signed
+    invariant-loop-k
+    decreases-loop-k
+    loop-k-init
+    offset_bounds-s-k
+    bounds-s-k
     signed-requires
-    add-k
-    loop-less
-    loop_again
+    overflow_step-k
+    loop-k-smaller
+    loop-k-preserved
     returns)

@@ -6,47 +6,47 @@ use lib.ListN.{length}
 use Rattle.replay.proofs.say.block.Statement.{statement}
 use Rattle.replay.proofs.say.block.Tie as tie
 
-abbrev invariant_loop : tie.invariant-loop
-invariant_loop b y₀ y = (y ≤ 8) × (length b ≡ 8)
+abbrev invariant-loop-y : tie.invariant-loop-y
+invariant-loop-y b y₀ y = (y ≤ 8) × (length b ≡ 8)
 
-abbrev decreases-loop : tie.decreases-loop
-decreases-loop b y₀ y = 8 - y
+abbrev decreases-loop-y : tie.decreases-loop-y
+decreases-loop-y b y₀ y = 8 - y
 
-loop_holds : tie.Need-loop-init invariant_loop decreases-loop
-loop_holds c = search rules
+loop-y-init : tie.Need-loop-y-init invariant-loop-y decreases-loop-y
+loop-y-init c = search rules
 
-mul-row : tie.Need-overflow-mul-row invariant_loop decreases-loop
-mul-row c = search rules
+offset_bounds-b-y : tie.Need-offset_bounds-b-y invariant-loop-y decreases-loop-y
+offset_bounds-b-y c = search rules
 
-array-copy-out-row : tie.Need-array-copy-out-row invariant_loop decreases-loop
-array-copy-out-row c = search rules
+bounds-b-y : tie.Need-bounds-b-y invariant-loop-y decreases-loop-y
+bounds-b-y c = search rules
 
-row-requires : tie.Need-row-requires invariant_loop decreases-loop
+row-requires : tie.Need-row-requires invariant-loop-y decreases-loop-y
 row-requires c κs = search rules
 
-add-y : tie.Need-overflow-add-y invariant_loop decreases-loop
-add-y c = search rules
+overflow_step-y : tie.Need-overflow_step-y invariant-loop-y decreases-loop-y
+overflow_step-y c = search rules
 
-loop-less : tie.Need-loop-smaller invariant_loop decreases-loop
-loop-less c = search rules
+loop-y-smaller : tie.Need-loop-y-smaller invariant-loop-y decreases-loop-y
+loop-y-smaller c = search rules
 
-loop_again : tie.Need-loop-preserved invariant_loop decreases-loop
-loop_again c = search rules
+loop-y-preserved : tie.Need-loop-y-preserved invariant-loop-y decreases-loop-y
+loop-y-preserved c = search rules
 
-returns : tie.Need-returns invariant_loop decreases-loop
+returns : tie.Need-returns invariant-loop-y decreases-loop-y
 returns c = search rules
 
 pub block_spec : {M : Type 1} → statement M
 block_spec =
     tie.close
     (tie.spec
-    invariant_loop
-    decreases-loop
-    loop_holds
-    mul-row
-    array-copy-out-row
+    invariant-loop-y
+    decreases-loop-y
+    loop-y-init
+    offset_bounds-b-y
+    bounds-b-y
     row-requires
-    add-y
-    loop-less
-    loop_again
+    overflow_step-y
+    loop-y-smaller
+    loop-y-preserved
     returns)

@@ -9,17 +9,11 @@ use Rattle.still_lines.specs.Text.{closing, word_end}
 use Rattle.still_lines.proofs.say.end_line.Statement.{statement}
 use Rattle.still_lines.proofs.say.end_line.Tie as tie
 
-empty-requires : tie.Need-empty-requires
-empty-requires c κs = search rules
+empty-t-requires : tie.Need-empty-t-requires
+empty-t-requires c κs = search rules
 
-slice-aggregate-numbered : tie.Need-slice-aggregate-numbered
-slice-aggregate-numbered c = search rules
-
-numbered-requires : tie.Need-numbered-requires
-numbered-requires c κs = search rules
-
-slice-aggregate-word : tie.Need-slice-aggregate-word
-slice-aggregate-word c = search rules
+numbered-n-requires : tie.Need-numbered-n-requires
+numbered-n-requires c κs = search rules
 
 word-requires : tie.Need-word-requires
 word-requires c κs = search rules
@@ -27,10 +21,10 @@ word-requires c κs = search rules
 returns : tie.Need-returns
 unfolding closing word_end
 returns c =
-    let n = c.before.before.numbered in
-    let e = c.before.before.before.before.empty in
-    let said-number = n.ensures.0 ∙ ap (λ (xs : List ℕ). xs ++ word_end ++ decimal_of c.before.before.before.before.before.args.accepted) e.ensures.0 in
+    let n = c.numbered-n in
+    let e = c.empty-t in
+    let said-number = n.ensures.0 ∙ ap (λ (xs : List ℕ). xs ++ word_end ++ decimal_of c.args.accepted) e.ensures.0 in
     (c.word.ensures.0 ∙ ap (λ (xs : List ℕ). xs ++ closing) said-number, omega (arith, c.word.ensures.1, n.ensures.1, e.ensures.1))
 
 pub end_line_spec : {M : Type 1} → statement M
-end_line_spec = tie.close (tie.spec empty-requires slice-aggregate-numbered numbered-requires slice-aggregate-word word-requires returns)
+end_line_spec = tie.close (tie.spec empty-t-requires numbered-n-requires word-requires returns)

@@ -9,35 +9,20 @@ use Rattle.still_lines.specs.Text.{closing_two, span_text, word_bits, word_cb, w
 use Rattle.still_lines.proofs.say.mb_line.Statement.{statement}
 use Rattle.still_lines.proofs.say.mb_line.Tie as tie
 
-place-requires : tie.Need-place-requires
-place-requires c κs = search rules
+place-at-requires : tie.Need-place-at-requires
+place-at-requires c κs = search rules
 
-slice-aggregate-numbered : tie.Need-slice-aggregate-numbered
-slice-aggregate-numbered c = search rules
+numbered-counted-requires : tie.Need-numbered-counted-requires
+numbered-counted-requires c κs = search rules
 
-numbered-requires : tie.Need-numbered-requires
-numbered-requires c κs = search rules
+spanned-with_luma-requires : tie.Need-spanned-with_luma-requires
+spanned-with_luma-requires c κs = search rules
 
-slice-aggregate-spanned : tie.Need-slice-aggregate-spanned
-slice-aggregate-spanned c = search rules
+spanned-with_cb-requires : tie.Need-spanned-with_cb-requires
+spanned-with_cb-requires c κs = search rules
 
-spanned-requires : tie.Need-spanned-requires
-spanned-requires c κs = search rules
-
-slice-aggregate-spanned-2 : tie.Need-slice-aggregate-spanned-2
-slice-aggregate-spanned-2 c = search rules
-
-spanned-requires-2 : tie.Need-spanned-requires-2
-spanned-requires-2 c κs = search rules
-
-slice-aggregate-spanned-3 : tie.Need-slice-aggregate-spanned-3
-slice-aggregate-spanned-3 c = search rules
-
-spanned-requires-3 : tie.Need-spanned-requires-3
-spanned-requires-3 c κs = search rules
-
-slice-aggregate-word : tie.Need-slice-aggregate-word
-slice-aggregate-word c = search rules
+spanned-with_cr-requires : tie.Need-spanned-with_cr-requires
+spanned-with_cr-requires c κs = search rules
 
 word-requires : tie.Need-word-requires
 word-requires c κs = search rules
@@ -45,12 +30,12 @@ word-requires c κs = search rules
 returns : tie.Need-returns
 unfolding closing_two word_bits word_cb word_cr word_luma
 returns c =
-    let r = c.before.before.spanned3 in
-    let b = c.before.before.before.before.spanned2 in
-    let l = c.before.before.before.before.before.before.spanned in
-    let n = c.before.before.before.before.before.before.before.before.numbered in
-    let p = c.before.before.before.before.before.before.before.before.before.before.place in
-    let a = c.before.before.before.before.before.before.before.before.before.before.before.args in (
+    let r = c.spanned-with_cr in
+    let b = c.spanned-with_cb in
+    let l = c.spanned-with_luma in
+    let n = c.numbered-counted in
+    let p = c.place-at in
+    let a = c.args in (
       c.word.ensures.0
           ∙ ap (λ (xs : List ℕ). xs ++ closing_two) (r.ensures.0
           ∙ ap (λ (xs : List ℕ). span_text xs word_cr a.cr.least a.cr.greatest) (b.ensures.0
@@ -61,4 +46,4 @@ returns c =
     )
 
 pub mb_line_spec : {M : Type 1} → statement M
-mb_line_spec = tie.close (tie.spec place-requires slice-aggregate-numbered numbered-requires slice-aggregate-spanned spanned-requires slice-aggregate-spanned-2 spanned-requires-2 slice-aggregate-spanned-3 spanned-requires-3 slice-aggregate-word word-requires returns)
+mb_line_spec = tie.close (tie.spec place-at-requires numbered-counted-requires spanned-with_luma-requires spanned-with_cb-requires spanned-with_cr-requires word-requires returns)

@@ -3,11 +3,11 @@ use mir.Facts.{to_z-of_z}
 use Rattle.still_lines.proofs.span.smaller.Statement.{statement}
 use Rattle.still_lines.proofs.span.smaller.Tie as tie
 
-returns : tie.Need-returns
-returns c = let s = c.before in simp (to_z-of_z, s.ranges.b, simp (to_z-of_z, s.ranges.a, s.ranges.b) at c.if1.true)
+returns-then-b-a : tie.Need-returns-then-b-a
+returns-then-b-a c = let s = c.before in simp (to_z-of_z, s.ranges.b, simp (to_z-of_z, s.ranges.a, s.ranges.b) at c.if-b-a.true)
 
-returns_2 : tie.Need-returns-2
-returns_2 c = let s = c.before in simp (to_z-of_z, s.ranges.a, simp (to_z-of_z, s.ranges.a, s.ranges.b) at c.if1.false)
+returns-else-b-a : tie.Need-returns-else-b-a
+returns-else-b-a c = let s = c.before in simp (to_z-of_z, s.ranges.a, simp (to_z-of_z, s.ranges.a, s.ranges.b) at c.if-b-a.false)
 
 pub smaller_spec : {M : Type 1} → statement M
-smaller_spec = tie.close (tie.spec returns returns_2)
+smaller_spec = tie.close (tie.spec returns-then-b-a returns-else-b-a)

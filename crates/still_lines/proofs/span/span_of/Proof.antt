@@ -14,23 +14,23 @@ use Rattle.still_lines.specs.declared.span.Span.{Span}
 use Rattle.still_lines.proofs.span.span_of.Statement.{statement}
 use Rattle.still_lines.proofs.span.span_of.Tie as tie
 
-abbrev invariant_loop : tie.invariant-loop
-invariant_loop samples from to first s₀ k₀ s k = (k ≤ to) × (span_of (part samples from to) ≡ span_from s (part samples k to))
+abbrev invariant-loop-k : tie.invariant-loop-k
+invariant-loop-k samples from to first s₀ k₀ s k = (k ≤ to) × (span_of (part samples from to) ≡ span_from s (part samples k to))
 
-abbrev decreases-loop : tie.decreases-loop
-decreases-loop samples from to first s₀ k₀ s k = to - k
+abbrev decreases-loop-k : tie.decreases-loop-k
+decreases-loop-k samples from to first s₀ k₀ s k = to - k
 
-mul-first : tie.Need-overflow-mul-first invariant_loop decreases-loop
-mul-first c = search rules
+offset_bounds-samples-from : tie.Need-offset_bounds-samples-from invariant-loop-k decreases-loop-k
+offset_bounds-samples-from c = search rules
 
-shared-slice-copy-out-first : tie.Need-shared-slice-copy-out-first invariant_loop decreases-loop
-shared-slice-copy-out-first c = omega arith
+bounds-samples-from : tie.Need-bounds-samples-from invariant-loop-k decreases-loop-k
+bounds-samples-from c = omega arith
 
-add-k : tie.Need-overflow-add-k invariant_loop decreases-loop
-add-k c = omega arith
+overflow_add-k : tie.Need-overflow_add-k invariant-loop-k decreases-loop-k
+overflow_add-k c = omega arith
 
-loop_holds : tie.Need-loop-init invariant_loop decreases-loop
-loop_holds c =
+loop-k-init : tie.Need-loop-k-init invariant-loop-k decreases-loop-k
+loop-k-init c =
     let s = c.before in
     let a = s.args in
     let f : SFits w32 (get_or a.samples.now a.from (pos 0)) = search rules in (
@@ -39,53 +39,53 @@ loop_holds c =
           ∙ ap (λ (z : ℤ). span_from (record { least = z; greatest = z }) (part a.samples.now (a.from + 1) a.to)) (sym (to_z-of_z f)),
     )
 
-mul-widened : tie.Need-overflow-mul-widened invariant_loop decreases-loop
-mul-widened c = search rules
+offset_bounds-samples-k : tie.Need-offset_bounds-samples-k invariant-loop-k decreases-loop-k
+offset_bounds-samples-k c = search rules
 
-shared-slice-copy-out-widened : tie.Need-shared-slice-copy-out-widened invariant_loop decreases-loop
-shared-slice-copy-out-widened c = omega arith
+bounds-samples-k : tie.Need-bounds-samples-k invariant-loop-k decreases-loop-k
+bounds-samples-k c = omega arith
 
-widened-requires : tie.Need-widened-requires invariant_loop decreases-loop
-widened-requires c κs = search rules
+widened-s-requires : tie.Need-widened-s-requires invariant-loop-k decreases-loop-k
+widened-s-requires c κs = search rules
 
-add-k-2 : tie.Need-overflow-add-k-2 invariant_loop decreases-loop
-add-k-2 c = omega arith
+overflow_add-k-in-loop-k : tie.Need-overflow_add-k-in-loop-k invariant-loop-k decreases-loop-k
+overflow_add-k-in-loop-k c = omega arith
 
-loop-less : tie.Need-loop-smaller invariant_loop decreases-loop
-loop-less c = omega arith
+loop-k-smaller : tie.Need-loop-k-smaller invariant-loop-k decreases-loop-k
+loop-k-smaller c = omega arith
 
-loop_again : tie.Need-loop-preserved invariant_loop decreases-loop
-loop_again c =
-    let l = c.before.before.before.loop in
+loop-k-preserved : tie.Need-loop-k-preserved invariant-loop-k decreases-loop-k
+loop-k-preserved c =
+    let l = c.loop-k in
     let s = c.before.before.before.before.before in
     let a = s.args in
-    let t = c.before.before.loop-test.true in
+    let t = c.loop-k-test.true in
     let f : SFits w32 (get_or a.samples.now l.k (pos 0)) = search rules in (
       omega arith,
       l.invariant.1 ∙ span_more a.samples.now l.s l.k a.to t s.requires.1 ∙ ap (λ (x : Span). span_from x (part a.samples.now (l.k + 1) a.to))
-          (sym (c.widened.ensures ∙ ap (widened_by l.s) (to_z-of_z f))),
+          (sym (c.widened-s.ensures ∙ ap (widened_by l.s) (to_z-of_z f))),
     )
 
-returns : tie.Need-returns invariant_loop decreases-loop
+returns : tie.Need-returns invariant-loop-k decreases-loop-k
 returns c =
-    let l = c.before.loop in
-    let a = c.before.before.before.args in
+    let l = c.loop-k in
+    let a = c.args in
     sym (l.invariant.1 ∙ span_ends a.samples.now l.s l.k a.to (omega arith))
 
 pub span_of_spec : {M : Type 1} → statement M
 span_of_spec =
     tie.close
     (tie.spec
-    invariant_loop
-    decreases-loop
-    mul-first
-    shared-slice-copy-out-first
-    add-k
-    loop_holds
-    mul-widened
-    shared-slice-copy-out-widened
-    widened-requires
-    add-k-2
-    loop-less
-    loop_again
+    invariant-loop-k
+    decreases-loop-k
+    offset_bounds-samples-from
+    bounds-samples-from
+    overflow_add-k
+    loop-k-init
+    offset_bounds-samples-k
+    bounds-samples-k
+    widened-s-requires
+    overflow_add-k-in-loop-k
+    loop-k-smaller
+    loop-k-preserved
     returns)

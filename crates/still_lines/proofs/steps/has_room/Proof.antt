@@ -4,14 +4,14 @@ use Rattle.still_lines.proofs.RoomLaws.{data_lacks, line_lacks, text_decides}
 use Rattle.still_lines.proofs.steps.has_room.Statement.{statement}
 use Rattle.still_lines.proofs.steps.has_room.Tie as tie
 
+returns-then-line-lt-LONGEST : tie.Need-returns-then-line-lt-LONGEST
+returns-then-line-lt-LONGEST c = let a = c.args in sym (line_lacks a.line.now a.«data».now a.out.now c.if-line-lt-LONGEST.true)
+
+returns-then-data-lt-DATA : tie.Need-returns-then-data-lt-DATA
+returns-then-data-lt-DATA c = let a = c.args in sym (data_lacks a.line.now a.«data».now a.out.now c.if-line-lt-LONGEST.false c.if-data-lt-DATA.true)
+
 returns : tie.Need-returns
-returns c = let a = c.before.args in sym (line_lacks a.line.now a.«data».now a.out.now c.if1.true)
-
-returns_2 : tie.Need-returns-2
-returns_2 c = let a = c.before.before.args in sym (data_lacks a.line.now a.«data».now a.out.now c.before.if1.false c.if2.true)
-
-returns_3 : tie.Need-returns-3
-returns_3 c = let a = c.before.before.args in sym (text_decides a.line.now a.«data».now a.out.now c.before.if1.false c.if2.false)
+returns c = let a = c.args in sym (text_decides a.line.now a.«data».now a.out.now c.if-line-lt-LONGEST.false c.if-data-lt-DATA.false)
 
 pub has_room_spec : {M : Type 1} → statement M
-has_room_spec = tie.close (tie.spec returns returns_2 returns_3)
+has_room_spec = tie.close (tie.spec returns-then-line-lt-LONGEST returns-then-data-lt-DATA returns)

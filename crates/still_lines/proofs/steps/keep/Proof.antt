@@ -8,26 +8,26 @@ use Rattle.still_lines.proofs.LineLaws.{line_by}
 use Rattle.still_lines.proofs.steps.keep.Statement.{statement}
 use Rattle.still_lines.proofs.steps.keep.Tie as tie
 
-returns : tie.Need-returns
-returns c =
-    let a = c.before.args in
-    sym (line_by a.line.now a.n a.b true _ (eq-eqb a.b 10 c.if1.true) refl)
+returns-then-b-eq10 : tie.Need-returns-then-b-eq10
+returns-then-b-eq10 c =
+    let a = c.args in
+    sym (line_by a.line.now a.n a.b true _ (eq-eqb a.b 10 c.if-b-eq10.true) refl)
 
-slice-write-line : tie.Need-slice-write-line
-slice-write-line c = search rules
+bounds-line-n : tie.Need-bounds-line-n
+bounds-line-n c = search rules
 
-same_length : tie.Need-same-length
-same_length c = search rules
+shape_of-line : tie.Need-shape_of-line
+shape_of-line c = search rules
 
-returns_2 : tie.Need-returns-2
-returns_2 c =
-    let a = c.before.before.args in
-    sym (line_by a.line.now a.n a.b false true (ne_eqb a.b 10 c.before.if1.false) (lt-ltb a.n longest c.if2.true))
+returns-then-n-lt-LONGEST : tie.Need-returns-then-n-lt-LONGEST
+returns-then-n-lt-LONGEST c =
+    let a = c.args in
+    sym (line_by a.line.now a.n a.b false true (ne_eqb a.b 10 c.if-b-eq10.false) (lt-ltb a.n longest c.if-n-lt-LONGEST.true))
 
-returns_3 : tie.Need-returns-3
-returns_3 c =
-    let a = c.before.before.args in
-    sym (line_by a.line.now a.n a.b false false (ne_eqb a.b 10 c.before.if1.false) (le-ltb a.n longest c.if2.false))
+returns-else-n-lt-LONGEST : tie.Need-returns-else-n-lt-LONGEST
+returns-else-n-lt-LONGEST c =
+    let a = c.args in
+    sym (line_by a.line.now a.n a.b false false (ne_eqb a.b 10 c.if-b-eq10.false) (le-ltb a.n longest c.if-n-lt-LONGEST.false))
 
 pub keep_spec : {M : Type 1} → statement M
-keep_spec = tie.close (tie.spec returns slice-write-line same_length returns_2 returns_3)
+keep_spec = tie.close (tie.spec returns-then-b-eq10 bounds-line-n shape_of-line returns-then-n-lt-LONGEST returns-else-n-lt-LONGEST)

@@ -11,27 +11,27 @@ use Rattle.still_lines.proofs.steps.step.Statement.{statement}
 use Rattle.still_lines.proofs.steps.step.Tie as tie
 
 -- there is room
-room : (k : tie.Else1) → let a = k.before.before.before.before.before.before.before.before.args in roomy a.line.now a.«data».now a.out.now ≡ true
-room k = flag_passes k.before.has_room.ensures k.if1.false
+room : (k : tie.Else-not-has_room) → let a = k.before.before.before.before.before.before.before.before.args in roomy a.line.now a.«data».now a.out.now ≡ true
+room k = flag_passes k.has_room.ensures k.if-not-has_room.false
 
-has-room-requires : tie.Need-has-room-requires
-has-room-requires c κs = search rules
+has_room-requires : tie.Need-has_room-requires
+has_room-requires c κs = search rules
 
-same_length : tie.Need-same-length
-same_length c = search rules
+shape_of-line-then-not-has_room : tie.Need-shape_of-line-then-not-has_room
+shape_of-line-then-not-has_room c = search rules
 
-same-length-2 : tie.Need-same-length-2
-same-length-2 c = search rules
+shape_of-data-then-not-has_room : tie.Need-shape_of-data-then-not-has_room
+shape_of-data-then-not-has_room c = search rules
 
-same-length-3 : tie.Need-same-length-3
-same-length-3 c = search rules
+shape_of-out-then-not-has_room : tie.Need-shape_of-out-then-not-has_room
+shape_of-out-then-not-has_room c = search rules
 
-returns : tie.Need-returns
+returns-then-not-has_room : tie.Need-returns-then-not-has_room
 unfolding step_by
-returns c = undone _ _ (flag_refuses c.before.has_room.ensures c.if1.true)
+returns-then-not-has_room c = undone _ _ (flag_refuses c.has_room.ensures c.if-not-has_room.true)
 
-feed-requires : tie.Need-feed-requires
-feed-requires c κs = search rules
+feed-fed-requires : tie.Need-feed-fed-requires
+feed-fed-requires c κs = search rules
 
 keep-requires : tie.Need-keep-requires
 keep-requires c κs =
@@ -39,8 +39,8 @@ keep-requires c κs =
     let a = k.before.before.before.before.before.before.before.before.args in
     room_line a.line.now a.«data».now a.out.now (room k)
 
-told-requires : tie.Need-told-requires
-told-requires c κs =
+told-t-requires : tie.Need-told-t-requires
+told-t-requires c κs =
     let w = c.before.before.before.before.before.before.before in
     let f = w.before.before in
     let k = f.before.before in
@@ -50,30 +50,30 @@ told-requires c κs =
       (room_data a.line.now a.«data».now a.out.now (room k), room_text a.line.now a.«data».now a.out.now (room k)),
     )
 
-same-length-4 : tie.Need-same-length-4
-same-length-4 c = search rules
+shape_of-line : tie.Need-shape_of-line
+shape_of-line c = search rules
 
-same-length-5 : tie.Need-same-length-5
-same-length-5 c = search rules
+shape_of-data : tie.Need-shape_of-data
+shape_of-data c = search rules
 
-same-length-6 : tie.Need-same-length-6
-same-length-6 c = search rules
+shape_of-samples : tie.Need-shape_of-samples
+shape_of-samples c = search rules
 
-same-length-7 : tie.Need-same-length-7
-same-length-7 c = search rules
+shape_of-store : tie.Need-shape_of-store
+shape_of-store c = search rules
 
-same-length-8 : tie.Need-same-length-8
-same-length-8 c = search rules
+shape_of-out : tie.Need-shape_of-out
+shape_of-out c = search rules
 
-returns_2 : tie.Need-returns-2
+returns : tie.Need-returns
 unfolding step_by
-returns_2 c =
+returns c =
     let t = c.before.before.before.before.before.before.before in
     let y = t.before.before.before.before.before.before.before.before in
     let f = y.before.before in
     let k = f.before.before in
     let a = k.before.before.before.before.before.before.before.before.args in
-    let o = moved a.r.still a.samples.now a.store.now a.«data».now a.out.now y.keep.ensures f.feed.ensures t.told.ensures in
+    let o = moved a.r.still a.samples.now a.store.now a.«data».now a.out.now y.keep.ensures f.feed.ensures t.told-t.ensures in
     let w = o.0 in
     done _ _ (room k)
     (λ i. left (Went (record { still = w.0 i; n = w.1.0 i }) (w.1.1.0 i)) (lent (y.keep.ensures i) (o.1.0 i) (o.1.1.0 i) (o.1.1.1.0 i) (o.1.1.1.1 i)))
@@ -82,17 +82,17 @@ pub step_spec : {M : Type 1} → statement M
 step_spec =
     tie.close
     (tie.spec
-    has-room-requires
-    same_length
-    same-length-2
-    same-length-3
-    returns
-    feed-requires
+    has_room-requires
+    shape_of-line-then-not-has_room
+    shape_of-data-then-not-has_room
+    shape_of-out-then-not-has_room
+    returns-then-not-has_room
+    feed-fed-requires
     keep-requires
-    told-requires
-    same-length-4
-    same-length-5
-    same-length-6
-    same-length-7
-    same-length-8
-    returns_2)
+    told-t-requires
+    shape_of-line
+    shape_of-data
+    shape_of-samples
+    shape_of-store
+    shape_of-out
+    returns)

@@ -16,132 +16,132 @@ use Rattle.still_lines.proofs.still.decoded.Tie as tie
 
 -- what the call brings
 abbrev brought : tie.Start → Input
-brought s = let a = s.args in input_of a.q a.ac-pred a.kind a.cbpy a.cbpc a.«data».now a.samples.now
+brought s = let a = s.args in input_of a.q a.ac_pred a.kind a.cbpy a.cbpc a.«data».now a.samples.now
 
-input_is : (k : tie.After-decode-macroblock) → let m = k.before.before.before in let s = m.before.before.before.before.before.before.before in let a = s.args in
-    given a.«data».now 0 m.before.before.header_of.result m.before.context-of.result m.default-intra-quant-matrix.result a.samples.now ≡ brought s
+input_is : (k : tie.After-decode_macroblock-answer) → let m = k.before.before.before in let s = m.before.before.before.before.before.before.before in let a = s.args in
+    given a.«data».now 0 m.header_of-header.result m.context_of-context.result m.default_intra_quant_matrix-matrix.result a.samples.now ≡ brought s
 input_is k =
     let m = k.before.before.before in
     let s = m.before.before.before.before.before.before.before in
     let a = s.args in
-    λ i. given a.«data».now 0 (m.before.before.header_of.ensures i) (m.before.context-of.ensures i) (m.default-intra-quant-matrix.ensures i) a.samples.now
+    λ i. given a.«data».now 0 (m.header_of-header.ensures i) (m.context_of-context.ensures i) (m.default_intra_quant_matrix-matrix.ensures i) a.samples.now
 
-column-of-requires : tie.Need-column-of-requires
-column-of-requires c κs = search rules
+column_of-column-requires : tie.Need-column_of-column-requires
+column_of-column-requires c κs = search rules
 
-row-of-requires : tie.Need-row-of-requires
-row-of-requires c κs = search rules
+row_of-row-requires : tie.Need-row_of-row-requires
+row_of-row-requires c κs = search rules
 
-header-of-requires : tie.Need-header-of-requires
-header-of-requires c κs = search rules
+header_of-header-requires : tie.Need-header_of-header-requires
+header_of-header-requires c κs = search rules
 
-context-of-requires : tie.Need-context-of-requires
-context-of-requires c κs = search rules
+context_of-context-requires : tie.Need-context_of-context-requires
+context_of-context-requires c κs = search rules
 
-default-intra-quant-matrix-requires : tie.Need-default-intra-quant-matrix-requires
-default-intra-quant-matrix-requires c κs = search rules
+default_intra_quant_matrix-matrix-requires : tie.Need-default_intra_quant_matrix-matrix-requires
+default_intra_quant_matrix-matrix-requires c κs = search rules
 
-decode-macroblock-requires : tie.Need-decode-macroblock-requires
-decode-macroblock-requires c κs = search rules
+decode_macroblock-answer-requires : tie.Need-decode_macroblock-answer-requires
+decode_macroblock-answer-requires c κs = search rules
 
-enum-known-answer : tie.Need-enum-known-answer
-enum-known-answer c = search rules
+enum_known-answer : tie.Need-enum_known-answer
+enum_known-answer c = search rules
 
 number-requires : tie.Need-number-requires
 number-requires c κs = search rules
 
-mb-refused-requires : tie.Need-mb-refused-requires
-mb-refused-requires c κs = search rules
+mb_refused-text-requires : tie.Need-mb_refused-text-requires
+mb_refused-text-requires c κs = search rules
 
-enum-known-answer-2 : tie.Need-enum-known-answer-2
-enum-known-answer-2 c = search rules
+enum_known-answer-in-Decoded-1 : tie.Need-enum_known-answer-in-Decoded-1
+enum_known-answer-in-Decoded-1 c = search rules
 
-span-of-requires : tie.Need-span-of-requires
-span-of-requires c κs =
-    let k = c.before.before.before.before.before.before in
+span_of-luma-requires : tie.Need-span_of-luma-requires
+span_of-luma-requires c κs =
+    let k = c.before.before.before.before in
     let a = k.before.before.before.before.before.before.before.before.before.before.args in
-    let d = k.decode-macroblock.ensures in
-    let r = decoded-roomy a.s.picture _ a.store.now (sym d.answer ∙ c.before.before.answer2.given.1) in
+    let d = k.decode_macroblock.ensures in
+    let r = decoded-roomy a.s.picture _ a.store.now (sym d.answer ∙ c.answer2.given.1) in
     (omega arith, subst (λ (n : ℕ). 256 ≤ n) (sym (ap length d.samples ∙ samples-length a.s.picture _ a.store.now)) (omega (arith, r)))
 
-span-of-requires-2 : tie.Need-span-of-requires-2
-span-of-requires-2 c κs =
-    let k = c.before.before.before.before.before.before.before.before in
+span_of-cb-requires : tie.Need-span_of-cb-requires
+span_of-cb-requires c κs =
+    let k = c.before.before.before.before.before.before in
     let a = k.before.before.before.before.before.before.before.before.before.before.args in
-    let d = k.decode-macroblock.ensures in
-    let r = decoded-roomy a.s.picture _ a.store.now (sym d.answer ∙ c.before.before.before.before.answer2.given.1) in
+    let d = k.decode_macroblock.ensures in
+    let r = decoded-roomy a.s.picture _ a.store.now (sym d.answer ∙ c.answer2.given.1) in
     (omega arith, subst (λ (n : ℕ). 320 ≤ n) (sym (ap length d.samples ∙ samples-length a.s.picture _ a.store.now)) (omega (arith, r)))
 
-span-of-requires-3 : tie.Need-span-of-requires-3
-span-of-requires-3 c κs =
-    let k = c.before.before.before.before.before.before.before.before.before.before in
+span_of-cr-requires : tie.Need-span_of-cr-requires
+span_of-cr-requires c κs =
+    let k = c.before.before.before.before.before.before.before.before in
     let a = k.before.before.before.before.before.before.before.before.before.before.args in
-    let d = k.decode-macroblock.ensures in
-    let r = decoded-roomy a.s.picture _ a.store.now (sym d.answer ∙ c.before.before.before.before.before.before.answer2.given.1) in
+    let d = k.decode_macroblock.ensures in
+    let r = decoded-roomy a.s.picture _ a.store.now (sym d.answer ∙ c.answer2.given.1) in
     (omega arith, subst (λ (n : ℕ). 384 ≤ n) (sym (ap length d.samples ∙ samples-length a.s.picture _ a.store.now)) (omega (arith, r)))
 
-mb-line-requires : tie.Need-mb-line-requires
-mb-line-requires c κs = search rules
+mb_line-text-requires : tie.Need-mb_line-text-requires
+mb_line-text-requires c κs = search rules
 
-same_length : tie.Need-same-length
-same_length c = search rules
+shape_of-samples-in-Refused : tie.Need-shape_of-samples-in-Refused
+shape_of-samples-in-Refused c = search rules
 
-same-length-2 : tie.Need-same-length-2
-same-length-2 c = search rules
+shape_of-store-in-Refused : tie.Need-shape_of-store-in-Refused
+shape_of-store-in-Refused c = search rules
 
-returns : tie.Need-returns
-returns c =
-    let k = c.before.before.before.before.before.before.before in
+returns-in-Refused : tie.Need-returns-in-Refused
+returns-in-Refused c =
+    let k = c.before.before.before.before.before in
     let m = k.before.before.before in
     let s = m.before.before.before.before.before.before.before in
     let a = s.args in
     let p = a.s.picture in
     let x = input_is k in
-    let d = k.decode-macroblock.ensures in
-    let e = sym c.before.before.before.answer.given.1 ∙ d.answer ∙ ap (λ (y : Input). answer_out p y a.store.now) x in (
+    let d = k.decode_macroblock-answer.ensures in
+    let e = sym c.in-Refused.is ∙ d.answer ∙ ap (λ (y : Input). answer_out p y a.store.now) x in (
       (
         ap (still_decoded a.s) e,
         (
-          c.mb-refused.ensures.0
-              ∙ ap₂ (λ (u v : ℕ). mb_refused_text u v c.before.number.result) m.before.before.before.before.column-of.ensures m.before.before.before.row_of.ensures
-              ∙ ap (λ (n : ℕ). mb_refused_text (column_of p) (row_of p) n) c.before.number.ensures
+          c.mb_refused-text.ensures.0
+              ∙ ap₂ (λ (u v : ℕ). mb_refused_text u v c.number.result) m.column_of-column.ensures m.row_of-row.ensures
+              ∙ ap (λ (n : ℕ). mb_refused_text (column_of p) (row_of p) n) c.number.ensures
               ∙ ap (text_decoded p (samples_out p (brought s) a.store.now)) e,
-          c.mb-refused.ensures.1,
+          c.mb_refused-text.ensures.1,
         ),
       ),
       (d.samples ∙ ap (λ (y : Input). samples_out p y a.store.now) x, d.store ∙ ap (λ (y : Input). store_out p y a.store.now) x),
     )
 
-same-length-3 : tie.Need-same-length-3
-same-length-3 c = search rules
+shape_of-samples-in-Decoded : tie.Need-shape_of-samples-in-Decoded
+shape_of-samples-in-Decoded c = search rules
 
-same-length-4 : tie.Need-same-length-4
-same-length-4 c = search rules
+shape_of-store-in-Decoded : tie.Need-shape_of-store-in-Decoded
+shape_of-store-in-Decoded c = search rules
 
-returns_2 : tie.Need-returns-2
-returns_2 c =
-    let j = c.before.before.before.before.before.before.before in
+returns-in-Decoded : tie.Need-returns-in-Decoded
+returns-in-Decoded c =
+    let j = c.before.before.before.before.before in
     let k = j.before.before.before.before.before in
     let m = k.before.before.before in
     let s = m.before.before.before.before.before.before.before in
     let a = s.args in
     let p = a.s.picture in
     let x = input_is k in
-    let d = k.decode-macroblock.ensures in
+    let d = k.decode_macroblock.ensures in
     let after = d.samples ∙ ap (λ (y : Input). samples_out p y a.store.now) x in
-    let column = m.before.before.before.before.column-of.ensures in
-    let row = m.before.before.before.row_of.ensures in
-    let luma = c.before.before.before.before.before.Span-of.ensures ∙ ap (λ (l : List ℤ). span_of (part l 0 256)) after in
-    let cb = c.before.before.before.span-of2.ensures ∙ ap (λ (l : List ℤ). span_of (part l 256 320)) after in
-    let cr = c.before.span-of3.ensures ∙ ap (λ (l : List ℤ). span_of (part l 320 384)) after in
-    let e = sym j.before.answer2.given.1 ∙ d.answer ∙ ap (λ (y : Input). answer_out p y a.store.now) x in (
+    let column = m.column_of.ensures in
+    let row = m.row_of.ensures in
+    let luma = c.Span-of.ensures ∙ ap (λ (l : List ℤ). span_of (part l 0 256)) after in
+    let cb = c.span-of2.ensures ∙ ap (λ (l : List ℤ). span_of (part l 256 320)) after in
+    let cr = c.span_of-cr.ensures ∙ ap (λ (l : List ℤ). span_of (part l 320 384)) after in
+    let e = sym j.answer2.given.1 ∙ d.answer ∙ ap (λ (y : Input). answer_out p y a.store.now) x in (
       (
         ap (still_decoded a.s) e,
         (
-          c.mb-line.ensures.0
-              ∙ (λ i. mb_text (column i) (row i) j.before.answer2.given.0.0 (luma i).least (luma i).greatest (cb i).least (cb i).greatest (cr i).least (cr i).greatest)
+          c.mb_line-text.ensures.0
+              ∙ (λ i. mb_text (column i) (row i) j.answer2.given.0.0 (luma i).least (luma i).greatest (cb i).least (cb i).greatest (cr i).least (cr i).greatest)
               ∙ ap (text_decoded p (samples_out p (brought s) a.store.now)) e,
-          c.mb-line.ensures.1,
+          c.mb_line-text.ensures.1,
         ),
       ),
       (after, d.store ∙ ap (λ (y : Input). store_out p y a.store.now) x),
@@ -151,23 +151,23 @@ pub decoded_spec : {M : Type 1} → statement M
 decoded_spec =
     tie.close
     (tie.spec
-    column-of-requires
-    row-of-requires
-    header-of-requires
-    context-of-requires
-    default-intra-quant-matrix-requires
-    decode-macroblock-requires
-    enum-known-answer
+    column_of-column-requires
+    row_of-row-requires
+    header_of-header-requires
+    context_of-context-requires
+    default_intra_quant_matrix-matrix-requires
+    decode_macroblock-answer-requires
+    enum_known-answer
     number-requires
-    mb-refused-requires
-    enum-known-answer-2
-    span-of-requires
-    span-of-requires-2
-    span-of-requires-3
-    mb-line-requires
-    same_length
-    same-length-2
-    returns
-    same-length-3
-    same-length-4
-    returns_2)
+    mb_refused-text-requires
+    enum_known-answer-in-Decoded-1
+    span_of-luma-requires
+    span_of-cb-requires
+    span_of-cr-requires
+    mb_line-text-requires
+    shape_of-samples-in-Refused
+    shape_of-store-in-Refused
+    returns-in-Refused
+    shape_of-samples-in-Decoded
+    shape_of-store-in-Decoded
+    returns-in-Decoded)

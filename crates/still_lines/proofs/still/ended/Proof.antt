@@ -8,21 +8,21 @@ use Rattle.still_lines.specs.Text.{end_text}
 use Rattle.still_lines.proofs.still.ended.Statement.{statement}
 use Rattle.still_lines.proofs.still.ended.Tie as tie
 
-end-line-requires : tie.Need-end-line-requires
-end-line-requires c κs = search rules
+end_line-requires : tie.Need-end_line-requires
+end_line-requires c κs = search rules
 
-returns : tie.Need-returns
-returns c =
-    let a = c.before.before.before.args in
-    (c.end_line.ensures.0 ∙ sym (ap (λ (t : Bool). cond t (end_text a.s.picture.accepted) []) c.before.if1.true), c.end_line.ensures.1)
+returns-then-s : tie.Need-returns-then-s
+returns-then-s c =
+    let a = c.args in
+    (c.end_line.ensures.0 ∙ sym (ap (λ (t : Bool). cond t (end_text a.s.picture.accepted) []) c.if-s.true), c.end_line.ensures.1)
 
 empty-requires : tie.Need-empty-requires
 empty-requires c κs = search rules
 
-returns_2 : tie.Need-returns-2
-returns_2 c =
-    let a = c.before.before.before.args in
-    (c.empty.ensures.0 ∙ sym (ap (λ (t : Bool). cond t (end_text a.s.picture.accepted) []) c.before.if1.false), omega (arith, c.empty.ensures.1))
+returns : tie.Need-returns
+returns c =
+    let a = c.args in
+    (c.empty.ensures.0 ∙ sym (ap (λ (t : Bool). cond t (end_text a.s.picture.accepted) []) c.if-s.false), omega (arith, c.empty.ensures.1))
 
 pub ended_spec : {M : Type 1} → statement M
-ended_spec = tie.close (tie.spec end-line-requires returns empty-requires returns_2)
+ended_spec = tie.close (tie.spec end_line-requires returns-then-s empty-requires returns)

@@ -7,29 +7,29 @@ use Rattle.numbers.proofs.OutcomeLaws.{both}
 use Rattle.texture.proofs.event.decode_ac_event.Statement.{statement}
 use Rattle.texture.proofs.event.decode_ac_event.Tie as tie
 
-tcoef-codes-requires : tie.Need-tcoef-codes-requires
-tcoef-codes-requires c κs = search rules
+tcoef_codes-codes-requires : tie.Need-tcoef_codes-codes-requires
+tcoef_codes-codes-requires c κs = search rules
 
-tcoef-lens-requires : tie.Need-tcoef-lens-requires
-tcoef-lens-requires c κs = search rules
+tcoef_lens-lens-requires : tie.Need-tcoef_lens-lens-requires
+tcoef_lens-lens-requires c κs = search rules
 
-tcoef-events-requires : tie.Need-tcoef-events-requires
-tcoef-events-requires c κs = search rules
+tcoef_events-events-requires : tie.Need-tcoef_events-events-requires
+tcoef_events-events-requires c κs = search rules
 
-slice-aggregate-read-plain : tie.Need-slice-aggregate-read-plain
-slice-aggregate-read-plain c = search rules
+slice_bounds-read_plain-end : tie.Need-slice_bounds-read_plain-end
+slice_bounds-read_plain-end c = search rules
 
-slice-aggregate-read-plain-2 : tie.Need-slice-aggregate-read-plain-2
-slice-aggregate-read-plain-2 c = search rules
+slice_bounds-read_plain-end-2 : tie.Need-slice_bounds-read_plain-end-2
+slice_bounds-read_plain-end-2 c = search rules
 
-slice-aggregate-read-plain-3 : tie.Need-slice-aggregate-read-plain-3
-slice-aggregate-read-plain-3 c = search rules
+slice_bounds-read_plain-end-3 : tie.Need-slice_bounds-read_plain-end-3
+slice_bounds-read_plain-end-3 c = search rules
 
-read_plain_requires : tie.Need-read-plain-requires
-read_plain_requires c κs = search rules
+read_plain-requires : tie.Need-read_plain-requires
+read_plain-requires c κs = search rules
 
 returns : tie.Need-returns
-returns c = let a = c.before.before.before.before.before.before.before.before.args in both event_outcome c.read_plain.ensures (event_due_lem a.«data».now a.c.bit_pos false a.table)
+returns c = let a = c.args in both event_outcome c.read_plain.ensures (event_due_lem a.«data».now a.c.bit_pos false a.table)
 
 pub decode_ac_event_spec : {M : Type 1} → statement M
-decode_ac_event_spec = tie.close (tie.spec tcoef-codes-requires tcoef-lens-requires tcoef-events-requires slice-aggregate-read-plain slice-aggregate-read-plain-2 slice-aggregate-read-plain-3 read_plain_requires returns)
+decode_ac_event_spec = tie.close (tie.spec tcoef_codes-codes-requires tcoef_lens-lens-requires tcoef_events-events-requires slice_bounds-read_plain-end slice_bounds-read_plain-end-2 slice_bounds-read_plain-end-3 read_plain-requires returns)

@@ -12,55 +12,55 @@ use Rattle.texture.proofs.event.read_longer.Statement.{statement}
 use Rattle.texture.proofs.event.read_longer.Tie as tie
 
 -- the bit that is read first
-said : (k : tie.After-read-field) → let a = k.before.before.before.before.before.args in SaysNumber a.«data».now k.read-field.result (field 1 (bits_from a.«data».now a.c.bit_pos))
-said k = let s = k.before.before.before.before.before in field-says s.args.«data».now s.args.c s.requires.0 _ 1 (omega arith) k.read-field.ensures.0
+said : (k : tie.After-read_field-g) → let a = k.args in SaysNumber a.«data».now k.read_field-g.result (field 1 (bits_from a.«data».now a.c.bit_pos))
+said k = let s = k.before.before.before.before.before in field-says s.args.«data».now s.args.c s.requires.0 _ 1 (omega arith) k.read_field-g.ensures.0
 
 -- what is left after it
-left : (k : tie.After-known-told2) → Readable k.before.before.before.before.before.before.before.before.args.«data».now k.before.g2.given.0.1.0
+left : (k : tie.In-Number) → Readable k.args.«data».now k.in-Number.next
 left k =
-    let f = k.before.before.before in
+    let f = k.before in
     let s = f.before.before.before.before.before in
-    (number_in s.args.«data».now _ _ (said f) k.before.g2.given.1, s.requires.0.1)
+    (number_in s.args.«data».now _ _ (said f) k.in-Number.is, s.requires.0.1)
 
-read-field-requires : tie.Need-read-field-requires
-read-field-requires c κs = search rules
+read_field-g-requires : tie.Need-read_field-g-requires
+read_field-g-requires c κs = search rules
 
-enum-known-g : tie.Need-enum-known-g
-enum-known-g c = search rules
+enum_known-g : tie.Need-enum_known-g
+enum_known-g c = search rules
 
-enum-known-g-2 : tie.Need-enum-known-g-2
-enum-known-g-2 c = search rules
+enum_known-g-in-Number-1 : tie.Need-enum_known-g-in-Number-1
+enum_known-g-in-Number-1 c = search rules
 
-read-signed-requires : tie.Need-read-signed-requires
-read-signed-requires c κs = (left c.before, c.before.before.before.before.before.before.before.before.before.requires.1, tt)
+read_signed-requires : tie.Need-read_signed-requires
+read_signed-requires c κs = (left c.before, c.requires.1, tt)
 
-returns : tie.Need-returns
+returns-then-a-eq0 : tie.Need-returns-then-a-eq0
 unfolding longer
-returns c =
-    let g = c.before.before.before in
-    let f = g.before.before in
-    let a = f.before.before.before.before.before.args in
+returns-then-a-eq0 c =
+    let g = c.before.before in
+    let f = g.before in
+    let a = f.args in
     let d = a.«data».now in
-    passed d a.table _ _ _ (said f) g.g2.given.1 (if_so d a.table _ _ _ (eq-eqb _ 0 c.before.if1.true) c.read-signed.ensures)
+    passed d a.table _ _ _ (said f) g.in-Number.is (if_so d a.table _ _ _ (eq-eqb _ 0 c.if-a-eq0.true) c.read_signed.ensures)
 
-read-fixed-requires : tie.Need-read-fixed-requires
-read-fixed-requires c κs = search rules
+read_fixed-requires : tie.Need-read_fixed-requires
+read_fixed-requires c κs = search rules
 
-returns_2 : tie.Need-returns-2
+returns-in-Refused : tie.Need-returns-in-Refused
 unfolding longer
-returns_2 c =
-    let f = c.before.before.before in
-    let a = f.before.before.before.before.before.args in
-    refused a.«data».now a.table _ _ _ (said f) c.before.g.given.1
+returns-in-Refused c =
+    let f = c.before in
+    let a = f.args in
+    refused a.«data».now a.table _ _ _ (said f) c.in-Refused.is
 
-returns_3 : tie.Need-returns-3
+returns-else-a-eq0 : tie.Need-returns-else-a-eq0
 unfolding longer
-returns_3 c =
-    let g = c.before.before.before in
-    let f = g.before.before in
-    let a = f.before.before.before.before.before.args in
+returns-else-a-eq0 c =
+    let g = c.before.before in
+    let f = g.before in
+    let a = f.args in
     let d = a.«data».now in
-    passed d a.table _ _ _ (said f) g.g2.given.1 (if_not d a.table _ _ _ (ne_eqb _ 0 c.before.if1.false) (fixed-says d _ (left c.before.before) _ a.table c.read-fixed.ensures.0))
+    passed d a.table _ _ _ (said f) g.in-Number.is (if_not d a.table _ _ _ (ne_eqb _ 0 c.if-a-eq0.false) (fixed-says d _ (left c.before.before) _ a.table c.read_fixed.ensures.0))
 
 pub read_longer_spec : {M : Type 1} → statement M
-read_longer_spec = tie.close (tie.spec read-field-requires enum-known-g enum-known-g-2 read-signed-requires returns read-fixed-requires returns_2 returns_3)
+read_longer_spec = tie.close (tie.spec read_field-g-requires enum_known-g enum_known-g-in-Number-1 read_signed-requires returns-then-a-eq0 read_fixed-requires returns-in-Refused returns-else-a-eq0)

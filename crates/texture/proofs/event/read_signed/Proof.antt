@@ -17,44 +17,44 @@ use Rattle.texture.proofs.event.read_signed.Statement.{statement}
 use Rattle.texture.proofs.event.read_signed.Tie as tie
 
 -- the code that is read first
-said : (k : tie.After-read-code) → let a = k.before.before.before.before.before.args in
-    SaysNumber a.«data».now k.read-code.result (code vlc_codes vlc_lens 13 102 InvalidTcoef (bits_from a.«data».now a.c.bit_pos))
+said : (k : tie.After-read_code-g) → let a = k.args in
+    SaysNumber a.«data».now k.read_code-g.result (code vlc_codes vlc_lens 13 102 InvalidTcoef (bits_from a.«data».now a.c.bit_pos))
 said k =
     let s = k.before.before.before.before.before in
     let d = s.args.«data».now in
-    code-says d s.args.c s.requires.0 _ vlc_codes vlc_lens 13 102 InvalidTcoef (vlc_code d s.args.c.bit_pos _ 102 (omega arith) s.requires.1.0 s.requires.1.1 k.read-code.ensures.0)
+    code-says d s.args.c s.requires.0 _ vlc_codes vlc_lens 13 102 InvalidTcoef (vlc_code d s.args.c.bit_pos _ 102 (omega arith) s.requires.1.0 s.requires.1.1 k.read_code-g.ensures.0)
 
-read-code-requires : tie.Need-read-code-requires
-read-code-requires c κs = search rules
+read_code-g-requires : tie.Need-read_code-g-requires
+read_code-g-requires c κs = search rules
 
-enum-known-g : tie.Need-enum-known-g
-enum-known-g c = search rules
+enum_known-g : tie.Need-enum_known-g
+enum_known-g c = search rules
 
-enum-known-g-2 : tie.Need-enum-known-g-2
-enum-known-g-2 c = search rules
+enum_known-g-in-Number-1 : tie.Need-enum_known-g-in-Number-1
+enum_known-g-in-Number-1 c = search rules
 
-read-sign-requires : tie.Need-read-sign-requires
-read-sign-requires c κs = search rules
+read_sign-requires : tie.Need-read_sign-requires
+read_sign-requires c κs = search rules
 
-returns : tie.Need-returns
+returns-in-Refused : tie.Need-returns-in-Refused
 unfolding signed
-returns c =
-    let f = c.before.before.before in
-    let a = f.before.before.before.before.before.args in
-    refused a.«data».now a.table _ _ _ (said f) c.before.g.given.1
+returns-in-Refused c =
+    let f = c.before in
+    let a = f.args in
+    refused a.«data».now a.table _ _ _ (said f) c.in-Refused.is
 
-returns_2 : tie.Need-returns-2
+returns-in-Number : tie.Need-returns-in-Number
 unfolding signed
-returns_2 c =
-    let g = c.before.before in
-    let f = g.before.before in
+returns-in-Number c =
+    let g = c.before in
+    let f = g.before in
     let s = f.before.before.before.before.before in
     let a = s.args in
     let d = a.«data».now in
-    let q = g.g2.given.1 in
+    let q = g.in-Number.is in
     let i = (code-sound vlc_codes vlc_lens 13 102 InvalidTcoef _ (number_is d _ _ (said f) q)).0 in
     passed d a.table _ _ _ (said f) q
-    (sign-says d _ (number_in d _ _ (said f) q, s.requires.0.1) _ a.table a.form _ (plain_row a.form _ s.requires.2 i) a.events.now (s.requires.1.2 ∙ sym (plain-columns a.form a.table s.requires.2)) c.read-sign.ensures.0)
+    (sign-says d _ (number_in d _ _ (said f) q, s.requires.0.1) _ a.table a.form _ (plain_row a.form _ s.requires.2 i) a.events.now (s.requires.1.2 ∙ sym (plain-columns a.form a.table s.requires.2)) c.read_sign.ensures.0)
 
 pub read_signed_spec : {M : Type 1} → statement M
-read_signed_spec = tie.close (tie.spec read-code-requires enum-known-g enum-known-g-2 read-sign-requires returns returns_2)
+read_signed_spec = tie.close (tie.spec read_code-g-requires enum_known-g enum_known-g-in-Number-1 read_sign-requires returns-in-Refused returns-in-Number)

@@ -5,17 +5,17 @@ use borrow.Author.Tests.{eq-eqb, ne_eqb}
 use Rattle.texture.proofs.list.close.Statement.{statement}
 use Rattle.texture.proofs.list.close.Tie as tie
 
-returns : tie.Need-returns
-returns c = simp (eq-eqb _ _ c.before.if1.true)
+returns-then-l-eq0 : tie.Need-returns-then-l-eq0
+returns-then-l-eq0 c = simp (eq-eqb _ _ c.if-l-eq0.true)
 
-cast-t7 : tie.Need-overflow-cast-t7
-cast-t7 c = search rules
+overflow_cast-l : tie.Need-overflow_cast-l
+overflow_cast-l c = search rules
 
 refusal-requires : tie.Need-refusal-requires
 refusal-requires c κs = search rules
 
-returns_2 : tie.Need-returns-2
-returns_2 c = c.refusal.ensures ∙ simp (ne_eqb _ _ c.before.before.if1.false)
+returns : tie.Need-returns
+returns c = c.refusal.ensures ∙ simp (ne_eqb _ _ c.if-l-eq0.false)
 
 pub close_spec : {M : Type 1} → statement M
-close_spec = tie.close (tie.spec returns cast-t7 refusal-requires returns_2)
+close_spec = tie.close (tie.spec returns-then-l-eq0 overflow_cast-l refusal-requires returns)

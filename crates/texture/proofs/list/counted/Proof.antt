@@ -6,67 +6,67 @@ use Rattle.events.specs.declared.spelling.Spelling.{Spelling}
 use Rattle.texture.proofs.list.counted.Statement.{statement}
 use Rattle.texture.proofs.list.counted.Tie as tie
 
-enum_told : tie.Need-enum-told
-enum_told c = search rules
+enum_told-1 : tie.Need-enum_told-1
+enum_told-1 c = search rules
 
-add-more : tie.Need-overflow-add-more
-add-more c = search rules
+overflow_add-more : tie.Need-overflow_add-more
+overflow_add-more c = search rules
 
-enum-told-2 : tie.Need-enum-told-2
-enum-told-2 c = search rules
+enum_told-in-Type1 : tie.Need-enum_told-in-Type1
+enum_told-in-Type1 c = search rules
 
-add-more-2 : tie.Need-overflow-add-more-2
-add-more-2 c = search rules
+overflow_add-more-in-Type1 : tie.Need-overflow_add-more-in-Type1
+overflow_add-more-in-Type1 c = search rules
 
-enum-told-3 : tie.Need-enum-told-3
-enum-told-3 c = search rules
+enum_told-in-Type2 : tie.Need-enum_told-in-Type2
+enum_told-in-Type2 c = search rules
 
-add-more-3 : tie.Need-overflow-add-more-3
-add-more-3 c = search rules
+overflow_add-more-in-Type2 : tie.Need-overflow_add-more-in-Type2
+overflow_add-more-in-Type2 c = search rules
 
-enum-told-4 : tie.Need-enum-told-4
-enum-told-4 c = search rules
+enum_told-in-Type3 : tie.Need-enum_told-in-Type3
+enum_told-in-Type3 c = search rules
 
-add-more-4 : tie.Need-overflow-add-more-4
-add-more-4 c = search rules
+overflow_add-more-in-Type3 : tie.Need-overflow_add-more-in-Type3
+overflow_add-more-in-Type3 c = search rules
 
-enum-told-5 : tie.Need-enum-told-5
-enum-told-5 c = search rules
+enum_told-in-RvlcEscape : tie.Need-enum_told-in-RvlcEscape
+enum_told-in-RvlcEscape c = search rules
 
-add-more-5 : tie.Need-overflow-add-more-5
-add-more-5 c = search rules
+overflow_add-more-in-RvlcEscape : tie.Need-overflow_add-more-in-RvlcEscape
+overflow_add-more-in-RvlcEscape c = search rules
 
-returns : tie.Need-returns
-returns c = ap (λ (k : Spelling). one_more k c.before.before.before.args.n) (sym c.before.enum_told.given.1)
+returns-in-Plain : tie.Need-returns-in-Plain
+returns-in-Plain c = ap (λ (k : Spelling). one_more k c.args.n) (sym c.in-Plain.is)
 
-returns_2 : tie.Need-returns-2
-returns_2 c = ap (λ (k : Spelling). one_more k c.before.before.before.args.n) (sym c.before.enum-told2.given.1)
+returns-in-Type1 : tie.Need-returns-in-Type1
+returns-in-Type1 c = ap (λ (k : Spelling). one_more k c.args.n) (sym c.in-Type1.is)
 
-returns_3 : tie.Need-returns-3
-returns_3 c = ap (λ (k : Spelling). one_more k c.before.before.before.args.n) (sym c.before.enum-told3.given.1)
+returns-in-Type2 : tie.Need-returns-in-Type2
+returns-in-Type2 c = ap (λ (k : Spelling). one_more k c.args.n) (sym c.in-Type2.is)
 
-returns_4 : tie.Need-returns-4
-returns_4 c = ap (λ (k : Spelling). one_more k c.before.before.before.args.n) (sym c.before.enum-told4.given.1)
+returns-in-Type3 : tie.Need-returns-in-Type3
+returns-in-Type3 c = ap (λ (k : Spelling). one_more k c.args.n) (sym c.in-Type3.is)
 
-returns_5 : tie.Need-returns-5
-returns_5 c = ap (λ (k : Spelling). one_more k c.before.before.before.args.n) (sym c.before.enum-told5.given.1)
+returns-in-RvlcEscape : tie.Need-returns-in-RvlcEscape
+returns-in-RvlcEscape c = ap (λ (k : Spelling). one_more k c.args.n) (sym c.in-RvlcEscape.is)
 
 pub counted_spec : {M : Type 1} → statement M
 counted_spec =
     tie.close
     (tie.spec
-    enum_told
-    add-more
-    enum-told-2
-    add-more-2
-    enum-told-3
-    add-more-3
-    enum-told-4
-    add-more-4
-    enum-told-5
-    add-more-5
-    returns
-    returns_2
-    returns_3
-    returns_4
-    returns_5)
+    enum_told-1
+    overflow_add-more
+    enum_told-in-Type1
+    overflow_add-more-in-Type1
+    enum_told-in-Type2
+    overflow_add-more-in-Type2
+    enum_told-in-Type3
+    overflow_add-more-in-Type3
+    enum_told-in-RvlcEscape
+    overflow_add-more-in-RvlcEscape
+    returns-in-Plain
+    returns-in-Type1
+    returns-in-Type2
+    returns-in-Type3
+    returns-in-RvlcEscape)

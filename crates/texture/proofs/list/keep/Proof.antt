@@ -19,17 +19,17 @@ refused x new old e h = (sym h, sym (ap (λ (x : EventsRead). kept_by x new old)
 accepted : (x : EventsRead) (new old : List ℤ) (c : Cursor) (n : Spellings) → x ≡ Read c n → (Read c n ≡ x) × (new ≡ kept_by x new old)
 accepted x new old c n h = (sym h, sym (ap (λ (x : EventsRead). kept_by x new old) h))
 
-enum-known-answer : tie.Need-enum-known-answer
-enum-known-answer c = search rules
+enum_known-answer : tie.Need-enum_known-answer
+enum_known-answer c = search rules
 
-enum-known-answer-2 : tie.Need-enum-known-answer-2
-enum-known-answer-2 c = search rules
+enum_known-answer-in-Read-1 : tie.Need-enum_known-answer-in-Read-1
+enum_known-answer-in-Read-1 c = search rules
 
-returns : tie.Need-returns
-returns c = refused _ _ _ _ (search rules)
+returns-in-Refused : tie.Need-returns-in-Refused
+returns-in-Refused c = refused _ _ _ _ (search rules)
 
-returns_2 : tie.Need-returns-2
-returns_2 c = accepted _ _ _ _ _ (search rules)
+returns-in-Read : tie.Need-returns-in-Read
+returns-in-Read c = accepted _ _ _ _ _ (search rules)
 
 pub keep_spec : {M : Type 1} → statement M
-keep_spec = tie.close (tie.spec enum-known-answer enum-known-answer-2 returns returns_2)
+keep_spec = tie.close (tie.spec enum_known-answer enum_known-answer-in-Read-1 returns-in-Refused returns-in-Read)

@@ -12,48 +12,48 @@ use Rattle.texture.proofs.list.put.Statement.{statement}
 use Rattle.texture.specs.Inside.{State}
 use Rattle.texture.proofs.list.put.Tie as tie
 
-returns : tie.Need-returns
-returns c = simp (ne_eqb _ _ c.if1.true)
+returns-then-l-ne0 : tie.Need-returns-then-l-ne0
+returns-then-l-ne0 c = simp (ne_eqb _ _ c.if-l-ne0.true)
 
-cast-land : tie.Need-overflow-cast-land
-cast-land c = search rules
+overflow_cast-land : tie.Need-overflow_cast-land
+overflow_cast-land c = search rules
 
-add-land : tie.Need-overflow-add-land
-add-land c = search rules
+overflow_add-land : tie.Need-overflow_add-land
+overflow_add-land c = search rules
 
-mul-level : tie.Need-overflow-mul-level
-mul-level c = search rules
+offset_bounds-qfs-land : tie.Need-offset_bounds-qfs-land
+offset_bounds-qfs-land c = search rules
 
-element-set-from-level : tie.Need-element-set-from-level
-element-set-from-level c = search rules
+bounds-qfs-land : tie.Need-bounds-qfs-land
+bounds-qfs-land c = search rules
 
-add-t10 : tie.Need-overflow-add-t10
-add-t10 c = search rules
+overflow_add-result : tie.Need-overflow_add-result
+overflow_add-result c = search rules
 
 counted-requires : tie.Need-counted-requires
 counted-requires c κs = search rules
 
-returns_2 : tie.Need-returns-2
-returns_2 c =
+returns-then-land-lt64 : tie.Need-returns-then-land-lt64
+returns-then-land-lt64 c =
     let s = c.before.before.before.before.before.before.before.before in
     let a = s.args in
     ap₂ {C = State} (λ (z : ℤ) (n : Spellings). record { place = a.l.place + a.v.run + 1; bad = 0; spellings = n; qfs = set a.qfs.now (a.l.place + a.v.run) z })
     (to_z-of_z (fits_mag 2047 tt a.v.level s.requires.3)) c.counted.ensures
-    ∙ simp (eq-eqb _ _ c.before.before.before.before.before.before.if1.false, lt-ltb _ _ c.before.before.if2.true)
+    ∙ simp (eq-eqb _ _ c.if-l-ne0.false, lt-ltb _ _ c.if-land-lt64.true)
 
-returns_3 : tie.Need-returns-3
-returns_3 c = simp (eq-eqb _ _ c.before.before.before.before.if1.false, le-ltb _ _ c.if2.false)
+returns : tie.Need-returns
+returns c = simp (eq-eqb _ _ c.if-l-ne0.false, le-ltb _ _ c.if-land-lt64.false)
 
 pub put_spec : {M : Type 1} → statement M
 put_spec =
     tie.close
     (tie.spec
-    returns
-    cast-land
-    add-land
-    mul-level
-    element-set-from-level
-    add-t10
+    returns-then-l-ne0
+    overflow_cast-land
+    overflow_add-land
+    offset_bounds-qfs-land
+    bounds-qfs-land
+    overflow_add-result
     counted-requires
-    returns_2
-    returns_3)
+    returns-then-land-lt64
+    returns)

@@ -28,66 +28,66 @@ all_is f a b c d e g = λ i. f (a i) (b i) (c i) (d i) (e i) (g i)
 left_is : {n n' : ℕ} {xs xs' : List ℤ} {a a' : List ℕ} → n ≡ n' → xs ≡ xs' → a ≡ a' → left_over n xs a ≡ left_over n' xs' a'
 left_is e f g = λ i. left_over (e i) (f i) (g i)
 
-long-enough-requires : tie.Need-long-enough-requires
-long-enough-requires c κs = search rules
+long_enough-requires : tie.Need-long_enough-requires
+long_enough-requires c κs = search rules
 
-refused-requires : tie.Need-refused-requires
-refused-requires c κs = search rules
+refused-short-requires : tie.Need-refused-short-requires
+refused-short-requires c κs = search rules
 
 tell-requires : tie.Need-tell-requires
 tell-requires c κs = search rules
 
-same_length : tie.Need-same-length
-same_length c = search rules
+shape_of-answer-then-not-long_enough : tie.Need-shape_of-answer-then-not-long_enough
+shape_of-answer-then-not-long_enough c = search rules
 
-returns : tie.Need-returns
+returns-then-not-long_enough : tie.Need-returns-then-not-long_enough
 unfolding left_alone
-returns c =
+returns-then-not-long_enough c =
     let l = c.before.before in
     let r = l.before.before in
     let t = r.before in
     let g = t.before in
-    let a = g.before.before.before.before.args in
-    let e = flag_refuses g.long-enough.ensures t.if1.true in
-    let told = r.refused.ensures ∙ ap (λ (y : MacroblockDecoded). told_alone y a.at) (short_is _ e) in
+    let a = g.args in
+    let e = flag_refuses g.long_enough.ensures t.if-not-long_enough.true in
+    let told = r.refused-short.ensures ∙ ap (λ (y : MacroblockDecoded). told_alone y a.at) (short_is _ e) in
     left_is (l.tell.ensures.0 ∙ ap (λ (y : Told). y.number) told) (short_is _ e) (l.tell.ensures.1 ∙ ap (λ (y : Told). answer_after y a.answer.now) told)
 
-header-of-requires : tie.Need-header-of-requires
-header-of-requires c κs = search rules
+header_of-header-requires : tie.Need-header_of-header-requires
+header_of-header-requires c κs = search rules
 
-use-intra-dc-vlc-requires : tie.Need-use-intra-dc-vlc-requires
-use-intra-dc-vlc-requires c κs = search rules
+use_intra_dc_vlc-dc_coded-requires : tie.Need-use_intra_dc_vlc-dc_coded-requires
+use_intra_dc_vlc-dc_coded-requires c κs = search rules
 
-reversible-vlc-requires : tie.Need-reversible-vlc-requires
-reversible-vlc-requires c κs = search rules
+reversible_vlc-rev-requires : tie.Need-reversible_vlc-rev-requires
+reversible_vlc-rev-requires c κs = search rules
 
-texture-context-of-requires : tie.Need-texture-context-of-requires
-texture-context-of-requires c κs = search rules
+texture_context_of-ctx-requires : tie.Need-texture_context_of-ctx-requires
+texture_context_of-ctx-requires c κs = search rules
 
-neighbours-of-requires : tie.Need-neighbours-of-requires
-neighbours-of-requires c κs = let g = c.before.before.before.before in first_long 21 _ _ _ (flag_passes g.before.long-enough.ensures g.if1.false)
+neighbours_of-near-requires : tie.Need-neighbours_of-near-requires
+neighbours_of-near-requires c κs = let g = c.before.before.before.before in first_long 21 _ _ _ (flag_passes g.long_enough.ensures g.if-not-long_enough.false)
 
-matrix-of-requires : tie.Need-matrix-of-requires
-matrix-of-requires c κs = let g = c.before.before.before.before.before in matrix-long 21 _ _ _ (flag_passes g.before.long-enough.ensures g.if1.false)
+matrix_of-w-requires : tie.Need-matrix_of-w-requires
+matrix_of-w-requires c κs = let g = c.before.before.before.before.before in matrix-long 21 _ _ _ (flag_passes g.long_enough.ensures g.if-not-long_enough.false)
 
-decode-intra-macroblock-requires : tie.Need-decode-intra-macroblock-requires
-decode-intra-macroblock-requires c κs = search rules
+decode_intra_macroblock-d-requires : tie.Need-decode_intra_macroblock-d-requires
+decode_intra_macroblock-d-requires c κs = search rules
 
-told-alone-requires : tie.Need-told-alone-requires
-told-alone-requires c κs = search rules
+told_alone-t-requires : tie.Need-told_alone-t-requires
+told_alone-t-requires c κs = search rules
 
 tell-requires-2 : tie.Need-tell-requires-2
 tell-requires-2 c κs = search rules
 
-same-length-2 : tie.Need-same-length-2
-same-length-2 c = search rules
+shape_of-samples : tie.Need-shape_of-samples
+shape_of-samples c = search rules
 
-same-length-3 : tie.Need-same-length-3
-same-length-3 c = search rules
+shape_of-answer : tie.Need-shape_of-answer
+shape_of-answer c = search rules
 
-returns_2 : tie.Need-returns-2
+returns : tie.Need-returns
 unfolding left_alone
-returns_2 c =
+returns c =
     let l = c.before.before in
     let t = l.before.before in
     let d = t.before.before in
@@ -99,36 +99,36 @@ returns_2 c =
     let h = u.before in
     let g = h.before in
     let k = g.before in
-    let a = k.before.before.before.before.args in
+    let a = k.args in
     let bytes = a.«data».now in
     let samples = a.samples.now in
-    let e = flag_passes k.long-enough.ensures g.if1.false in
-    let r = d.decode-intra-macroblock.ensures in
-    let decoded = long-is _ e (r.0 ∙ all_is (λ (i : MacroblockHeader) (o p : Bool) (y : MacroblockTextureContext) (z : BlockPredictors) (m : List (List ℕ)). macroblock_answer bytes a.at i o p y z m samples) h.header_of.ensures u.use-intra-dc-vlc.ensures v.reversible-vlc.ensures x.texture-context-of.ensures n.neighbours-of.ensures w.matrix-of.ensures) in
-    let told = t.told-alone.ensures ∙ ap (λ (y : MacroblockDecoded). told_alone y a.at) decoded in
+    let e = flag_passes k.long_enough.ensures g.if-not-long_enough.false in
+    let r = d.decode_intra_macroblock-d.ensures in
+    let decoded = long-is _ e (r.0 ∙ all_is (λ (i : MacroblockHeader) (o p : Bool) (y : MacroblockTextureContext) (z : BlockPredictors) (m : List (List ℕ)). macroblock_answer bytes a.at i o p y z m samples) h.header_of-header.ensures u.use_intra_dc_vlc-dc_coded.ensures v.reversible_vlc-rev.ensures x.texture_context_of-ctx.ensures n.neighbours_of-near.ensures w.matrix_of-w.ensures) in
+    let told = t.told_alone-t.ensures ∙ ap (λ (y : MacroblockDecoded). told_alone y a.at) decoded in
     left_is
-    (l.tell2.ensures.0 ∙ ap (λ (y : Told). y.number) told)
-    (long-is _ e (r.1.0 ∙ all_is (λ (i : MacroblockHeader) (o p : Bool) (y : MacroblockTextureContext) (z : BlockPredictors) (m : List (List ℕ)). samples_out bytes a.at i o p y z m samples) h.header_of.ensures u.use-intra-dc-vlc.ensures v.reversible-vlc.ensures x.texture-context-of.ensures n.neighbours-of.ensures w.matrix-of.ensures))
-    (l.tell2.ensures.1 ∙ ap (λ (y : Told). answer_after y a.answer.now) told)
+    (l.tell-2.ensures.0 ∙ ap (λ (y : Told). y.number) told)
+    (long-is _ e (r.1.0 ∙ all_is (λ (i : MacroblockHeader) (o p : Bool) (y : MacroblockTextureContext) (z : BlockPredictors) (m : List (List ℕ)). samples_out bytes a.at i o p y z m samples) h.header_of-header.ensures u.use_intra_dc_vlc-dc_coded.ensures v.reversible_vlc-rev.ensures x.texture_context_of-ctx.ensures n.neighbours_of-near.ensures w.matrix_of-w.ensures))
+    (l.tell-2.ensures.1 ∙ ap (λ (y : Told). answer_after y a.answer.now) told)
 
 pub vaxembro_decode_intra_macroblock_spec : {M : Type 1} → statement M
 vaxembro_decode_intra_macroblock_spec =
     tie.close
     (tie.spec
-    long-enough-requires
-    refused-requires
+    long_enough-requires
+    refused-short-requires
     tell-requires
-    same_length
-    returns
-    header-of-requires
-    use-intra-dc-vlc-requires
-    reversible-vlc-requires
-    texture-context-of-requires
-    neighbours-of-requires
-    matrix-of-requires
-    decode-intra-macroblock-requires
-    told-alone-requires
+    shape_of-answer-then-not-long_enough
+    returns-then-not-long_enough
+    header_of-header-requires
+    use_intra_dc_vlc-dc_coded-requires
+    reversible_vlc-rev-requires
+    texture_context_of-ctx-requires
+    neighbours_of-near-requires
+    matrix_of-w-requires
+    decode_intra_macroblock-d-requires
+    told_alone-t-requires
     tell-requires-2
-    same-length-2
-    same-length-3
-    returns_2)
+    shape_of-samples
+    shape_of-answer
+    returns)

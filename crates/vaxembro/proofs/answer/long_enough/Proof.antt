@@ -4,14 +4,14 @@ use Rattle.vaxembro.proofs.RoomLaws.{all_long_lem, first_short, matrix_short}
 use Rattle.vaxembro.proofs.answer.long_enough.Statement.{statement}
 use Rattle.vaxembro.proofs.answer.long_enough.Tie as tie
 
+returns-then-n-least : tie.Need-returns-then-n-least
+returns-then-n-least c = sym (first_short _ _ _ _ c.if-n-least.true)
+
+returns-then-w-lt64 : tie.Need-returns-then-w-lt64
+returns-then-w-lt64 c = sym (matrix_short _ _ _ _ c.if-n-least.false c.if-w-lt64.true)
+
 returns : tie.Need-returns
-returns c = sym (first_short _ _ _ _ c.if1.true)
-
-returns_2 : tie.Need-returns-2
-returns_2 c = sym (matrix_short _ _ _ _ c.before.if1.false c.if2.true)
-
-returns_3 : tie.Need-returns-3
-returns_3 c = sym (all_long_lem _ _ _ _ c.before.if1.false c.if2.false)
+returns c = sym (all_long_lem _ _ _ _ c.if-n-least.false c.if-w-lt64.false)
 
 pub long_enough_spec : {M : Type 1} → statement M
-long_enough_spec = tie.close (tie.spec returns returns_2 returns_3)
+long_enough_spec = tie.close (tie.spec returns-then-n-least returns-then-w-lt64 returns)

@@ -13,7 +13,7 @@ none-requires : tie.Need-none-requires
 none-requires c κs = search rules
 
 returns : tie.Need-returns
-returns c = rw (c.none.ensures, c.before.figure.ensures, c.before.before.number.ensures)
+returns c = rw (c.none.ensures, c.figure.ensures, c.number.ensures)
 
 pub refused_spec : {M : Type 1} → statement M
 refused_spec = tie.close (tie.spec number-requires figure-requires none-requires returns)

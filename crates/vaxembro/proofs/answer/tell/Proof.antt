@@ -10,88 +10,88 @@ use Rattle.vaxembro.proofs.RoomLaws.{long-is, short_is}
 use Rattle.vaxembro.proofs.answer.tell.Statement.{statement}
 use Rattle.vaxembro.proofs.answer.tell.Tie as tie
 
+returns-then-answer-lt-ANSWER : tie.Need-returns-then-answer-lt-ANSWER
+unfolding answer_after
+returns-then-answer-lt-ANSWER c = (refl, short_is _ (lt-leb answer_length _ c.if-answer-lt-ANSWER.true))
+
+overflow_cast-answer : tie.Need-overflow_cast-answer
+overflow_cast-answer c = search rules
+
+bounds-answer-0 : tie.Need-bounds-answer-0
+bounds-answer-0 c = search rules
+
+overflow_cast-answer-2 : tie.Need-overflow_cast-answer-2
+overflow_cast-answer-2 c = search rules
+
+bounds-answer-1 : tie.Need-bounds-answer-1
+bounds-answer-1 c = simp length-set (omega arith)
+
+bounds-answer-2 : tie.Need-bounds-answer-2
+bounds-answer-2 c = simp length-set (omega arith)
+
+bounds-answer-3 : tie.Need-bounds-answer-3
+bounds-answer-3 c = simp length-set (omega arith)
+
+overflow_cast-answer-3 : tie.Need-overflow_cast-answer-3
+overflow_cast-answer-3 c = search rules
+
+bounds-answer-4 : tie.Need-bounds-answer-4
+bounds-answer-4 c = simp length-set (omega arith)
+
+overflow_cast-answer-4 : tie.Need-overflow_cast-answer-4
+overflow_cast-answer-4 c = search rules
+
+bounds-answer-5 : tie.Need-bounds-answer-5
+bounds-answer-5 c = simp length-set (omega arith)
+
+overflow_cast-answer-5 : tie.Need-overflow_cast-answer-5
+overflow_cast-answer-5 c = search rules
+
+bounds-answer-6 : tie.Need-bounds-answer-6
+bounds-answer-6 c = simp length-set (omega arith)
+
+overflow_cast-answer-6 : tie.Need-overflow_cast-answer-6
+overflow_cast-answer-6 c = search rules
+
+bounds-answer-7 : tie.Need-bounds-answer-7
+bounds-answer-7 c = simp length-set (omega arith)
+
+overflow_cast-answer-7 : tie.Need-overflow_cast-answer-7
+overflow_cast-answer-7 c = search rules
+
+bounds-answer-8 : tie.Need-bounds-answer-8
+bounds-answer-8 c = simp length-set (omega arith)
+
+shape_of-answer : tie.Need-shape_of-answer
+shape_of-answer c = search rules
+
 returns : tie.Need-returns
 unfolding answer_after
-returns c = (refl, short_is _ (lt-leb answer_length _ c.if1.true))
-
-cast-answer : tie.Need-overflow-cast-answer
-cast-answer c = search rules
-
-slice-write-answer : tie.Need-slice-write-answer
-slice-write-answer c = search rules
-
-cast-answer-2 : tie.Need-overflow-cast-answer-2
-cast-answer-2 c = search rules
-
-slice-write-answer-2 : tie.Need-slice-write-answer-2
-slice-write-answer-2 c = simp length-set (omega arith)
-
-slice-write-answer-3 : tie.Need-slice-write-answer-3
-slice-write-answer-3 c = simp length-set (omega arith)
-
-slice-write-answer-4 : tie.Need-slice-write-answer-4
-slice-write-answer-4 c = simp length-set (omega arith)
-
-cast-answer-3 : tie.Need-overflow-cast-answer-3
-cast-answer-3 c = search rules
-
-slice-write-answer-5 : tie.Need-slice-write-answer-5
-slice-write-answer-5 c = simp length-set (omega arith)
-
-cast-answer-4 : tie.Need-overflow-cast-answer-4
-cast-answer-4 c = search rules
-
-slice-write-answer-6 : tie.Need-slice-write-answer-6
-slice-write-answer-6 c = simp length-set (omega arith)
-
-cast-answer-5 : tie.Need-overflow-cast-answer-5
-cast-answer-5 c = search rules
-
-slice-write-answer-7 : tie.Need-slice-write-answer-7
-slice-write-answer-7 c = simp length-set (omega arith)
-
-cast-answer-6 : tie.Need-overflow-cast-answer-6
-cast-answer-6 c = search rules
-
-slice-write-answer-8 : tie.Need-slice-write-answer-8
-slice-write-answer-8 c = simp length-set (omega arith)
-
-cast-answer-7 : tie.Need-overflow-cast-answer-7
-cast-answer-7 c = search rules
-
-slice-write-answer-9 : tie.Need-slice-write-answer-9
-slice-write-answer-9 c = simp length-set (omega arith)
-
-same_length : tie.Need-same-length
-same_length c = search rules
-
-returns_2 : tie.Need-returns-2
-unfolding answer_after
-returns_2 c =
+returns c =
     let e = c.before.before.before.before.before.before.before.before in
-    let a = e.before.args in
-    (refl, long-is _ (le-leb answer_length _ e.if1.false) (sets-eq (answer_of a.t) a.answer.now 0 (omega arith)))
+    let a = e.args in
+    (refl, long-is _ (le-leb answer_length _ e.if-answer-lt-ANSWER.false) (sets-eq (answer_of a.t) a.answer.now 0 (omega arith)))
 
 pub tell_spec : {M : Type 1} → statement M
 tell_spec =
     tie.close
     (tie.spec
-    returns
-    cast-answer
-    slice-write-answer
-    cast-answer-2
-    slice-write-answer-2
-    slice-write-answer-3
-    slice-write-answer-4
-    cast-answer-3
-    slice-write-answer-5
-    cast-answer-4
-    slice-write-answer-6
-    cast-answer-5
-    slice-write-answer-7
-    cast-answer-6
-    slice-write-answer-8
-    cast-answer-7
-    slice-write-answer-9
-    same_length
-    returns_2)
+    returns-then-answer-lt-ANSWER
+    overflow_cast-answer
+    bounds-answer-0
+    overflow_cast-answer-2
+    bounds-answer-1
+    bounds-answer-2
+    bounds-answer-3
+    overflow_cast-answer-3
+    bounds-answer-4
+    overflow_cast-answer-4
+    bounds-answer-5
+    overflow_cast-answer-5
+    bounds-answer-6
+    overflow_cast-answer-6
+    bounds-answer-7
+    overflow_cast-answer-7
+    bounds-answer-8
+    shape_of-answer
+    returns)

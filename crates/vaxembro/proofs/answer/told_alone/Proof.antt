@@ -6,29 +6,29 @@ use Rattle.vaxembro.specs.Answer.{told_alone}
 use Rattle.vaxembro.proofs.answer.told_alone.Statement.{statement}
 use Rattle.vaxembro.proofs.answer.told_alone.Tie as tie
 
-enum-known-d : tie.Need-enum-known-d
-enum-known-d c = search rules
+enum_known-d : tie.Need-enum_known-d
+enum_known-d c = search rules
 
 refused-requires : tie.Need-refused-requires
 refused-requires c κs = search rules
 
-enum-known-d-2 : tie.Need-enum-known-d-2
-enum-known-d-2 c = search rules
+enum_known-d-in-Decoded-1 : tie.Need-enum_known-d-in-Decoded-1
+enum_known-d-in-Decoded-1 c = search rules
 
 accepted-requires : tie.Need-accepted-requires
 accepted-requires c κs = search rules
 
-returns : tie.Need-returns
-returns c =
-    let d = c.before.before in
-    c.refused.ensures ∙ ap (λ (x : MacroblockDecoded). told_alone x d.before.before.args.at) (sym d.d.given.1)
+returns-in-Refused : tie.Need-returns-in-Refused
+returns-in-Refused c =
+    let d = c.before in
+    c.refused.ensures ∙ ap (λ (x : MacroblockDecoded). told_alone x d.args.at) (sym d.in-Refused.is)
 
-returns_2 : tie.Need-returns-2
-returns_2 c =
-    let d = c.before.before in
-    c.accepted.ensures ∙ ap (λ (x : MacroblockDecoded). told_alone x d.before.before.args.at) (sym d.d2.given.1)
+returns-in-Decoded : tie.Need-returns-in-Decoded
+returns-in-Decoded c =
+    let d = c.before in
+    c.accepted.ensures ∙ ap (λ (x : MacroblockDecoded). told_alone x d.args.at) (sym d.in-Decoded.is)
 
 pub told_alone_spec : {M : Type 1} → statement M
 told_alone_spec =
     tie.close
-    (tie.spec enum-known-d refused-requires enum-known-d-2 accepted-requires returns returns_2)
+    (tie.spec enum_known-d refused-requires enum_known-d-in-Decoded-1 accepted-requires returns-in-Refused returns-in-Decoded)

@@ -4,11 +4,11 @@ use Rattle.vaxembro.specs.Fields.{bit_of}
 use Rattle.vaxembro.proofs.header.bit_of.Statement.{statement}
 use Rattle.vaxembro.proofs.header.bit_of.Tie as tie
 
-returns : tie.Need-returns
-returns c = ap bit_of (sym c.if1.true)
+returns-then-set : tie.Need-returns-then-set
+returns-then-set c = ap bit_of (sym c.if-set.true)
 
-returns_2 : tie.Need-returns-2
-returns_2 c = ap bit_of (sym c.if1.false)
+returns : tie.Need-returns
+returns c = ap bit_of (sym c.if-set.false)
 
 pub bit_of_spec : {M : Type 1} → statement M
-bit_of_spec = tie.close (tie.spec returns returns_2)
+bit_of_spec = tie.close (tie.spec returns-then-set returns)

@@ -6,27 +6,27 @@ use Rattle.vaxembro.specs.Fields.{header_out}
 use Rattle.vaxembro.proofs.header.put_read.Statement.{statement}
 use Rattle.vaxembro.proofs.header.put_read.Tie as tie
 
-enum_told : tie.Need-enum-told
-enum_told c = search rules
+enum_told-1 : tie.Need-enum_told-1
+enum_told-1 c = search rules
 
-enum-known-r : tie.Need-enum-known-r
-enum-known-r c = search rules
+enum_known-r : tie.Need-enum_known-r
+enum_known-r c = search rules
 
-put-fields-requires : tie.Need-put-fields-requires
-put-fields-requires c κs = search rules
+put_fields-requires : tie.Need-put_fields-requires
+put_fields-requires c κs = search rules
 
-returns : tie.Need-returns
-returns c = search rules
+returns-in-Refused : tie.Need-returns-in-Refused
+returns-in-Refused c = search rules
 
-same_length : tie.Need-same-length
-same_length c = search rules
+shape_of-header : tie.Need-shape_of-header
+shape_of-header c = search rules
 
-returns_2 : tie.Need-returns-2
-returns_2 c =
+returns-in-Read : tie.Need-returns-in-Read
+returns-in-Read c =
     let p = c.before in
-    let d = p.before.before.before in
-    p.put-fields.ensures ∙ ap (λ (x : HeaderRead). header_out x d.before.before.args.header.now) (sym d.r.given.1)
+    let d = p.before.before in
+    p.put_fields.ensures ∙ ap (λ (x : HeaderRead). header_out x d.args.header.now) (sym d.in-Read.is)
 
 pub put_read_spec : {M : Type 1} → statement M
 put_read_spec =
-    tie.close (tie.spec enum_told enum-known-r put-fields-requires returns same_length returns_2)
+    tie.close (tie.spec enum_told-1 enum_known-r put_fields-requires returns-in-Refused shape_of-header returns-in-Read)

@@ -6,27 +6,27 @@ use Rattle.vaxembro.specs.Fields.{whole_header_out_in}
 use Rattle.vaxembro.proofs.header.put_whole_in.Statement.{statement}
 use Rattle.vaxembro.proofs.header.put_whole_in.Tie as tie
 
-enum_told : tie.Need-enum-told
-enum_told c = search rules
+enum_told-1 : tie.Need-enum_told-1
+enum_told-1 c = search rules
 
-enum-known-d : tie.Need-enum-known-d
-enum-known-d c = search rules
+enum_known-d : tie.Need-enum_known-d
+enum_known-d c = search rules
 
-put-fields-requires : tie.Need-put-fields-requires
-put-fields-requires c κs = search rules
+put_fields-requires : tie.Need-put_fields-requires
+put_fields-requires c κs = search rules
 
-returns : tie.Need-returns
-returns c = search rules
+returns-in-Refused : tie.Need-returns-in-Refused
+returns-in-Refused c = search rules
 
-same_length : tie.Need-same-length
-same_length c = search rules
+shape_of-header : tie.Need-shape_of-header
+shape_of-header c = search rules
 
-returns_2 : tie.Need-returns-2
-returns_2 c =
+returns-in-Decoded : tie.Need-returns-in-Decoded
+returns-in-Decoded c =
     let p = c.before in
-    let d = p.before.before.before in
-    p.put-fields.ensures ∙ ap (λ (x : PictureWholeDecoded). whole_header_out_in x d.before.before.args.header.now) (sym d.d.given.1)
+    let d = p.before.before in
+    p.put_fields.ensures ∙ ap (λ (x : PictureWholeDecoded). whole_header_out_in x d.args.header.now) (sym d.in-Decoded.is)
 
 pub put_whole_in_spec : {M : Type 1} → statement M
 put_whole_in_spec =
-    tie.close (tie.spec enum_told enum-known-d put-fields-requires returns same_length returns_2)
+    tie.close (tie.spec enum_told-1 enum_known-d put_fields-requires returns-in-Refused shape_of-header returns-in-Decoded)

@@ -8,14 +8,14 @@ use Rattle.vaxembro.proofs.RoomLaws.{long-is, short_is}
 use Rattle.vaxembro.proofs.header.scale_of.Statement.{statement}
 use Rattle.vaxembro.proofs.header.scale_of.Tie as tie
 
-cast_result : tie.Need-overflow-cast-result
-cast_result c = search rules
+overflow_cast-result : tie.Need-overflow_cast-result
+overflow_cast-result c = search rules
+
+returns-then-q-lt32 : tie.Need-returns-then-q-lt32
+returns-then-q-lt32 c = let h = c.if-q-lt32.true in long-is _ (lt-ltb _ 32 h) (to_z_pos w32 (omega arith))
 
 returns : tie.Need-returns
-returns c = let h = c.if1.true in long-is _ (lt-ltb _ 32 h) (to_z_pos w32 (omega arith))
-
-returns_2 : tie.Need-returns-2
-returns_2 c = short_is _ (le-ltb _ 32 c.if1.false)
+returns c = short_is _ (le-ltb _ 32 c.if-q-lt32.false)
 
 pub scale_of_spec : {M : Type 1} → statement M
-scale_of_spec = tie.close (tie.spec cast_result returns returns_2)
+scale_of_spec = tie.close (tie.spec overflow_cast-result returns-then-q-lt32 returns)

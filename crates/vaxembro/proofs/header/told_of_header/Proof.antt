@@ -14,14 +14,14 @@ use Rattle.vaxembro.proofs.header.told_of_header.Tie as tie
 accepted-is : {r : Told} {b b' p : ℕ} {k k' : Spellings} → r ≡ accepted_as b p k → b ≡ b' → k ≡ k' → r ≡ accepted_as b' p k'
 accepted-is {r} {b} {b'} {p} h e f = h ∙ (λ i. accepted_as (e i) p (f i))
 
-enum-known-r : tie.Need-enum-known-r
-enum-known-r c = search rules
+enum_known-r : tie.Need-enum_known-r
+enum_known-r c = search rules
 
 refused-requires : tie.Need-refused-requires
 refused-requires c κs = search rules
 
-enum-known-r-2 : tie.Need-enum-known-r-2
-enum-known-r-2 c = search rules
+enum_known-r-in-Read-1 : tie.Need-enum_known-r-in-Read-1
+enum_known-r-in-Read-1 c = search rules
 
 taken-requires : tie.Need-taken-requires
 taken-requires c κs = search rules
@@ -32,27 +32,27 @@ none-requires c κs = search rules
 accepted-requires : tie.Need-accepted-requires
 accepted-requires c κs = search rules
 
-returns : tie.Need-returns
-returns c =
-    let d = c.before.before in
-    c.refused.ensures ∙ ap (λ (x : HeaderRead). told_of_header x d.before.before.args.at) (sym d.r.given.1)
+returns-in-Refused : tie.Need-returns-in-Refused
+returns-in-Refused c =
+    let d = c.before in
+    c.refused.ensures ∙ ap (λ (x : HeaderRead). told_of_header x d.args.at) (sym d.in-Refused.is)
 
-returns_2 : tie.Need-returns-2
-returns_2 c =
+returns-in-Read : tie.Need-returns-in-Read
+returns-in-Read c =
     let n = c.before in
     let t = n.before in
-    let d = t.before.before in
-    accepted-is c.accepted.ensures t.taken.ensures n.none.ensures ∙ ap (λ (x : HeaderRead). told_of_header x d.before.before.args.at) (sym d.r2.given.1)
+    let d = t.before in
+    accepted-is c.accepted.ensures t.taken.ensures n.none.ensures ∙ ap (λ (x : HeaderRead). told_of_header x d.args.at) (sym d.in-Read.is)
 
 pub told_of_header_spec : {M : Type 1} → statement M
 told_of_header_spec =
     tie.close
     (tie.spec
-    enum-known-r
+    enum_known-r
     refused-requires
-    enum-known-r-2
+    enum_known-r-in-Read-1
     taken-requires
     none-requires
     accepted-requires
-    returns
-    returns_2)
+    returns-in-Refused
+    returns-in-Read)

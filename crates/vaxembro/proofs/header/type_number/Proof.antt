@@ -5,55 +5,55 @@ use Rattle.vaxembro.specs.Fields.{type_number}
 use Rattle.vaxembro.proofs.header.type_number.Statement.{statement}
 use Rattle.vaxembro.proofs.header.type_number.Tie as tie
 
-enum_told : tie.Need-enum-told
-enum_told c = search rules
+enum_told-1 : tie.Need-enum_told-1
+enum_told-1 c = search rules
 
-enum-told-2 : tie.Need-enum-told-2
-enum-told-2 c = search rules
+enum_told-in-Inter : tie.Need-enum_told-in-Inter
+enum_told-in-Inter c = search rules
 
-enum-told-3 : tie.Need-enum-told-3
-enum-told-3 c = search rules
+enum_told-in-InterQ : tie.Need-enum_told-in-InterQ
+enum_told-in-InterQ c = search rules
 
-enum-told-4 : tie.Need-enum-told-4
-enum-told-4 c = search rules
+enum_told-in-Inter4V : tie.Need-enum_told-in-Inter4V
+enum_told-in-Inter4V c = search rules
 
-enum-told-5 : tie.Need-enum-told-5
-enum-told-5 c = search rules
+enum_told-in-Intra : tie.Need-enum_told-in-Intra
+enum_told-in-Intra c = search rules
 
-enum-told-6 : tie.Need-enum-told-6
-enum-told-6 c = search rules
+enum_told-in-IntraQ : tie.Need-enum_told-in-IntraQ
+enum_told-in-IntraQ c = search rules
 
-returns : tie.Need-returns
-returns c = ap type_number (sym c.enum_told.given.1)
+returns-in-Missing : tie.Need-returns-in-Missing
+returns-in-Missing c = ap type_number (sym c.in-Missing.is)
 
-returns_2 : tie.Need-returns-2
-returns_2 c = ap type_number (sym c.enum-told2.given.1)
+returns-in-Inter : tie.Need-returns-in-Inter
+returns-in-Inter c = ap type_number (sym c.in-Inter.is)
 
-returns_3 : tie.Need-returns-3
-returns_3 c = ap type_number (sym c.enum-told3.given.1)
+returns-in-InterQ : tie.Need-returns-in-InterQ
+returns-in-InterQ c = ap type_number (sym c.in-InterQ.is)
 
-returns_4 : tie.Need-returns-4
-returns_4 c = ap type_number (sym c.enum-told4.given.1)
+returns-in-Inter4V : tie.Need-returns-in-Inter4V
+returns-in-Inter4V c = ap type_number (sym c.in-Inter4V.is)
 
-returns_5 : tie.Need-returns-5
-returns_5 c = ap type_number (sym c.enum-told5.given.1)
+returns-in-Intra : tie.Need-returns-in-Intra
+returns-in-Intra c = ap type_number (sym c.in-Intra.is)
 
-returns_6 : tie.Need-returns-6
-returns_6 c = ap type_number (sym c.enum-told6.given.1)
+returns-in-IntraQ : tie.Need-returns-in-IntraQ
+returns-in-IntraQ c = ap type_number (sym c.in-IntraQ.is)
 
 pub type_number_spec : {M : Type 1} → statement M
 type_number_spec =
     tie.close
     (tie.spec
-    enum_told
-    enum-told-2
-    enum-told-3
-    enum-told-4
-    enum-told-5
-    enum-told-6
-    returns
-    returns_2
-    returns_3
-    returns_4
-    returns_5
-    returns_6)
+    enum_told-1
+    enum_told-in-Inter
+    enum_told-in-InterQ
+    enum_told-in-Inter4V
+    enum_told-in-Intra
+    enum_told-in-IntraQ
+    returns-in-Missing
+    returns-in-Inter
+    returns-in-InterQ
+    returns-in-Inter4V
+    returns-in-Intra
+    returns-in-IntraQ)

@@ -4,19 +4,19 @@ use Rattle.vaxembro.specs.Lent.{header_by}
 use Rattle.vaxembro.proofs.lent.header_of.Statement.{statement}
 use Rattle.vaxembro.proofs.lent.header_of.Tie as tie
 
-type-of-requires : tie.Need-type-of-requires
-type-of-requires c κs = search rules
+type_of-kind-requires : tie.Need-type_of-kind-requires
+type_of-kind-requires c κs = search rules
 
-not-coded-requires : tie.Need-not-coded-requires
-not-coded-requires c κs = search rules
+not_coded-requires : tie.Need-not_coded-requires
+not_coded-requires c κs = search rules
 
-ac-pred-flag-requires : tie.Need-ac-pred-flag-requires
-ac-pred-flag-requires c κs = search rules
+ac_pred_flag-requires : tie.Need-ac_pred_flag-requires
+ac_pred_flag-requires c κs = search rules
 
 returns : tie.Need-returns
 unfolding header_by
-returns c = rw (c.ac-pred-flag.ensures, c.before.not-coded.ensures, c.before.before.type-of.ensures)
+returns c = rw (c.ac_pred_flag.ensures, c.not_coded.ensures, c.type_of-kind.ensures)
 
 pub header_of_spec : {M : Type 1} → statement M
 header_of_spec =
-    tie.close (tie.spec type-of-requires not-coded-requires ac-pred-flag-requires returns)
+    tie.close (tie.spec type_of-kind-requires not_coded-requires ac_pred_flag-requires returns)

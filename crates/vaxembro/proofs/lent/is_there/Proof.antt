@@ -6,13 +6,13 @@ use Rattle.vaxembro.specs.Lent.{there}
 use Rattle.vaxembro.proofs.lent.is_there.Statement.{statement}
 use Rattle.vaxembro.proofs.lent.is_there.Tie as tie
 
+returns-then-z-eq0 : tie.Need-returns-then-z-eq0
+unfolding there
+returns-then-z-eq0 c = rw (eq-eqb _ 0 (zero-abs {w = w32} c.ranges.z c.if-z-eq0.true))
+
 returns : tie.Need-returns
 unfolding there
-returns c = rw (eq-eqb _ 0 (zero-abs {w = w32} c.before.ranges.z c.if1.true))
-
-returns_2 : tie.Need-returns-2
-unfolding there
-returns_2 c = rw (ne_eqb _ 0 (nonzero_abs w32 c.before.args.z c.if1.false))
+returns c = rw (ne_eqb _ 0 (nonzero_abs w32 c.args.z c.if-z-eq0.false))
 
 pub is_there_spec : {M : Type 1} → statement M
-is_there_spec = tie.close (tie.spec returns returns_2)
+is_there_spec = tie.close (tie.spec returns-then-z-eq0 returns)

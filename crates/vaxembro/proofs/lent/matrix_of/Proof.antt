@@ -16,89 +16,89 @@ f l v u = get_or l (8 * v + u) 0
 abbrev z : ℕ → ℕ → ℕ
 z v u = 0
 
-abbrev invariant_loop2 : tie.invariant-loop2
-invariant_loop2 lent w₀ v u₀ w u = (v < 8) × (u ≤ 8) × (w ≡ filled 8 8 (f lent) z v u)
+abbrev invariant-loop-u : tie.invariant-loop-u
+invariant-loop-u lent w₀ v u₀ w u = (v < 8) × (u ≤ 8) × (w ≡ filled 8 8 (f lent) z v u)
 
-abbrev decreases-loop2 : tie.decreases-loop2
-decreases-loop2 lent w₀ v u₀ w u = 8 - u
+abbrev decreases-loop-u : tie.decreases-loop-u
+decreases-loop-u lent w₀ v u₀ w u = 8 - u
 
-abbrev invariant_loop : tie.invariant-loop
-invariant_loop lent w₀ v₀ w v = (v ≤ 8) × (w ≡ rows 8 8 (f lent) z v)
+abbrev invariant-loop-v : tie.invariant-loop-v
+invariant-loop-v lent w₀ v₀ w v = (v ≤ 8) × (w ≡ rows 8 8 (f lent) z v)
 
-abbrev decreases-loop : tie.decreases-loop
-decreases-loop lent w₀ v₀ w v = 8 - v
+abbrev decreases-loop-v : tie.decreases-loop-v
+decreases-loop-v lent w₀ v₀ w v = 8 - v
 
-loop_holds : tie.Need-loop-init invariant_loop2 decreases-loop2 invariant_loop decreases-loop
+loop-v-init : tie.Need-loop-v-init invariant-loop-u decreases-loop-u invariant-loop-v decreases-loop-v
 unfolding build
-loop_holds c = (omega arith, rows_none 8 8 (f c.args.lent.now) z _ refl)
+loop-v-init c = (omega arith, rows_none 8 8 (f c.args.lent.now) z _ refl)
 
-loop2-holds : tie.Need-loop2-init invariant_loop2 decreases-loop2 invariant_loop decreases-loop
-loop2-holds c = (c.loop-test.true, omega arith, row-begins 8 8 _ _ _ _ c.loop-test.true c.before.loop.invariant.1)
+loop-u-init : tie.Need-loop-u-init invariant-loop-u decreases-loop-u invariant-loop-v decreases-loop-v
+loop-u-init c = (c.loop-v-test.true, omega arith, row-begins 8 8 _ _ _ _ c.loop-v-test.true c.loop-v.invariant.1)
 
-mul-w : tie.Need-overflow-mul-w invariant_loop2 decreases-loop2 invariant_loop decreases-loop
-mul-w c = omega arith
+overflow_mul-w : tie.Need-overflow_mul-w invariant-loop-u decreases-loop-u invariant-loop-v decreases-loop-v
+overflow_mul-w c = omega arith
 
-add-w : tie.Need-overflow-add-w invariant_loop2 decreases-loop2 invariant_loop decreases-loop
-add-w c = omega arith
+overflow_add-w : tie.Need-overflow_add-w invariant-loop-u decreases-loop-u invariant-loop-v decreases-loop-v
+overflow_add-w c = omega arith
 
-shared-slice-read-w : tie.Need-shared-slice-read-w invariant_loop2 decreases-loop2 invariant_loop decreases-loop
-shared-slice-read-w c = omega arith
+bounds-lent-v : tie.Need-bounds-lent-v invariant-loop-u decreases-loop-u invariant-loop-v decreases-loop-v
+bounds-lent-v c = omega arith
 
-mul-w-2 : tie.Need-overflow-mul-w-2 invariant_loop2 decreases-loop2 invariant_loop decreases-loop
-mul-w-2 c = omega arith
+offset_bounds-w-v : tie.Need-offset_bounds-w-v invariant-loop-u decreases-loop-u invariant-loop-v decreases-loop-v
+offset_bounds-w-v c = omega arith
 
-index-1-w : tie.Need-bounds-1-w invariant_loop2 decreases-loop2 invariant_loop decreases-loop
-index-1-w c = omega arith
+bounds-w-v : tie.Need-bounds-w-v invariant-loop-u decreases-loop-u invariant-loop-v decreases-loop-v
+bounds-w-v c = omega arith
 
-index-2-w : tie.Need-bounds-2-w invariant_loop2 decreases-loop2 invariant_loop decreases-loop
-index-2-w c = omega arith
+bounds-w-u : tie.Need-bounds-w-u invariant-loop-u decreases-loop-u invariant-loop-v decreases-loop-v
+bounds-w-u c = omega arith
 
-add-u : tie.Need-overflow-add-u invariant_loop2 decreases-loop2 invariant_loop decreases-loop
-add-u c = omega arith
+overflow_step-u : tie.Need-overflow_step-u invariant-loop-u decreases-loop-u invariant-loop-v decreases-loop-v
+overflow_step-u c = omega arith
 
-loop2-less : tie.Need-loop2-smaller invariant_loop2 decreases-loop2 invariant_loop decreases-loop
-loop2-less c = omega arith
+loop-u-smaller : tie.Need-loop-u-smaller invariant-loop-u decreases-loop-u invariant-loop-v decreases-loop-v
+loop-u-smaller c = omega arith
 
-loop2-again : tie.Need-loop2-preserved invariant_loop2 decreases-loop2 invariant_loop decreases-loop
-loop2-again c =
+loop-u-preserved : tie.Need-loop-u-preserved invariant-loop-u decreases-loop-u invariant-loop-v decreases-loop-v
+loop-u-preserved c =
     let l = c.before.before in
-    (l.loop2.invariant.0, omega arith, fill_more 8 8 _ _ 0 _ _ _ _ _ l.loop2.invariant.0 c.before.loop2-test.true l.loop2.invariant.2 refl)
+    (l.loop-u.invariant.0, omega arith, fill_more 8 8 _ _ 0 _ _ _ _ _ l.loop-u.invariant.0 c.loop-u-test.true l.loop-u.invariant.2 refl)
 
-add-v : tie.Need-overflow-add-v invariant_loop2 decreases-loop2 invariant_loop decreases-loop
-add-v c = omega arith
+overflow_step-v : tie.Need-overflow_step-v invariant-loop-u decreases-loop-u invariant-loop-v decreases-loop-v
+overflow_step-v c = omega arith
 
-loop-less : tie.Need-loop-smaller invariant_loop2 decreases-loop2 invariant_loop decreases-loop
-loop-less c = omega arith
+loop-v-smaller : tie.Need-loop-v-smaller invariant-loop-u decreases-loop-u invariant-loop-v decreases-loop-v
+loop-v-smaller c = omega arith
 
-loop_again : tie.Need-loop-preserved invariant_loop2 decreases-loop2 invariant_loop decreases-loop
-loop_again c =
+loop-v-preserved : tie.Need-loop-v-preserved invariant-loop-u decreases-loop-u invariant-loop-v decreases-loop-v
+loop-v-preserved c =
     let l = c.before in
-    (omega arith, row_ends 8 8 _ _ _ _ _ l.loop2.invariant.0 c.loop2-test.false l.loop2.invariant.1 l.loop2.invariant.2)
+    (omega arith, row_ends 8 8 _ _ _ _ _ l.loop-u.invariant.0 c.loop-u-test.false l.loop-u.invariant.1 l.loop-u.invariant.2)
 
-returns : tie.Need-returns invariant_loop2 decreases-loop2 invariant_loop decreases-loop
+returns : tie.Need-returns invariant-loop-u decreases-loop-u invariant-loop-v decreases-loop-v
 unfolding matrix_of
-returns c = let a = c.before in rows_all 8 8 _ _ _ _ c.loop-test.false a.loop.invariant.0 a.loop.invariant.1
+returns c = let a = c.before in rows_all 8 8 _ _ _ _ c.loop-v-test.false a.loop-v.invariant.0 a.loop-v.invariant.1
 
 pub matrix_of_spec : {M : Type 1} → statement M
 matrix_of_spec =
     tie.close
     (tie.spec
-    invariant_loop2
-    decreases-loop2
-    invariant_loop
-    decreases-loop
-    loop_holds
-    loop2-holds
-    mul-w
-    add-w
-    shared-slice-read-w
-    mul-w-2
-    index-1-w
-    index-2-w
-    add-u
-    loop2-less
-    loop2-again
-    add-v
-    loop-less
-    loop_again
+    invariant-loop-u
+    decreases-loop-u
+    invariant-loop-v
+    decreases-loop-v
+    loop-v-init
+    loop-u-init
+    overflow_mul-w
+    overflow_add-w
+    bounds-lent-v
+    offset_bounds-w-v
+    bounds-w-v
+    bounds-w-u
+    overflow_step-u
+    loop-u-smaller
+    loop-u-preserved
+    overflow_step-v
+    loop-v-smaller
+    loop-v-preserved
     returns)

@@ -9,44 +9,44 @@ use Rattle.vaxembro.specs.Lent.{neighbours_of, there}
 use Rattle.vaxembro.proofs.lent.neighbours_of.Statement.{statement}
 use Rattle.vaxembro.proofs.lent.neighbours_of.Tie as tie
 
-seven-requires : tie.Need-seven-requires
-seven-requires c κs = search rules
+seven-column-requires : tie.Need-seven-column-requires
+seven-column-requires c κs = search rules
 
-seven-requires-2 : tie.Need-seven-requires-2
-seven-requires-2 c κs = search rules
+seven-row-requires : tie.Need-seven-row-requires
+seven-row-requires c κs = search rules
 
-shared-slice-copy-out-t5 : tie.Need-shared-slice-copy-out-t5
-shared-slice-copy-out-t5 c = search rules
+bounds-lent-0 : tie.Need-bounds-lent-0
+bounds-lent-0 c = search rules
 
-shared-slice-copy-out-t7 : tie.Need-shared-slice-copy-out-t7
-shared-slice-copy-out-t7 c = search rules
+bounds-lent-1 : tie.Need-bounds-lent-1
+bounds-lent-1 c = search rules
 
-shared-slice-copy-out-t9 : tie.Need-shared-slice-copy-out-t9
-shared-slice-copy-out-t9 c = search rules
+bounds-lent-2 : tie.Need-bounds-lent-2
+bounds-lent-2 c = search rules
 
-shared-slice-copy-out-quantiser-of : tie.Need-shared-slice-copy-out-quantiser-of
-shared-slice-copy-out-quantiser-of c = search rules
+bounds-lent-3 : tie.Need-bounds-lent-3
+bounds-lent-3 c = search rules
 
-quantiser-of-requires : tie.Need-quantiser-of-requires
-quantiser-of-requires c κs = search rules
+quantiser_of-requires : tie.Need-quantiser_of-requires
+quantiser_of-requires c κs = search rules
 
-shared-slice-copy-out-quantiser-of-2 : tie.Need-shared-slice-copy-out-quantiser-of-2
-shared-slice-copy-out-quantiser-of-2 c = search rules
+bounds-lent-4 : tie.Need-bounds-lent-4
+bounds-lent-4 c = search rules
 
-quantiser-of-requires-2 : tie.Need-quantiser-of-requires-2
-quantiser-of-requires-2 c κs = search rules
+quantiser_of-requires-2 : tie.Need-quantiser_of-requires-2
+quantiser_of-requires-2 c κs = search rules
 
-shared-slice-copy-out-is-there : tie.Need-shared-slice-copy-out-is-there
-shared-slice-copy-out-is-there c = search rules
+bounds-lent-5 : tie.Need-bounds-lent-5
+bounds-lent-5 c = search rules
 
-is-there-requires : tie.Need-is-there-requires
-is-there-requires c κs = search rules
+is_there-requires : tie.Need-is_there-requires
+is_there-requires c κs = search rules
 
-shared-slice-copy-out-is-there-2 : tie.Need-shared-slice-copy-out-is-there-2
-shared-slice-copy-out-is-there-2 c = search rules
+bounds-lent-6 : tie.Need-bounds-lent-6
+bounds-lent-6 c = search rules
 
-is-there-requires-2 : tie.Need-is-there-requires-2
-is-there-requires-2 c κs = search rules
+is_there-requires-2 : tie.Need-is_there-requires-2
+is_there-requires-2 c κs = search rules
 
 returns : tie.Need-returns
 unfolding neighbours_of
@@ -54,16 +54,16 @@ returns c =
     let q = c.before.before.before.before in
     let t = q.before.before.before.before in
     let s = t.before.before.before in
-    let l = s.before.before.args.lent.now in
-    let fa = held (get_or l 0 (pos 0)) t.before.before.t5.given in
-    let fb = held (get_or l 1 (pos 0)) t.before.t7.given in
-    let fc = held (get_or l 2 (pos 0)) t.t9.given in
-    let qa = q.before.before.quantiser-of.ensures ∙ ap quantiser_of (held (get_or l 3 (pos 0)) q.before.before.before.quantiser-of-arg.given) in
-    let qc = q.quantiser-of2.ensures ∙ ap quantiser_of (held (get_or l 4 (pos 0)) q.before.quantiser-of-arg2.given) in
-    let column = c.before.before.is-there.ensures ∙ ap there (held (get_or l 5 (pos 0)) c.before.before.before.is-there-arg.given) in
-    let row = c.is-there2.ensures ∙ ap there (held (get_or l 6 (pos 0)) c.before.is-there-arg2.given) in
-    let left = s.before.seven.ensures in
-    let above = s.seven2.ensures in
+    let l = s.args.lent.now in
+    let fa = held (get_or l 0 (pos 0)) t.result-1.given in
+    let fb = held (get_or l 1 (pos 0)) t.result-2-1.given in
+    let fc = held (get_or l 2 (pos 0)) t.result-3-1.given in
+    let qa = q.quantiser_of.ensures ∙ ap quantiser_of (held (get_or l 3 (pos 0)) q.quantiser_of-arg-1.given) in
+    let qc = q.quantiser_of-2.ensures ∙ ap quantiser_of (held (get_or l 4 (pos 0)) q.quantiser_of-arg-2-1.given) in
+    let column = c.is_there.ensures ∙ ap there (held (get_or l 5 (pos 0)) c.is_there-arg-1.given) in
+    let row = c.is_there-2.ensures ∙ ap there (held (get_or l 6 (pos 0)) c.is_there-arg-2-1.given) in
+    let left = s.seven-column.ensures in
+    let above = s.seven-row.ensures in
     λ i. record {
       fa_dc = fa i;
       fb_dc = fb i;
@@ -80,17 +80,17 @@ pub neighbours_of_spec : {M : Type 1} → statement M
 neighbours_of_spec =
     tie.close
     (tie.spec
-    seven-requires
-    seven-requires-2
-    shared-slice-copy-out-t5
-    shared-slice-copy-out-t7
-    shared-slice-copy-out-t9
-    shared-slice-copy-out-quantiser-of
-    quantiser-of-requires
-    shared-slice-copy-out-quantiser-of-2
-    quantiser-of-requires-2
-    shared-slice-copy-out-is-there
-    is-there-requires
-    shared-slice-copy-out-is-there-2
-    is-there-requires-2
+    seven-column-requires
+    seven-row-requires
+    bounds-lent-0
+    bounds-lent-1
+    bounds-lent-2
+    bounds-lent-3
+    quantiser_of-requires
+    bounds-lent-4
+    quantiser_of-requires-2
+    bounds-lent-5
+    is_there-requires
+    bounds-lent-6
+    is_there-requires-2
     returns)

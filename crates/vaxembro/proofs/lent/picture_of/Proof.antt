@@ -5,20 +5,20 @@ use Rattle.vaxembro.specs.Lent.{picture_of}
 use Rattle.vaxembro.proofs.lent.picture_of.Statement.{statement}
 use Rattle.vaxembro.proofs.lent.picture_of.Tie as tie
 
-shared-slice-read-t3 : tie.Need-shared-slice-read-t3
-shared-slice-read-t3 c = search rules
+bounds-state-0 : tie.Need-bounds-state-0
+bounds-state-0 c = search rules
 
-shared-slice-read-t5 : tie.Need-shared-slice-read-t5
-shared-slice-read-t5 c = search rules
+bounds-state-1 : tie.Need-bounds-state-1
+bounds-state-1 c = search rules
 
-shared-slice-read-t7 : tie.Need-shared-slice-read-t7
-shared-slice-read-t7 c = search rules
+bounds-state-2 : tie.Need-bounds-state-2
+bounds-state-2 c = search rules
 
-shared-slice-read-t9 : tie.Need-shared-slice-read-t9
-shared-slice-read-t9 c = search rules
+bounds-state-3 : tie.Need-bounds-state-3
+bounds-state-3 c = search rules
 
-shared-slice-read-t12 : tie.Need-shared-slice-read-t12
-shared-slice-read-t12 c = search rules
+bounds-state-4 : tie.Need-bounds-state-4
+bounds-state-4 c = search rules
 
 returns : tie.Need-returns
 unfolding picture_of
@@ -28,9 +28,9 @@ pub picture_of_spec : {M : Type 1} → statement M
 picture_of_spec =
     tie.close
     (tie.spec
-    shared-slice-read-t3
-    shared-slice-read-t5
-    shared-slice-read-t7
-    shared-slice-read-t9
-    shared-slice-read-t12
+    bounds-state-0
+    bounds-state-1
+    bounds-state-2
+    bounds-state-3
+    bounds-state-4
     returns)

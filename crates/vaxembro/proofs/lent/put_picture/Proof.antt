@@ -11,45 +11,45 @@ use Rattle.vaxembro.specs.Lent.{state_after}
 use Rattle.vaxembro.proofs.lent.put_picture.Statement.{statement}
 use Rattle.vaxembro.proofs.lent.put_picture.Tie as tie
 
-slice-write-state : tie.Need-slice-write-state
-slice-write-state c = search rules
+bounds-state-0 : tie.Need-bounds-state-0
+bounds-state-0 c = search rules
 
-slice-write-state-2 : tie.Need-slice-write-state-2
-slice-write-state-2 c = simp length-set (omega arith)
+bounds-state-1 : tie.Need-bounds-state-1
+bounds-state-1 c = simp length-set (omega arith)
 
-slice-write-state-3 : tie.Need-slice-write-state-3
-slice-write-state-3 c = simp length-set (omega arith)
+bounds-state-2 : tie.Need-bounds-state-2
+bounds-state-2 c = simp length-set (omega arith)
 
-number-of-requires : tie.Need-number-of-requires
-number-of-requires c κs = search rules
+number_of-requires : tie.Need-number_of-requires
+number_of-requires c κs = search rules
 
-slice-write-state-4 : tie.Need-slice-write-state-4
-slice-write-state-4 c = simp length-set (omega arith)
+bounds-state-3 : tie.Need-bounds-state-3
+bounds-state-3 c = simp length-set (omega arith)
 
-slice-write-state-5 : tie.Need-slice-write-state-5
-slice-write-state-5 c = search rules
+bounds-state-4 : tie.Need-bounds-state-4
+bounds-state-4 c = search rules
 
-same_length : tie.Need-same-length
-same_length c = search rules
+shape_of-state : tie.Need-shape_of-state
+shape_of-state c = search rules
 
 returns : tie.Need-returns
 unfolding state_after
 returns c =
-    let a = c.before.before.args in
+    let a = c.args in
     let p = a.p in
     let s = a.state.now in
-    ap (λ (n : ℕ). set (set (set (set (set s 0 p.width) 1 p.height) 2 p.bits_per_pixel) 3 n) 4 p.accepted) c.number_of_lem.ensures
+    ap (λ (n : ℕ). set (set (set (set (set s 0 p.width) 1 p.height) 2 p.bits_per_pixel) 3 n) 4 p.accepted) c.number_of.ensures
     ∙ sets-eq (p.width ∷ p.height ∷ p.bits_per_pixel ∷ cond p.quant_type 1 0 ∷ p.accepted ∷ []) s 0 (omega arith)
 
 pub put_picture_spec : {M : Type 1} → statement M
 put_picture_spec =
     tie.close
     (tie.spec
-    slice-write-state
-    slice-write-state-2
-    slice-write-state-3
-    number-of-requires
-    slice-write-state-4
-    slice-write-state-5
-    same_length
+    bounds-state-0
+    bounds-state-1
+    bounds-state-2
+    number_of-requires
+    bounds-state-3
+    bounds-state-4
+    shape_of-state
     returns)

@@ -7,11 +7,11 @@ use Rattle.vaxembro.proofs.lent.rounding_of.Tie as tie
 flag-requires : tie.Need-flag-requires
 flag-requires c κs = search rules
 
-returns : tie.Need-returns
-returns c = rw (sym c.before.flag.ensures ∙ c.if1.true)
+returns-then-flag : tie.Need-returns-then-flag
+returns-then-flag c = rw (sym c.flag.ensures ∙ c.if-flag.true)
 
-returns_2 : tie.Need-returns-2
-returns_2 c = rw (sym c.before.flag.ensures ∙ c.if1.false)
+returns : tie.Need-returns
+returns c = rw (sym c.flag.ensures ∙ c.if-flag.false)
 
 pub rounding_of_spec : {M : Type 1} → statement M
-rounding_of_spec = tie.close (tie.spec flag-requires returns returns_2)
+rounding_of_spec = tie.close (tie.spec flag-requires returns-then-flag returns)

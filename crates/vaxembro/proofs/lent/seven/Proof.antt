@@ -17,58 +17,58 @@ f s at k = get_or s (at + k) (pos 0)
 abbrev z : ℕ → ℤ
 z k = pos 0
 
-abbrev invariant_loop : tie.invariant-loop
-invariant_loop lent at out₀ k₀ out k = (k ≤ 7) × (out ≡ part 7 (f lent at) z k)
+abbrev invariant-loop-k : tie.invariant-loop-k
+invariant-loop-k lent at out₀ k₀ out k = (k ≤ 7) × (out ≡ part 7 (f lent at) z k)
 
-abbrev decreases-loop : tie.decreases-loop
-decreases-loop lent at out₀ k₀ out k = 7 - k
+abbrev decreases-loop-k : tie.decreases-loop-k
+decreases-loop-k lent at out₀ k₀ out k = 7 - k
 
-loop_holds : tie.Need-loop-init invariant_loop decreases-loop
+loop-k-init : tie.Need-loop-k-init invariant-loop-k decreases-loop-k
 unfolding build
-loop_holds c = (omega arith, cells-none 7 (f c.args.lent.now c.args.at) z _ refl)
+loop-k-init c = (omega arith, cells-none 7 (f c.args.lent.now c.args.at) z _ refl)
 
-add-out : tie.Need-overflow-add-out invariant_loop decreases-loop
-add-out c = omega arith
+overflow_add-out : tie.Need-overflow_add-out invariant-loop-k decreases-loop-k
+overflow_add-out c = omega arith
 
-mul-out : tie.Need-overflow-mul-out invariant_loop decreases-loop
-mul-out c = omega arith
+offset_bounds-lent-at : tie.Need-offset_bounds-lent-at invariant-loop-k decreases-loop-k
+offset_bounds-lent-at c = omega arith
 
-shared-slice-copy-out-out : tie.Need-shared-slice-copy-out-out invariant_loop decreases-loop
-shared-slice-copy-out-out c = omega arith
+bounds-lent-at : tie.Need-bounds-lent-at invariant-loop-k decreases-loop-k
+bounds-lent-at c = omega arith
 
-mul-out-2 : tie.Need-overflow-mul-out-2 invariant_loop decreases-loop
-mul-out-2 c = omega arith
+offset_bounds-out-k : tie.Need-offset_bounds-out-k invariant-loop-k decreases-loop-k
+offset_bounds-out-k c = omega arith
 
-array-set-from-out : tie.Need-array-set-from-out invariant_loop decreases-loop
-array-set-from-out c = omega arith
+bounds-out-k : tie.Need-bounds-out-k invariant-loop-k decreases-loop-k
+bounds-out-k c = omega arith
 
-add-k : tie.Need-overflow-add-k invariant_loop decreases-loop
-add-k c = omega arith
+overflow_step-k : tie.Need-overflow_step-k invariant-loop-k decreases-loop-k
+overflow_step-k c = omega arith
 
-loop-less : tie.Need-loop-smaller invariant_loop decreases-loop
-loop-less c = omega arith
+loop-k-smaller : tie.Need-loop-k-smaller invariant-loop-k decreases-loop-k
+loop-k-smaller c = omega arith
 
-loop_again : tie.Need-loop-preserved invariant_loop decreases-loop
-loop_again c =
-    let h = c.out.given in
-    (omega arith, cells-more 7 _ _ (pos 0) _ _ _ c.before.loop-test.true c.before.before.loop.invariant.1 (search rules))
+loop-k-preserved : tie.Need-loop-k-preserved invariant-loop-k decreases-loop-k
+loop-k-preserved c =
+    let h = c.out-1.given in
+    (omega arith, cells-more 7 _ _ (pos 0) _ _ _ c.loop-k-test.true c.loop-k.invariant.1 (search rules))
 
-returns : tie.Need-returns invariant_loop decreases-loop
-returns c = let l = c.before.loop in cells_all 7 _ _ _ _ c.loop-test.false l.invariant.0 l.invariant.1
+returns : tie.Need-returns invariant-loop-k decreases-loop-k
+returns c = let l = c.loop-k in cells_all 7 _ _ _ _ c.loop-k-test.false l.invariant.0 l.invariant.1
 
 pub seven_spec : {M : Type 1} → statement M
 seven_spec =
     tie.close
     (tie.spec
-    invariant_loop
-    decreases-loop
-    loop_holds
-    add-out
-    mul-out
-    shared-slice-copy-out-out
-    mul-out-2
-    array-set-from-out
-    add-k
-    loop-less
-    loop_again
+    invariant-loop-k
+    decreases-loop-k
+    loop-k-init
+    overflow_add-out
+    offset_bounds-lent-at
+    bounds-lent-at
+    offset_bounds-out-k
+    bounds-out-k
+    overflow_step-k
+    loop-k-smaller
+    loop-k-preserved
     returns)

@@ -6,27 +6,27 @@ use Rattle.vaxembro.specs.Calls.{state_out}
 use Rattle.vaxembro.proofs.pictures.onward.Statement.{statement}
 use Rattle.vaxembro.proofs.pictures.onward.Tie as tie
 
-enum_told : tie.Need-enum-told
-enum_told c = search rules
+enum_told-1 : tie.Need-enum_told-1
+enum_told-1 c = search rules
 
-enum-known-d : tie.Need-enum-known-d
-enum-known-d c = search rules
+enum_known-d : tie.Need-enum_known-d
+enum_known-d c = search rules
 
-put-picture-requires : tie.Need-put-picture-requires
-put-picture-requires c κs = search rules
+put_picture-requires : tie.Need-put_picture-requires
+put_picture-requires c κs = search rules
 
-returns : tie.Need-returns
-returns c = search rules
+returns-in-Refused : tie.Need-returns-in-Refused
+returns-in-Refused c = search rules
 
-same_length : tie.Need-same-length
-same_length c = search rules
+shape_of-state : tie.Need-shape_of-state
+shape_of-state c = search rules
 
-returns_2 : tie.Need-returns-2
-returns_2 c =
+returns-in-Decoded : tie.Need-returns-in-Decoded
+returns-in-Decoded c =
     let p = c.before.before in
-    let d = p.before.before.before in
-    p.put-picture.ensures ∙ ap (λ (x : PictureDecoded). state_out x d.before.before.before.args.state.now) (sym d.d.given.1)
+    let d = p.before.before in
+    p.put_picture.ensures ∙ ap (λ (x : PictureDecoded). state_out x d.args.state.now) (sym d.in-Decoded.is)
 
 pub onward_spec : {M : Type 1} → statement M
 onward_spec =
-    tie.close (tie.spec enum_told enum-known-d put-picture-requires returns same_length returns_2)
+    tie.close (tie.spec enum_told-1 enum_known-d put_picture-requires returns-in-Refused shape_of-state returns-in-Decoded)

@@ -6,39 +6,39 @@ use Rattle.vaxembro.specs.Calls.{opened_number, opened_state}
 use Rattle.vaxembro.proofs.pictures.opened.Statement.{statement}
 use Rattle.vaxembro.proofs.pictures.opened.Tie as tie
 
-enum-known-o : tie.Need-enum-known-o
-enum-known-o c = search rules
+enum_known-o : tie.Need-enum_known-o
+enum_known-o c = search rules
 
 number-requires : tie.Need-number-requires
 number-requires c κs = search rules
 
-enum-known-o-2 : tie.Need-enum-known-o-2
-enum-known-o-2 c = search rules
+enum_known-o-in-Opened-1 : tie.Need-enum_known-o-in-Opened-1
+enum_known-o-in-Opened-1 c = search rules
 
-put-picture-requires : tie.Need-put-picture-requires
-put-picture-requires c κs = search rules
+put_picture-requires : tie.Need-put_picture-requires
+put_picture-requires c κs = search rules
 
-returns : tie.Need-returns
-returns c = search rules
+returns-in-Refused : tie.Need-returns-in-Refused
+returns-in-Refused c = search rules
 
-same_length : tie.Need-same-length
-same_length c = search rules
+shape_of-state : tie.Need-shape_of-state
+shape_of-state c = search rules
 
-returns_2 : tie.Need-returns-2
-returns_2 c =
+returns-in-Opened : tie.Need-returns-in-Opened
+returns-in-Opened c =
     let p = c.before.before in
-    let o = p.before.before.before in
-    let e = sym o.o2.given.1 in
-    (ap opened_number e, p.put-picture.ensures ∙ ap (λ (x : PictureOpened). opened_state x o.before.before.before.args.state.now) e)
+    let o = p.before.before in
+    let e = sym o.in-Opened.is in
+    (ap opened_number e, p.put_picture.ensures ∙ ap (λ (x : PictureOpened). opened_state x o.args.state.now) e)
 
 pub opened_spec : {M : Type 1} → statement M
 opened_spec =
     tie.close
     (tie.spec
-    enum-known-o
+    enum_known-o
     number-requires
-    enum-known-o-2
-    put-picture-requires
-    returns
-    same_length
-    returns_2)
+    enum_known-o-in-Opened-1
+    put_picture-requires
+    returns-in-Refused
+    shape_of-state
+    returns-in-Opened)

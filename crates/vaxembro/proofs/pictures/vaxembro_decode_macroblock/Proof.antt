@@ -25,29 +25,29 @@ given_is d at s e f g = λ i. given d at (e i) (f i) (g i) s
 left_is : {n n' : ℕ} {s s' : List ℕ} {xs xs' st st' : List ℤ} {a a' : List ℕ} → n ≡ n' → s ≡ s' → xs ≡ xs' → st ≡ st' → a ≡ a' → left n s xs st a ≡ left n' s' xs' st' a'
 left_is e f g h k = λ i. left (e i) (f i) (g i) (h i) (k i)
 
-long-enough-requires : tie.Need-long-enough-requires
-long-enough-requires c κs = search rules
+long_enough-requires : tie.Need-long_enough-requires
+long_enough-requires c κs = search rules
 
-refused-requires : tie.Need-refused-requires
-refused-requires c κs = search rules
+refused-short-requires : tie.Need-refused-short-requires
+refused-short-requires c κs = search rules
 
 tell-requires : tie.Need-tell-requires
 tell-requires c κs = search rules
 
-same_length : tie.Need-same-length
-same_length c = search rules
+shape_of-answer-then-not-long_enough : tie.Need-shape_of-answer-then-not-long_enough
+shape_of-answer-then-not-long_enough c = search rules
 
-returns : tie.Need-returns
+returns-then-not-long_enough : tie.Need-returns-then-not-long_enough
 unfolding left_in
-returns c =
+returns-then-not-long_enough c =
     let l = c.before.before in
     let r = l.before.before in
     let t = r.before in
     let g = t.before in
-    let a = g.before.before.before.before.before.args in
-    let e = flag_refuses g.long-enough.ensures t.if1.true in
+    let a = g.args in
+    let e = flag_refuses g.long_enough.ensures t.if-not-long_enough.true in
     let decoded = short_is _ e in
-    let told = r.refused.ensures ∙ ap (λ (y : PictureDecoded). told_of y a.at) decoded in
+    let told = r.refused-short.ensures ∙ ap (λ (y : PictureDecoded). told_of y a.at) decoded in
     left_is
     (l.tell.ensures.0 ∙ ap (λ (y : Told). y.number) told)
     (ap (λ (y : PictureDecoded). state_out y a.state.now) decoded)
@@ -55,47 +55,47 @@ returns c =
     (short_is _ e)
     (l.tell.ensures.1 ∙ ap (λ (y : Told). answer_after y a.answer.now) told)
 
-picture-of-requires : tie.Need-picture-of-requires
-picture-of-requires c κs = let g = c.before in first_long 5 _ _ _ (flag_passes g.before.long-enough.ensures g.if1.false)
+picture_of-p-requires : tie.Need-picture_of-p-requires
+picture_of-p-requires c κs = let g = c.before in first_long 5 _ _ _ (flag_passes g.long_enough.ensures g.if1.false)
 
-header-of-requires : tie.Need-header-of-requires
-header-of-requires c κs = search rules
+header_of-header-requires : tie.Need-header_of-header-requires
+header_of-header-requires c κs = search rules
 
-context-of-requires : tie.Need-context-of-requires
-context-of-requires c κs = search rules
+context_of-m-requires : tie.Need-context_of-m-requires
+context_of-m-requires c κs = search rules
 
-matrix-of-requires : tie.Need-matrix-of-requires
-matrix-of-requires c κs = let g = c.before.before.before.before in matrix-long 5 _ _ _ (flag_passes g.before.long-enough.ensures g.if1.false)
+matrix_of-w-requires : tie.Need-matrix_of-w-requires
+matrix_of-w-requires c κs = let g = c.before.before.before.before in matrix-long 5 _ _ _ (flag_passes g.long_enough.ensures g.if1.false)
 
-decode-macroblock-requires : tie.Need-decode-macroblock-requires
-decode-macroblock-requires c κs = search rules
+decode_macroblock-d-requires : tie.Need-decode_macroblock-d-requires
+decode_macroblock-d-requires c κs = search rules
 
 onward-requires : tie.Need-onward-requires
 onward-requires c κs =
     let g = c.before.before.before.before.before.before.before.before.before.before.before in
-    first_long 5 _ _ _ (flag_passes g.before.long-enough.ensures g.if1.false)
+    first_long 5 _ _ _ (flag_passes g.long_enough.ensures g.if1.false)
 
-told-in-picture-requires : tie.Need-told-in-picture-requires
-told-in-picture-requires c κs = search rules
+told_in_picture-t-requires : tie.Need-told_in_picture-t-requires
+told_in_picture-t-requires c κs = search rules
 
 tell-requires-2 : tie.Need-tell-requires-2
 tell-requires-2 c κs = search rules
 
-same-length-2 : tie.Need-same-length-2
-same-length-2 c = search rules
+shape_of-state : tie.Need-shape_of-state
+shape_of-state c = search rules
 
-same-length-3 : tie.Need-same-length-3
-same-length-3 c = search rules
+shape_of-samples : tie.Need-shape_of-samples
+shape_of-samples c = search rules
 
-same-length-4 : tie.Need-same-length-4
-same-length-4 c = search rules
+shape_of-store : tie.Need-shape_of-store
+shape_of-store c = search rules
 
-same-length-5 : tie.Need-same-length-5
-same-length-5 c = search rules
+shape_of-answer : tie.Need-shape_of-answer
+shape_of-answer c = search rules
 
-returns_2 : tie.Need-returns-2
+returns : tie.Need-returns
 unfolding left_in
-returns_2 c =
+returns c =
     let l = c.before.before in
     let t = l.before.before in
     let o = t.before.before.before in
@@ -108,38 +108,38 @@ returns_2 c =
     let k = g.before in
     let a = k.before.before.before.before.before.args in
     let store = a.store.now in
-    let x = given_is a.«data».now a.at a.samples.now h.header_of.ensures m.context-of.ensures w.matrix-of.ensures in
-    let q = p.picture-of.ensures in
-    let e = flag_passes k.long-enough.ensures g.if1.false in
-    let r = d.decode-macroblock.ensures in
+    let x = given_is a.«data».now a.at a.samples.now h.header_of-header.ensures m.context_of-m.ensures w.matrix_of-w.ensures in
+    let q = p.picture_of-p.ensures in
+    let e = flag_passes k.long_enough.ensures g.if1.false in
+    let r = d.decode_macroblock-d.ensures in
     let decoded = long-is _ e (r.answer ∙ ap₂ (λ (u : Picture) (y : Input). answer_out u y store) q x) in
-    let told = t.told-in-picture.ensures ∙ ap (λ (y : PictureDecoded). told_of y a.at) decoded in
+    let told = t.told_in_picture-t.ensures ∙ ap (λ (y : PictureDecoded). told_of y a.at) decoded in
     left_is
-    (l.tell2.ensures.0 ∙ ap (λ (y : Told). y.number) told)
+    (l.tell-2.ensures.0 ∙ ap (λ (y : Told). y.number) told)
     (o.onward.ensures ∙ ap (λ (y : PictureDecoded). state_out y a.state.now) decoded)
     (long-is _ e (r.samples ∙ ap₂ (λ (u : Picture) (y : Input). samples_out u y store) q x))
     (long-is _ e (r.store ∙ ap₂ (λ (u : Picture) (y : Input). store_out u y store) q x))
-    (l.tell2.ensures.1 ∙ ap (λ (y : Told). answer_after y a.answer.now) told)
+    (l.tell-2.ensures.1 ∙ ap (λ (y : Told). answer_after y a.answer.now) told)
 
 pub vaxembro_decode_macroblock_spec : {M : Type 1} → statement M
 vaxembro_decode_macroblock_spec =
     tie.close
     (tie.spec
-    long-enough-requires
-    refused-requires
+    long_enough-requires
+    refused-short-requires
     tell-requires
-    same_length
-    returns
-    picture-of-requires
-    header-of-requires
-    context-of-requires
-    matrix-of-requires
-    decode-macroblock-requires
+    shape_of-answer-then-not-long_enough
+    returns-then-not-long_enough
+    picture_of-p-requires
+    header_of-header-requires
+    context_of-m-requires
+    matrix_of-w-requires
+    decode_macroblock-d-requires
     onward-requires
-    told-in-picture-requires
+    told_in_picture-t-requires
     tell-requires-2
-    same-length-2
-    same-length-3
-    same-length-4
-    same-length-5
-    returns_2)
+    shape_of-state
+    shape_of-samples
+    shape_of-store
+    shape_of-answer
+    returns)

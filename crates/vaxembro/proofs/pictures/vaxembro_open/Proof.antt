@@ -8,30 +8,30 @@ use Rattle.vaxembro.proofs.RoomLaws.{long-is, short_is}
 use Rattle.vaxembro.proofs.pictures.vaxembro_open.Statement.{statement}
 use Rattle.vaxembro.proofs.pictures.vaxembro_open.Tie as tie
 
-returns : tie.Need-returns
+returns-then-state-lt5 : tie.Need-returns-then-state-lt5
 unfolding state_long
-returns c = let e = lt-leb 5 _ c.if1.true in (short_is _ e, short_is _ e)
+returns-then-state-lt5 c = let e = lt-leb 5 _ c.if-state-lt5.true in (short_is _ e, short_is _ e)
 
-open-requires : tie.Need-open-requires
-open-requires c κs = search rules
+open-o-requires : tie.Need-open-o-requires
+open-o-requires c κs = search rules
 
 opened-requires : tie.Need-opened-requires
 opened-requires c κs = search rules
 
-same_length : tie.Need-same-length
-same_length c = search rules
+shape_of-state : tie.Need-shape_of-state
+shape_of-state c = search rules
 
-returns_2 : tie.Need-returns-2
+returns : tie.Need-returns
 unfolding state_long
-returns_2 c =
+returns c =
     let d = c.before.before in
     let o = d.before.before in
-    let e = le-leb 5 _ o.before.if1.false in
-    let s = o.before.before.before.args.state.now in
+    let e = le-leb 5 _ o.if-state-lt5.false in
+    let s = o.args.state.now in
     let r = d.opened.ensures in
-    let p = o.open.ensures.0 in
+    let p = o.open-o.ensures.0 in
     (long-is _ e (r.0 ∙ ap opened_number p), long-is _ e (r.1 ∙ ap (λ (x : PictureOpened). opened_state x s) p))
 
 pub vaxembro_open_spec : {M : Type 1} → statement M
 vaxembro_open_spec =
-    tie.close (tie.spec returns open-requires opened-requires same_length returns_2)
+    tie.close (tie.spec returns-then-state-lt5 open-o-requires opened-requires shape_of-state returns)

@@ -29,101 +29,101 @@ all_is f b c d e g = λ i. f (b i) (c i) (d i) (e i) (g i)
 left_is : {n n' : ℕ} {xs xs' h h' : List ℤ} {a a' : List ℕ} → n ≡ n' → xs ≡ xs' → h ≡ h' → a ≡ a' → whole_left n xs h a ≡ whole_left n' xs' h' a'
 left_is e f g k = λ i. whole_left (e i) (f i) (g i) (k i)
 
-long-enough-requires : tie.Need-long-enough-requires
-long-enough-requires c κs = search rules
+long_enough-requires : tie.Need-long_enough-requires
+long_enough-requires c κs = search rules
 
-refused-requires : tie.Need-refused-requires
-refused-requires c κs = search rules
+refused-short-requires : tie.Need-refused-short-requires
+refused-short-requires c κs = search rules
 
 tell-requires : tie.Need-tell-requires
 tell-requires c κs = search rules
 
-same_length : tie.Need-same-length
-same_length c = search rules
+shape_of-answer-then-not-long_enough : tie.Need-shape_of-answer-then-not-long_enough
+shape_of-answer-then-not-long_enough c = search rules
 
-returns : tie.Need-returns
+returns-then-not-long_enough : tie.Need-returns-then-not-long_enough
 unfolding left_whole
-returns c =
+returns-then-not-long_enough c =
     let l = c.before.before in
     let r = l.before.before in
     let t = r.before in
     let g = t.before in
-    let a = g.before.before.before.before.args in
-    let e = rest_short (length a.header.now) (flag_refuses g.long-enough.ensures t.if1.true) in
+    let a = g.args in
+    let e = rest_short (length a.header.now) (flag_refuses g.long_enough.ensures t.if-not-long_enough.true) in
     let decoded = short_is _ e in
-    let told = r.refused.ensures ∙ ap (λ (y : WholeDecoded). told_whole y a.at) decoded in
+    let told = r.refused-short.ensures ∙ ap (λ (y : WholeDecoded). told_whole y a.at) decoded in
     left_is
     (l.tell.ensures.0 ∙ ap (λ (y : Told). y.number) told)
     (short_is _ e)
     (ap (λ (y : WholeDecoded). whole_header_out y a.header.now) decoded)
     (l.tell.ensures.1 ∙ ap (λ (y : Told). answer_after y a.answer.now) told)
 
-refused-requires-2 : tie.Need-refused-requires-2
-refused-requires-2 c κs = search rules
+refused-short-requires-then-header-lt-HEADER : tie.Need-refused-short-requires-then-header-lt-HEADER
+refused-short-requires-then-header-lt-HEADER c κs = search rules
 
-tell-requires-2 : tie.Need-tell-requires-2
-tell-requires-2 c κs = search rules
+tell-requires-then-header-lt-HEADER : tie.Need-tell-requires-then-header-lt-HEADER
+tell-requires-then-header-lt-HEADER c κs = search rules
 
-same-length-2 : tie.Need-same-length-2
-same-length-2 c = search rules
+shape_of-answer-then-header-lt-HEADER : tie.Need-shape_of-answer-then-header-lt-HEADER
+shape_of-answer-then-header-lt-HEADER c = search rules
 
-returns_2 : tie.Need-returns-2
+returns-then-header-lt-HEADER : tie.Need-returns-then-header-lt-HEADER
 unfolding left_whole
-returns_2 c =
+returns-then-header-lt-HEADER c =
     let l = c.before.before in
     let r = l.before.before in
     let t = r.before in
     let g = t.before in
     let k = g.before in
-    let a = k.before.before.before.before.args in
-    let e = header_short (length a.header.now) (flag_passes k.long-enough.ensures g.if1.false) t.if2.true in
+    let a = k.args in
+    let e = header_short (length a.header.now) (flag_passes k.long_enough.ensures g.if-not-long_enough.false) t.if-header-lt-HEADER.true in
     let decoded = short_is _ e in
-    let told = r.refused2.ensures ∙ ap (λ (y : WholeDecoded). told_whole y a.at) decoded in
+    let told = r.refused-short-then-header-lt-HEADER.ensures ∙ ap (λ (y : WholeDecoded). told_whole y a.at) decoded in
     left_is
-    (l.tell2.ensures.0 ∙ ap (λ (y : Told). y.number) told)
+    (l.tell-then-header-lt-HEADER.ensures.0 ∙ ap (λ (y : Told). y.number) told)
     (short_is _ e)
     (ap (λ (y : WholeDecoded). whole_header_out y a.header.now) decoded)
-    (l.tell2.ensures.1 ∙ ap (λ (y : Told). answer_after y a.answer.now) told)
+    (l.tell-then-header-lt-HEADER.ensures.1 ∙ ap (λ (y : Told). answer_after y a.answer.now) told)
 
-use-intra-dc-vlc-requires : tie.Need-use-intra-dc-vlc-requires
-use-intra-dc-vlc-requires c κs = search rules
+use_intra_dc_vlc-dc_coded-requires : tie.Need-use_intra_dc_vlc-dc_coded-requires
+use_intra_dc_vlc-dc_coded-requires c κs = search rules
 
-reversible-vlc-requires : tie.Need-reversible-vlc-requires
-reversible-vlc-requires c κs = search rules
+reversible_vlc-rev-requires : tie.Need-reversible_vlc-rev-requires
+reversible_vlc-rev-requires c κs = search rules
 
-texture-context-of-requires : tie.Need-texture-context-of-requires
-texture-context-of-requires c κs = search rules
+texture_context_of-ctx-requires : tie.Need-texture_context_of-ctx-requires
+texture_context_of-ctx-requires c κs = search rules
 
-neighbours-of-requires : tie.Need-neighbours-of-requires
-neighbours-of-requires c κs = let g = c.before.before.before.before in first_long 21 _ _ _ (flag_passes g.before.long-enough.ensures g.if1.false)
+neighbours_of-near-requires : tie.Need-neighbours_of-near-requires
+neighbours_of-near-requires c κs = let g = c.before.before.before.before in first_long 21 _ _ _ (flag_passes g.long_enough.ensures g.if-not-long_enough.false)
 
-matrix-of-requires : tie.Need-matrix-of-requires
-matrix-of-requires c κs = let g = c.before.before.before.before.before in matrix-long 21 _ _ _ (flag_passes g.before.long-enough.ensures g.if1.false)
+matrix_of-w-requires : tie.Need-matrix_of-w-requires
+matrix_of-w-requires c κs = let g = c.before.before.before.before.before in matrix-long 21 _ _ _ (flag_passes g.long_enough.ensures g.if-not-long_enough.false)
 
-decode-intra-macroblock-with-header-requires : tie.Need-decode-intra-macroblock-with-header-requires
-decode-intra-macroblock-with-header-requires c κs = search rules
+decode_intra_macroblock_with_header-d-requires : tie.Need-decode_intra_macroblock_with_header-d-requires
+decode_intra_macroblock_with_header-d-requires c κs = search rules
 
-put-whole-requires : tie.Need-put-whole-requires
-put-whole-requires c κs = search rules
+put_whole-requires : tie.Need-put_whole-requires
+put_whole-requires c κs = search rules
 
-told-whole-requires : tie.Need-told-whole-requires
-told-whole-requires c κs = search rules
+told_whole-t-requires : tie.Need-told_whole-t-requires
+told_whole-t-requires c κs = search rules
 
-tell-requires-3 : tie.Need-tell-requires-3
-tell-requires-3 c κs = search rules
+tell-requires-2 : tie.Need-tell-requires-2
+tell-requires-2 c κs = search rules
 
-same-length-3 : tie.Need-same-length-3
-same-length-3 c = search rules
+shape_of-samples : tie.Need-shape_of-samples
+shape_of-samples c = search rules
 
-same-length-4 : tie.Need-same-length-4
-same-length-4 c = search rules
+shape_of-header : tie.Need-shape_of-header
+shape_of-header c = search rules
 
-same-length-5 : tie.Need-same-length-5
-same-length-5 c = search rules
+shape_of-answer : tie.Need-shape_of-answer
+shape_of-answer c = search rules
 
-returns_3 : tie.Need-returns-3
+returns : tie.Need-returns
 unfolding left_whole
-returns_3 c =
+returns c =
     let l = c.before.before in
     let t = l.before.before in
     let p = t.before.before in
@@ -136,42 +136,42 @@ returns_3 c =
     let f = u.before in
     let g = f.before in
     let k = g.before in
-    let a = k.before.before.before.before.args in
+    let a = k.args in
     let bytes = a.«data».now in
     let samples = a.samples.now in
-    let e = true_both (flag_passes k.long-enough.ensures g.if1.false) (le-leb header_length (length a.header.now) f.if2.false) in
-    let r = d.decode-intra-macroblock-with-header.ensures in
-    let decoded = long-is _ e (r.answer ∙ all_is (λ (o p : Bool) (y : MacroblockTextureContext) (z : BlockPredictors) (m : List (List ℕ)). whole_answer bytes a.at o p y z m samples) u.use-intra-dc-vlc.ensures v.reversible-vlc.ensures x.texture-context-of.ensures n.neighbours-of.ensures w.matrix-of.ensures) in
-    let told = t.told-whole.ensures ∙ ap (λ (y : WholeDecoded). told_whole y a.at) decoded in
+    let e = true_both (flag_passes k.long_enough.ensures g.if-not-long_enough.false) (le-leb header_length (length a.header.now) f.if-header-lt-HEADER.false) in
+    let r = d.decode_intra_macroblock_with_header-d.ensures in
+    let decoded = long-is _ e (r.answer ∙ all_is (λ (o p : Bool) (y : MacroblockTextureContext) (z : BlockPredictors) (m : List (List ℕ)). whole_answer bytes a.at o p y z m samples) u.use_intra_dc_vlc-dc_coded.ensures v.reversible_vlc-rev.ensures x.texture_context_of-ctx.ensures n.neighbours_of-near.ensures w.matrix_of-w.ensures) in
+    let told = t.told_whole-t.ensures ∙ ap (λ (y : WholeDecoded). told_whole y a.at) decoded in
     left_is
-    (l.tell3.ensures.0 ∙ ap (λ (y : Told). y.number) told)
-    (long-is _ e (r.samples ∙ all_is (λ (o p : Bool) (y : MacroblockTextureContext) (z : BlockPredictors) (m : List (List ℕ)). samples_out bytes a.at o p y z m samples) u.use-intra-dc-vlc.ensures v.reversible-vlc.ensures x.texture-context-of.ensures n.neighbours-of.ensures w.matrix-of.ensures))
+    (l.tell-2.ensures.0 ∙ ap (λ (y : Told). y.number) told)
+    (long-is _ e (r.samples ∙ all_is (λ (o p : Bool) (y : MacroblockTextureContext) (z : BlockPredictors) (m : List (List ℕ)). samples_out bytes a.at o p y z m samples) u.use_intra_dc_vlc-dc_coded.ensures v.reversible_vlc-rev.ensures x.texture_context_of-ctx.ensures n.neighbours_of-near.ensures w.matrix_of-w.ensures))
     (p.put_whole.ensures ∙ ap (λ (y : WholeDecoded). whole_header_out y a.header.now) decoded)
-    (l.tell3.ensures.1 ∙ ap (λ (y : Told). answer_after y a.answer.now) told)
+    (l.tell-2.ensures.1 ∙ ap (λ (y : Told). answer_after y a.answer.now) told)
 
 pub vaxembro_decode_intra_macroblock_with_header_spec : {M : Type 1} → statement M
 vaxembro_decode_intra_macroblock_with_header_spec =
     tie.close
     (tie.spec
-    long-enough-requires
-    refused-requires
+    long_enough-requires
+    refused-short-requires
     tell-requires
-    same_length
-    returns
-    refused-requires-2
+    shape_of-answer-then-not-long_enough
+    returns-then-not-long_enough
+    refused-short-requires-then-header-lt-HEADER
+    tell-requires-then-header-lt-HEADER
+    shape_of-answer-then-header-lt-HEADER
+    returns-then-header-lt-HEADER
+    use_intra_dc_vlc-dc_coded-requires
+    reversible_vlc-rev-requires
+    texture_context_of-ctx-requires
+    neighbours_of-near-requires
+    matrix_of-w-requires
+    decode_intra_macroblock_with_header-d-requires
+    put_whole-requires
+    told_whole-t-requires
     tell-requires-2
-    same-length-2
-    returns_2
-    use-intra-dc-vlc-requires
-    reversible-vlc-requires
-    texture-context-of-requires
-    neighbours-of-requires
-    matrix-of-requires
-    decode-intra-macroblock-with-header-requires
-    put-whole-requires
-    told-whole-requires
-    tell-requires-3
-    same-length-3
-    same-length-4
-    same-length-5
-    returns_3)
+    shape_of-samples
+    shape_of-header
+    shape_of-answer
+    returns)

@@ -26,29 +26,29 @@ bare-is d at s f g = λ i. bare d at (f i) (g i) s
 left_is : {n n' : ℕ} {s s' : List ℕ} {xs xs' st st' h h' : List ℤ} {a a' : List ℕ} → n ≡ n' → s ≡ s' → xs ≡ xs' → st ≡ st' → h ≡ h' → a ≡ a' → whole_in n s xs st h a ≡ whole_in n' s' xs' st' h' a'
 left_is e f g h k l = λ i. whole_in (e i) (f i) (g i) (h i) (k i) (l i)
 
-long-enough-requires : tie.Need-long-enough-requires
-long-enough-requires c κs = search rules
+long_enough-requires : tie.Need-long_enough-requires
+long_enough-requires c κs = search rules
 
-refused-requires : tie.Need-refused-requires
-refused-requires c κs = search rules
+refused-short-requires : tie.Need-refused-short-requires
+refused-short-requires c κs = search rules
 
 tell-requires : tie.Need-tell-requires
 tell-requires c κs = search rules
 
-same_length : tie.Need-same-length
-same_length c = search rules
+shape_of-answer-then-not-long_enough : tie.Need-shape_of-answer-then-not-long_enough
+shape_of-answer-then-not-long_enough c = search rules
 
-returns : tie.Need-returns
+returns-then-not-long_enough : tie.Need-returns-then-not-long_enough
 unfolding left_whole_in
-returns c =
+returns-then-not-long_enough c =
     let l = c.before.before in
     let r = l.before.before in
     let t = r.before in
     let g = t.before in
-    let a = g.before.before.before.before.before.args in
-    let e = rest_short (length a.header.now) (flag_refuses g.long-enough.ensures t.if1.true) in
+    let a = g.args in
+    let e = rest_short (length a.header.now) (flag_refuses g.long_enough.ensures t.if-not-long_enough.true) in
     let decoded = short_is _ e in
-    let told = r.refused.ensures ∙ ap (λ (y : PictureWholeDecoded). told_whole_in y a.at) decoded in
+    let told = r.refused-short.ensures ∙ ap (λ (y : PictureWholeDecoded). told_whole_in y a.at) decoded in
     left_is
     (l.tell.ensures.0 ∙ ap (λ (y : Told). y.number) told)
     (ap (λ (y : PictureWholeDecoded). whole_state_out y a.state.now) decoded)
@@ -57,79 +57,79 @@ returns c =
     (ap (λ (y : PictureWholeDecoded). whole_header_out_in y a.header.now) decoded)
     (l.tell.ensures.1 ∙ ap (λ (y : Told). answer_after y a.answer.now) told)
 
-refused-requires-2 : tie.Need-refused-requires-2
-refused-requires-2 c κs = search rules
+refused-short-requires-then-header-lt-HEADER : tie.Need-refused-short-requires-then-header-lt-HEADER
+refused-short-requires-then-header-lt-HEADER c κs = search rules
 
-tell-requires-2 : tie.Need-tell-requires-2
-tell-requires-2 c κs = search rules
+tell-requires-then-header-lt-HEADER : tie.Need-tell-requires-then-header-lt-HEADER
+tell-requires-then-header-lt-HEADER c κs = search rules
 
-same-length-2 : tie.Need-same-length-2
-same-length-2 c = search rules
+shape_of-answer-then-header-lt-HEADER : tie.Need-shape_of-answer-then-header-lt-HEADER
+shape_of-answer-then-header-lt-HEADER c = search rules
 
-returns_2 : tie.Need-returns-2
+returns-then-header-lt-HEADER : tie.Need-returns-then-header-lt-HEADER
 unfolding left_whole_in
-returns_2 c =
+returns-then-header-lt-HEADER c =
     let l = c.before.before in
     let r = l.before.before in
     let t = r.before in
     let g = t.before in
     let k = g.before in
-    let a = k.before.before.before.before.before.args in
-    let e = header_short (length a.header.now) (flag_passes k.long-enough.ensures g.if1.false) t.if2.true in
+    let a = k.args in
+    let e = header_short (length a.header.now) (flag_passes k.long_enough.ensures g.if-not-long_enough.false) t.if-header-lt-HEADER.true in
     let decoded = short_is _ e in
-    let told = r.refused2.ensures ∙ ap (λ (y : PictureWholeDecoded). told_whole_in y a.at) decoded in
+    let told = r.refused-short-then-header-lt-HEADER.ensures ∙ ap (λ (y : PictureWholeDecoded). told_whole_in y a.at) decoded in
     left_is
-    (l.tell2.ensures.0 ∙ ap (λ (y : Told). y.number) told)
+    (l.tell-then-header-lt-HEADER.ensures.0 ∙ ap (λ (y : Told). y.number) told)
     (ap (λ (y : PictureWholeDecoded). whole_state_out y a.state.now) decoded)
     (short_is _ e)
     (short_is _ e)
     (ap (λ (y : PictureWholeDecoded). whole_header_out_in y a.header.now) decoded)
-    (l.tell2.ensures.1 ∙ ap (λ (y : Told). answer_after y a.answer.now) told)
+    (l.tell-then-header-lt-HEADER.ensures.1 ∙ ap (λ (y : Told). answer_after y a.answer.now) told)
 
-picture-of-requires : tie.Need-picture-of-requires
-picture-of-requires c κs = let g = c.before.before in first_long 5 _ _ _ (flag_passes g.before.long-enough.ensures g.if1.false)
+picture_of-p-requires : tie.Need-picture_of-p-requires
+picture_of-p-requires c κs = let g = c.before.before in first_long 5 _ _ _ (flag_passes g.long_enough.ensures g.if1.false)
 
-context-of-requires : tie.Need-context-of-requires
-context-of-requires c κs = search rules
+context_of-m-requires : tie.Need-context_of-m-requires
+context_of-m-requires c κs = search rules
 
-matrix-of-requires : tie.Need-matrix-of-requires
-matrix-of-requires c κs = let g = c.before.before.before.before in matrix-long 5 _ _ _ (flag_passes g.before.long-enough.ensures g.if1.false)
+matrix_of-w-requires : tie.Need-matrix_of-w-requires
+matrix_of-w-requires c κs = let g = c.before.before.before.before in matrix-long 5 _ _ _ (flag_passes g.long_enough.ensures g.if1.false)
 
-decode-macroblock-with-header-requires : tie.Need-decode-macroblock-with-header-requires
-decode-macroblock-with-header-requires c κs = search rules
+decode_macroblock_with_header-d-requires : tie.Need-decode_macroblock_with_header-d-requires
+decode_macroblock_with_header-d-requires c κs = search rules
 
 onward-requires : tie.Need-onward-requires
 onward-requires c κs =
     let g = c.before.before.before.before.before.before.before.before.before.before.before in
-    first_long 5 _ _ _ (flag_passes g.before.long-enough.ensures g.if1.false)
+    first_long 5 _ _ _ (flag_passes g.long_enough.ensures g.if1.false)
 
-put-whole-in-requires : tie.Need-put-whole-in-requires
-put-whole-in-requires c κs = search rules
+put_whole_in-requires : tie.Need-put_whole_in-requires
+put_whole_in-requires c κs = search rules
 
-told-whole-in-requires : tie.Need-told-whole-in-requires
-told-whole-in-requires c κs = search rules
+told_whole_in-t-requires : tie.Need-told_whole_in-t-requires
+told_whole_in-t-requires c κs = search rules
 
-tell-requires-3 : tie.Need-tell-requires-3
-tell-requires-3 c κs = search rules
+tell-requires-2 : tie.Need-tell-requires-2
+tell-requires-2 c κs = search rules
 
-same-length-3 : tie.Need-same-length-3
-same-length-3 c = search rules
+shape_of-state : tie.Need-shape_of-state
+shape_of-state c = search rules
 
-same-length-4 : tie.Need-same-length-4
-same-length-4 c = search rules
+shape_of-samples : tie.Need-shape_of-samples
+shape_of-samples c = search rules
 
-same-length-5 : tie.Need-same-length-5
-same-length-5 c = search rules
+shape_of-store : tie.Need-shape_of-store
+shape_of-store c = search rules
 
-same-length-6 : tie.Need-same-length-6
-same-length-6 c = search rules
+shape_of-header : tie.Need-shape_of-header
+shape_of-header c = search rules
 
-same-length-7 : tie.Need-same-length-7
-same-length-7 c = search rules
+shape_of-answer : tie.Need-shape_of-answer
+shape_of-answer c = search rules
 
-returns_3 : tie.Need-returns-3
+returns : tie.Need-returns
 unfolding left_whole_in
-returns_3 c =
+returns c =
     let l = c.before.before in
     let t = l.before.before in
     let h = t.before.before in
@@ -143,44 +143,44 @@ returns_3 c =
     let k = g.before in
     let a = k.before.before.before.before.before.args in
     let store = a.store.now in
-    let x = bare-is a.«data».now a.at a.samples.now m.context-of.ensures w.matrix-of.ensures in
-    let q = p.picture-of.ensures in
-    let e = true_both (flag_passes k.long-enough.ensures g.if1.false) (le-leb header_length (length a.header.now) f.if2.false) in
-    let r = d.decode-macroblock-with-header.ensures in
+    let x = bare-is a.«data».now a.at a.samples.now m.context_of-m.ensures w.matrix_of-w.ensures in
+    let q = p.picture_of-p.ensures in
+    let e = true_both (flag_passes k.long_enough.ensures g.if1.false) (le-leb header_length (length a.header.now) f.if2.false) in
+    let r = d.decode_macroblock_with_header-d.ensures in
     let decoded = long-is _ e (r.answer ∙ ap₂ (λ (u : Picture) (y : Bare). answer_out u y store) q x) in
-    let told = t.told-whole-in.ensures ∙ ap (λ (y : PictureWholeDecoded). told_whole_in y a.at) decoded in
+    let told = t.told_whole_in-t.ensures ∙ ap (λ (y : PictureWholeDecoded). told_whole_in y a.at) decoded in
     left_is
-    (l.tell3.ensures.0 ∙ ap (λ (y : Told). y.number) told)
+    (l.tell-2.ensures.0 ∙ ap (λ (y : Told). y.number) told)
     (o.onward.ensures ∙ ap (λ (y : PictureWholeDecoded). whole_state_out y a.state.now) decoded)
     (long-is _ e (r.samples ∙ ap₂ (λ (u : Picture) (y : Bare). samples_out u y store) q x))
     (long-is _ e (r.store ∙ ap₂ (λ (u : Picture) (y : Bare). store_out u y store) q x))
-    (h.put-whole-in.ensures ∙ ap (λ (y : PictureWholeDecoded). whole_header_out_in y a.header.now) decoded)
-    (l.tell3.ensures.1 ∙ ap (λ (y : Told). answer_after y a.answer.now) told)
+    (h.put_whole_in.ensures ∙ ap (λ (y : PictureWholeDecoded). whole_header_out_in y a.header.now) decoded)
+    (l.tell-2.ensures.1 ∙ ap (λ (y : Told). answer_after y a.answer.now) told)
 
 pub vaxembro_decode_macroblock_with_header_spec : {M : Type 1} → statement M
 vaxembro_decode_macroblock_with_header_spec =
     tie.close
     (tie.spec
-    long-enough-requires
-    refused-requires
+    long_enough-requires
+    refused-short-requires
     tell-requires
-    same_length
-    returns
-    refused-requires-2
-    tell-requires-2
-    same-length-2
-    returns_2
-    picture-of-requires
-    context-of-requires
-    matrix-of-requires
-    decode-macroblock-with-header-requires
+    shape_of-answer-then-not-long_enough
+    returns-then-not-long_enough
+    refused-short-requires-then-header-lt-HEADER
+    tell-requires-then-header-lt-HEADER
+    shape_of-answer-then-header-lt-HEADER
+    returns-then-header-lt-HEADER
+    picture_of-p-requires
+    context_of-m-requires
+    matrix_of-w-requires
+    decode_macroblock_with_header-d-requires
     onward-requires
-    put-whole-in-requires
-    told-whole-in-requires
-    tell-requires-3
-    same-length-3
-    same-length-4
-    same-length-5
-    same-length-6
-    same-length-7
-    returns_3)
+    put_whole_in-requires
+    told_whole_in-t-requires
+    tell-requires-2
+    shape_of-state
+    shape_of-samples
+    shape_of-store
+    shape_of-header
+    shape_of-answer
+    returns)

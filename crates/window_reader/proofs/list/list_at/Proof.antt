@@ -11,188 +11,188 @@ use Rattle.window_reader.specs.declared.list.ListAt.{ListAt}
 use Rattle.window_reader.proofs.list.list_at.Statement.{statement}
 use Rattle.window_reader.proofs.list.list_at.Tie as tie
 
-abbrev invariant_loop : tie.invariant-loop
-invariant_loop «data» short long start places₀ at₀ place₀ spelled₀ places at place spelled = Stands «data» start at place spelled places
+abbrev invariant-loop-e : tie.invariant-loop-e
+invariant-loop-e «data» short long start places₀ at₀ place₀ spelled₀ places at place spelled = Stands «data» start at place spelled places
 
-abbrev decreases-loop : tie.decreases-loop
-decreases-loop «data» short long start places₀ at₀ place₀ spelled₀ places at place spelled = 8 * length «data» - at
+abbrev decreases-loop-e : tie.decreases-loop-e
+decreases-loop-e «data» short long start places₀ at₀ place₀ spelled₀ places at place spelled = 8 * length «data» - at
 
 -- the turn at an event that was told
-here : (k : tie.Else1 invariant_loop decreases-loop) → let l = k.before.before.before.before in
-    Turn l.before.before.before.before.args.«data».now l.loop.at k.before.before.event-at.result
+here : (k : tie.Else-e-eq0 invariant-loop-e decreases-loop-e) → let l = k.before.before.before.before in
+    Turn l.args.«data».now l.loop-e.at k.event_at-e.result
 here k =
     let l = k.before.before.before.before in
-    turn l.before.before.before.before.args.«data».now l.loop.at k.before.before.event-at.result (k.before.before.event-at.ensures k.if1.false)
+    turn l.args.«data».now l.loop-e.at k.event_at-e.result (k.event_at-e.ensures k.if-e-eq0.false)
 
 -- where the list stands after it
-on : (c : tie.Else3 invariant_loop decreases-loop) → let p = c.before.before.before in let k = p.before.before in
+on : (c : tie.Else-e invariant-loop-e decreases-loop-e) → let p = c.before.before.before in let k = p.before.before in
     let l = k.before.before.before.before in
-    let a = l.before.before.before.before.args in
-    let e = k.before.before.event-at.result in
-    Stands a.«data».now a.start e.next p.put-at.result (l.loop.spelled + e.spelled) p.put-at.new.1.1.0
+    let a = l.args in
+    let e = k.event_at-e.result in
+    Stands a.«data».now a.start e.next p.put_at-after.result (l.loop-e.spelled + e.spelled) p.put_at-after.new.1.1.0
 on c =
     let p = c.before.before.before in
     let k = p.before.before in
     let l = k.before.before.before.before in
-    let a = l.before.before.before.before.args in
-    put_on a.«data».now a.start l.loop.at l.loop.place l.loop.spelled l.loop.places l.loop.invariant k.before.before.event-at.result (here k) _ _
-    p.put-at.ensures.0 p.put-at.ensures.1 c.before.before.if2.false c.if3.false
+    let a = l.args in
+    put_on a.«data».now a.start l.loop-e.at l.loop-e.place l.loop-e.spelled l.loop-e.places l.loop-e.invariant k.event_at-e.result (here k) _ _
+    p.put_at-after.ensures.0 p.put_at-after.ensures.1 c.if-after-eq0.false c.if-e.false
 
 -- the turn at a second event
-there : (k : tie.Else4 invariant_loop decreases-loop) → let e = k.before.before.before.before.before.before.before.before.before.before in
-    Turn e.before.before.before.before.before.before.args.«data».now e.event-at.result.next k.before.before.second_at.result
+there : (k : tie.Else-f-eq0 invariant-loop-e decreases-loop-e) → let e = k.before.before.before.before.before.before.before.before.before.before in
+    Turn e.args.«data».now e.event_at-e.result.next k.second_at-f.result
 there k =
     let e = k.before.before.before.before.before.before.before.before.before.before in
-    turn e.before.before.before.before.before.before.args.«data».now e.event-at.result.next k.before.before.second_at.result
-    (k.before.before.second_at.ensures k.if4.false)
+    turn e.args.«data».now e.event_at-e.result.next k.second_at-f.result
+    (k.second_at-f.ensures k.if-f-eq0.false)
 
-loop_holds : tie.Need-loop-init invariant_loop decreases-loop
-loop_holds c = let s = c.before.before.before in stands_first s.args.«data».now s.args.start s.args.places.now s.requires.0.0 s.requires.2
+loop-e-init : tie.Need-loop-e-init invariant-loop-e decreases-loop-e
+loop-e-init c = let s = c.before.before.before in stands_first s.args.«data».now s.args.start s.args.places.now s.requires.0.0 s.requires.2
 
-ahead-requires : tie.Need-ahead-requires invariant_loop decreases-loop
-ahead-requires c κs = tt
+ahead-w-requires : tie.Need-ahead-w-requires invariant-loop-e decreases-loop-e
+ahead-w-requires c κs = tt
 
-event-at-requires : tie.Need-event-at-requires invariant_loop decreases-loop
-event-at-requires c κs =
+event_at-e-requires : tie.Need-event_at-e-requires invariant-loop-e decreases-loop-e
+event_at-e-requires c κs =
     let l = c.before in
-    let p = l.before.before.before.before.requires in
-    ((l.loop.invariant.inside, p.0.1), p.1, c.ahead.ensures)
+    let p = l.requires in
+    ((l.loop-e.invariant.inside, p.0.1), p.1, c.ahead-w.ensures)
 
-no-list-requires : tie.Need-no-list-requires invariant_loop decreases-loop
-no-list-requires c κs = search rules
+no_list-requires : tie.Need-no_list-requires invariant-loop-e decreases-loop-e
+no_list-requires c κs = search rules
 
-returns : tie.Need-returns invariant_loop decreases-loop
-returns c = λ z. absurd (z c.no-list.ensures)
+returns-then-e-eq0 : tie.Need-returns-then-e-eq0 invariant-loop-e decreases-loop-e
+returns-then-e-eq0 c = λ z. absurd (z c.no_list.ensures)
 
-put-at-requires : tie.Need-put-at-requires invariant_loop decreases-loop
-put-at-requires c κs =
+put_at-after-requires : tie.Need-put_at-after-requires invariant-loop-e decreases-loop-e
+put_at-after-requires c κs =
     let k = c.before in
-    let s = k.before.before.before.before.loop.invariant in
+    let s = k.loop-e.invariant in
     let t = here k in
     (s.place-le, t.run_le, t.level-le, s.long)
 
-no-list-requires-2 : tie.Need-no-list-requires-2 invariant_loop decreases-loop
-no-list-requires-2 c κs = search rules
+no_list-requires-then-after-eq0 : tie.Need-no_list-requires-then-after-eq0 invariant-loop-e decreases-loop-e
+no_list-requires-then-after-eq0 c κs = search rules
 
-returns_2 : tie.Need-returns-2 invariant_loop decreases-loop
-returns_2 c = λ z. absurd (z c.no-list2.ensures)
+returns-then-after-eq0 : tie.Need-returns-then-after-eq0 invariant-loop-e decreases-loop-e
+returns-then-after-eq0 c = λ z. absurd (z c.no_list-then-after-eq0.ensures)
 
-add-spelled : tie.Need-overflow-add-spelled invariant_loop decreases-loop
-add-spelled c =
+overflow_add-spelled : tie.Need-overflow_add-spelled invariant-loop-e decreases-loop-e
+overflow_add-spelled c =
     let k = c.before.before.before.before in
-    let s = k.before.before.before.before.loop.invariant in
+    let s = k.loop-e.invariant in
     let t = here k in
     omega (arith, packs-le (let h = s.place-le in omega arith) s.packs, event-le t.e t.weighs)
 
-list-to-requires : tie.Need-list-to-requires invariant_loop decreases-loop
-list-to-requires c κs = search rules
+list_to-requires : tie.Need-list_to-requires invariant-loop-e decreases-loop-e
+list_to-requires c κs = search rules
 
-returns_3 : tie.Need-returns-3 invariant_loop decreases-loop
-returns_3 c = λ z.
+returns-then-e : tie.Need-returns-then-e invariant-loop-e decreases-loop-e
+returns-then-e c = λ z.
     let t = c.before in
     let p = t.before.before.before in
     let k = p.before.before in
     let l = k.before.before.before.before in
-    let a = l.before.before.before.before.args in
-    subst⁻¹ (λ (r : ListAt). ListTold a.«data».now a.start r p.put-at.new.1.1.0) c.list-to.ensures
-    (put_last a.«data».now a.start l.loop.at l.loop.place l.loop.spelled l.loop.places l.loop.invariant k.before.before.event-at.result (here k) _ _
-    p.put-at.ensures.0 p.put-at.ensures.1 t.before.before.if2.false t.if3.true)
+    let a = l.args in
+    subst⁻¹ (λ (r : ListAt). ListTold a.«data».now a.start r p.put_at-after.new.1.1.0) c.list_to.ensures
+    (put_last a.«data».now a.start l.loop-e.at l.loop-e.place l.loop-e.spelled l.loop-e.places l.loop-e.invariant k.event_at-e.result (here k) _ _
+    p.put_at-after.ensures.0 p.put_at-after.ensures.1 t.if-after-eq0.false t.if-e.true)
 
-second-at-requires : tie.Need-second-at-requires invariant_loop decreases-loop
-second-at-requires c κs =
+second_at-f-requires : tie.Need-second_at-f-requires invariant-loop-e decreases-loop-e
+second_at-f-requires c κs =
     let k = c.before.before.before.before.before in
     let l = k.before.before.before.before in
-    let p = l.before.before.before.before.requires in
+    let p = l.requires in
     let t = (here k).less in
-    ((l.loop.invariant.inside, p.0.1), p.1, k.before.before.before.ahead.ensures, omega (arith, t))
+    ((l.loop-e.invariant.inside, p.0.1), p.1, k.ahead-w.ensures, omega (arith, t))
 
-loop-less : tie.Need-loop-smaller invariant_loop decreases-loop
-loop-less c = (here c.before.before.before.before.before.before.before.before).less
+loop-e-smaller-then-f-eq0 : tie.Need-loop-e-smaller-then-f-eq0 invariant-loop-e decreases-loop-e
+loop-e-smaller-then-f-eq0 c = (here c.before.before.before.before.before.before.before.before).less
 
-loop_again : tie.Need-loop-preserved invariant_loop decreases-loop
-loop_again c = on c.before.before.before
+loop-e-preserved-then-f-eq0 : tie.Need-loop-e-preserved-then-f-eq0 invariant-loop-e decreases-loop-e
+loop-e-preserved-then-f-eq0 c = on c.before.before.before
 
-put-at-requires-2 : tie.Need-put-at-requires-2 invariant_loop decreases-loop
-put-at-requires-2 c κs =
+put_at-more-requires : tie.Need-put_at-more-requires invariant-loop-e decreases-loop-e
+put_at-more-requires c κs =
     let k = c.before in
     let s = on k.before.before.before in
     let t = there k in
     (s.place-le, t.run_le, t.level-le, s.long)
 
-no-list-requires-3 : tie.Need-no-list-requires-3 invariant_loop decreases-loop
-no-list-requires-3 c κs = search rules
+no_list-requires-then-more-eq0 : tie.Need-no_list-requires-then-more-eq0 invariant-loop-e decreases-loop-e
+no_list-requires-then-more-eq0 c κs = search rules
 
-returns_4 : tie.Need-returns-4 invariant_loop decreases-loop
-returns_4 c = λ z. absurd (z c.no-list3.ensures)
+returns-then-more-eq0 : tie.Need-returns-then-more-eq0 invariant-loop-e decreases-loop-e
+returns-then-more-eq0 c = λ z. absurd (z c.no_list-then-more-eq0.ensures)
 
-add-spelled-2 : tie.Need-overflow-add-spelled-2 invariant_loop decreases-loop
-add-spelled-2 c =
+overflow_add-spelled-in-loop-e : tie.Need-overflow_add-spelled-in-loop-e invariant-loop-e decreases-loop-e
+overflow_add-spelled-in-loop-e c =
     let k = c.before.before.before.before in
     let s = on k.before.before.before in
     let t = there k in
     omega (arith, packs-le (let h = s.place-le in omega arith) s.packs, event-le t.e t.weighs)
 
-list-to-requires-2 : tie.Need-list-to-requires-2 invariant_loop decreases-loop
-list-to-requires-2 c κs = search rules
+list_to-requires-then-f : tie.Need-list_to-requires-then-f invariant-loop-e decreases-loop-e
+list_to-requires-then-f c κs = search rules
 
-returns_5 : tie.Need-returns-5 invariant_loop decreases-loop
-returns_5 c = λ z.
+returns-then-f : tie.Need-returns-then-f invariant-loop-e decreases-loop-e
+returns-then-f c = λ z.
     let t = c.before in
     let p = t.before.before.before in
     let k = p.before.before in
     let f = k.before.before.before in
     let m = f.before.before.before in
-    let e = m.before.before.before.before.event-at.result in
+    let e = m.event_at-e.result in
     let l = m.before.before.before.before.before.before in
-    let a = l.before.before.before.before.args in
-    subst⁻¹ (λ (r : ListAt). ListTold a.«data».now a.start r p.put-at2.new.1.1.0) c.list-to2.ensures
-    (put_last a.«data».now a.start e.next m.put-at.result (l.loop.spelled + e.spelled) _ (on f) k.before.before.second_at.result (there k) _ _
-    p.put-at2.ensures.0 p.put-at2.ensures.1 t.before.before.if5.false t.if6.true)
+    let a = l.args in
+    subst⁻¹ (λ (r : ListAt). ListTold a.«data».now a.start r p.put_at-more.new.1.1.0) c.list_to-then-f.ensures
+    (put_last a.«data».now a.start e.next m.put_at-after.result (l.loop-e.spelled + e.spelled) _ (on f) k.second_at-f.result (there k) _ _
+    p.put_at-more.ensures.0 p.put_at-more.ensures.1 t.if-more-eq0.false t.if-f.true)
 
-loop-less-2 : tie.Need-loop-smaller-2 invariant_loop decreases-loop
-loop-less-2 c =
+loop-e-smaller : tie.Need-loop-e-smaller invariant-loop-e decreases-loop-e
+loop-e-smaller c =
     let k = c.before.before.before.before.before in
     let t = (there k).less in
     let u = (here k.before.before.before.before.before.before.before.before).less in
     omega (arith, t, u)
 
-loop-again-2 : tie.Need-loop-preserved-2 invariant_loop decreases-loop
-loop-again-2 c =
+loop-e-preserved : tie.Need-loop-e-preserved invariant-loop-e decreases-loop-e
+loop-e-preserved c =
     let p = c.before.before.before in
     let k = p.before.before in
     let f = k.before.before.before in
     let m = f.before.before.before in
-    let e = m.before.before.before.before.event-at.result in
+    let e = m.event_at-e.result in
     let l = m.before.before.before.before.before.before in
-    let a = l.before.before.before.before.args in
-    put_on a.«data».now a.start e.next m.put-at.result (l.loop.spelled + e.spelled) _ (on f) k.before.before.second_at.result (there k) _ _
-    p.put-at2.ensures.0 p.put-at2.ensures.1 c.before.before.if5.false c.if6.false
+    let a = l.args in
+    put_on a.«data».now a.start e.next m.put_at-after.result (l.loop-e.spelled + e.spelled) _ (on f) k.second_at-f.result (there k) _ _
+    p.put_at-more.ensures.0 p.put_at-more.ensures.1 c.if-more-eq0.false c.if-f.false
 
 pub list_at_spec : {M : Type 1} → statement M
 list_at_spec =
     tie.close
     (tie.spec
-    invariant_loop
-    decreases-loop
-    loop_holds
-    ahead-requires
-    event-at-requires
-    no-list-requires
-    returns
-    put-at-requires
-    no-list-requires-2
-    returns_2
-    add-spelled
-    list-to-requires
-    returns_3
-    second-at-requires
-    loop-less
-    loop_again
-    put-at-requires-2
-    no-list-requires-3
-    returns_4
-    add-spelled-2
-    list-to-requires-2
-    returns_5
-    loop-less-2
-    loop-again-2)
+    invariant-loop-e
+    decreases-loop-e
+    loop-e-init
+    ahead-w-requires
+    event_at-e-requires
+    no_list-requires
+    returns-then-e-eq0
+    put_at-after-requires
+    no_list-requires-then-after-eq0
+    returns-then-after-eq0
+    overflow_add-spelled
+    list_to-requires
+    returns-then-e
+    second_at-f-requires
+    loop-e-smaller-then-f-eq0
+    loop-e-preserved-then-f-eq0
+    put_at-more-requires
+    no_list-requires-then-more-eq0
+    returns-then-more-eq0
+    overflow_add-spelled-in-loop-e
+    list_to-requires-then-f
+    returns-then-f
+    loop-e-smaller
+    loop-e-preserved)

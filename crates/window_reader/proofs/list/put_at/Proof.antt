@@ -9,32 +9,32 @@ use Rattle.numbers.proofs.Words.{fits_mag}
 use Rattle.window_reader.proofs.list.put_at.Statement.{statement}
 use Rattle.window_reader.proofs.list.put_at.Tie as tie
 
-cast-land : tie.Need-overflow-cast-land
-cast-land c = search rules
+overflow_cast-land : tie.Need-overflow_cast-land
+overflow_cast-land c = search rules
 
-add-land : tie.Need-overflow-add-land
-add-land c = search rules
+overflow_add-land : tie.Need-overflow_add-land
+overflow_add-land c = search rules
+
+returns-then-land-ge64 : tie.Need-returns-then-land-ge64
+returns-then-land-ge64 c = let a = c.args in rw (le-ltb (a.place + a.e.run) 64 c.if-land-ge64.true) (refl, refl)
+
+offset_bounds-places-land : tie.Need-offset_bounds-places-land
+offset_bounds-places-land c = search rules
+
+bounds-places-land : tie.Need-bounds-places-land
+bounds-places-land c = search rules
+
+overflow_add-result : tie.Need-overflow_add-result
+overflow_add-result c = search rules
 
 returns : tie.Need-returns
-returns c = let a = c.before.before.args in rw (le-ltb (a.place + a.e.run) 64 c.if1.true) (refl, refl)
-
-mul-level : tie.Need-overflow-mul-level
-mul-level c = search rules
-
-element-set-from-level : tie.Need-element-set-from-level
-element-set-from-level c = search rules
-
-add-result : tie.Need-overflow-add-result
-add-result c = search rules
-
-returns_2 : tie.Need-returns-2
-returns_2 c =
+returns c =
     let s = c.before.before.before in
     let a = s.args in
     let land : ℕ = a.place + a.e.run in
-    rw (lt-ltb land 64 c.before.if1.false) (refl, ap (set a.places.now land) (to_z-of_z (fits_mag 2047 tt a.e.level s.requires.2)))
+    rw (lt-ltb land 64 c.if-land-ge64.false) (refl, ap (set a.places.now land) (to_z-of_z (fits_mag 2047 tt a.e.level s.requires.2)))
 
 pub put_at_spec : {M : Type 1} → statement M
 put_at_spec =
     tie.close
-    (tie.spec cast-land add-land returns mul-level element-set-from-level add-result returns_2)
+    (tie.spec overflow_cast-land overflow_add-land returns-then-land-ge64 offset_bounds-places-land bounds-places-land overflow_add-result returns)

@@ -14,59 +14,59 @@ use Rattle.window_reader.proofs.six.read_six.Statement.{statement}
 use Rattle.window_reader.proofs.six.read_six.Tie as tie
 
 -- the position lies in the data
-inside : (k : tie.After-enum-told2) → let a = k.before.before.before.before.args in in_data (length a.«data».now) a.c.bit_pos ≡ true
+inside : (k : tie.In-Bits) → let a = k.args in in_data (length a.«data».now) a.c.bit_pos ≡ true
 inside k =
-    let a = k.before.before.before.before.args in
-    counted a.«data».now a.c.bit_pos _ _ k.before.before.remaining-bits.ensures.0 k.enum-told2.given.1
+    let a = k.args in
+    counted a.«data».now a.c.bit_pos _ _ k.remaining_bits-left.ensures.0 k.in-Bits.is
 
-remaining-bits-requires : tie.Need-remaining-bits-requires
-remaining-bits-requires c κs = search rules
+remaining_bits-left-requires : tie.Need-remaining_bits-left-requires
+remaining_bits-left-requires c κs = search rules
 
-enum_told : tie.Need-enum-told
-enum_told c = search rules
+enum_told-1 : tie.Need-enum_told-1
+enum_told-1 c = search rules
 
-enum-told-2 : tie.Need-enum-told-2
-enum-told-2 c = search rules
+enum_told-in-Bits : tie.Need-enum_told-in-Bits
+enum_told-in-Bits c = search rules
 
-six-by-windows-requires : tie.Need-six-by-windows-requires
-six-by-windows-requires c κs =
+six_by_windows-six-requires : tie.Need-six_by_windows-six-requires
+six_by_windows-six-requires c κs =
     let k = c.before.before.before in
-    let a = k.before.before.before.before.args in
+    let a = k.args in
     let p = in_data_yes (length a.«data».now) a.c.bit_pos (inside k) in
     (p.1, p.0)
 
-spellings-of-requires : tie.Need-spellings-of-requires
-spellings-of-requires c κs = search rules
+spellings_of-requires : tie.Need-spellings_of-requires
+spellings_of-requires c κs = search rules
 
-returns : tie.Need-returns
-returns c =
-    let one = c.before.before.before.six-by-windows in
+returns-then-six-ne0 : tie.Need-returns-then-six-ne0
+returns-then-six-ne0 c =
+    let one = c.six_by_windows-six in
     let k = c.before.before.before.before.before.before.before in
-    let a = k.before.before.before.before.args in
+    let a = k.args in
     let d = a.«data».now in
     let at = a.c.bit_pos in
     then_2 list_outcome
-    (six_answer d at a.pattern a.dc-coded a.reversible one.result c.spellings-of.result one.new.1.1.1.0 one.new.1.1.1.1.0 (inside k) c.before.before.before.before.before.before.if1.true (one.ensures c.before.if2.true) c.spellings-of.ensures)
-    (blocks_due_lem d at a.pattern a.dc-coded a.reversible)
+    (six_answer d at a.pattern a.dc_coded a.reversible one.result c.spellings_of.result one.new.1.1.1.0 one.new.1.1.1.1.0 (inside k) c.if-dc_coded-reversible.true (one.ensures c.if-six-ne0.true) c.spellings_of.ensures)
+    (blocks_due_lem d at a.pattern a.dc_coded a.reversible)
 
-six-plainly-requires : tie.Need-six-plainly-requires
-six-plainly-requires c κs = search rules
+six_plainly-requires : tie.Need-six_plainly-requires
+six_plainly-requires c κs = search rules
 
-returns_2 : tie.Need-returns-2
-returns_2 c =
-    let a = c.before.before.before.before.before.before.args in
-    let e = c.six-plainly.ensures in
-    then_2 list_outcome (e.0, (e.1, e.2)) (blocks_due_lem a.«data».now a.c.bit_pos a.pattern a.dc-coded a.reversible)
+returns : tie.Need-returns
+returns c =
+    let a = c.args in
+    let e = c.six_plainly.ensures in
+    then_2 list_outcome (e.0, (e.1, e.2)) (blocks_due_lem a.«data».now a.c.bit_pos a.pattern a.dc_coded a.reversible)
 
 pub read_six_spec : {M : Type 1} → statement M
 read_six_spec =
     tie.close
     (tie.spec
-    remaining-bits-requires
-    enum_told
-    enum-told-2
-    six-by-windows-requires
-    spellings-of-requires
-    returns
-    six-plainly-requires
-    returns_2)
+    remaining_bits-left-requires
+    enum_told-1
+    enum_told-in-Bits
+    six_by_windows-six-requires
+    spellings_of-requires
+    returns-then-six-ne0
+    six_plainly-requires
+    returns)

@@ -6,36 +6,36 @@ use Rattle.window_reader.proofs.symbol.escape_at.Tie as tie
 unsettled-requires : tie.Need-unsettled-requires
 unsettled-requires c κs = search rules
 
+returns-then-w-ne3 : tie.Need-returns-then-w-ne3
+returns-then-w-ne3 c = λ z. absurd (z c.unsettled.ensures)
+
+type1_at-requires : tie.Need-type1_at-requires
+type1_at-requires c κs = search rules
+
+returns-then-mode-lt2 : tie.Need-returns-then-mode-lt2
+returns-then-mode-lt2 c = search rules
+
+type2_at-requires : tie.Need-type2_at-requires
+type2_at-requires c κs = search rules
+
+returns-then-mode-eq2 : tie.Need-returns-then-mode-eq2
+returns-then-mode-eq2 c = search rules
+
+type3_at-requires : tie.Need-type3_at-requires
+type3_at-requires c κs = search rules
+
 returns : tie.Need-returns
-returns c = λ z. absurd (z c.unsettled.ensures)
-
-type1-at-requires : tie.Need-type1-at-requires
-type1-at-requires c κs = search rules
-
-returns_2 : tie.Need-returns-2
-returns_2 c = search rules
-
-type2-at-requires : tie.Need-type2-at-requires
-type2-at-requires c κs = search rules
-
-returns_3 : tie.Need-returns-3
-returns_3 c = search rules
-
-type3-at-requires : tie.Need-type3-at-requires
-type3-at-requires c κs = search rules
-
-returns_4 : tie.Need-returns-4
-returns_4 c = search rules
+returns c = search rules
 
 pub escape_at_spec : {M : Type 1} → statement M
 escape_at_spec =
     tie.close
     (tie.spec
     unsettled-requires
-    returns
-    type1-at-requires
-    returns_2
-    type2-at-requires
-    returns_3
-    type3-at-requires
-    returns_4)
+    returns-then-w-ne3
+    type1_at-requires
+    returns-then-mode-lt2
+    type2_at-requires
+    returns-then-mode-eq2
+    type3_at-requires
+    returns)

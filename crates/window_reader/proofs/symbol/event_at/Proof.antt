@@ -11,23 +11,23 @@ use borrow.Author.Rules.{rules}
 use Rattle.window_reader.proofs.symbol.event_at.Statement.{statement}
 use Rattle.window_reader.proofs.symbol.event_at.Tie as tie
 
-plain-at-requires : tie.Need-plain-at-requires
-plain-at-requires c κs =
+plain_at-one-requires : tie.Need-plain_at-one-requires
+plain_at-one-requires c κs =
     let s = c.before.before.before in
     let p = s.requires in
     (p.0, p.1, omega arith, p.2 ∙ ap val (sym (append-nil (window s.args.«data».now s.args.at))))
 
-escape-at-requires : tie.Need-escape-at-requires
-escape-at-requires c κs = search rules
+escape_at-requires : tie.Need-escape_at-requires
+escape_at-requires c κs = search rules
+
+returns-then-one-eq0 : tie.Need-returns-then-one-eq0
+returns-then-one-eq0 c = search rules
 
 returns : tie.Need-returns
-returns c = search rules
-
-returns_2 : tie.Need-returns-2
-returns_2 c =
+returns c =
     let m = c.before.before in
-    let a = m.before.before.before.before.args in
-    subst (λ (n : ℕ). EventSettled a.«data».now n m.plain_at.result) (add-zero a.at) m.plain_at.ensures
+    let a = m.args in
+    subst (λ (n : ℕ). EventSettled a.«data».now n m.plain_at-one.result) (add-zero a.at) m.plain_at-one.ensures
 
 pub event_at_spec : {M : Type 1} → statement M
-event_at_spec = tie.close (tie.spec plain-at-requires escape-at-requires returns returns_2)
+event_at_spec = tie.close (tie.spec plain_at-one-requires escape_at-requires returns-then-one-eq0 returns)

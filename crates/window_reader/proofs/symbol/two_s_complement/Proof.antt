@@ -12,20 +12,20 @@ use Rattle.window_reader.proofs.symbol.two_s_complement.Tie as tie
 abbrev x : tie.Start → Sx w32
 x s = loc (pos s.args.raw) 4095 (let h = s.requires in omega arith)
 
-cast_result : tie.Need-overflow-cast-result
-cast_result c = cast_us (let h = c.before.requires in omega arith)
+overflow_cast-result : tie.Need-overflow_cast-result
+overflow_cast-result c = cast_us (let h = c.requires in omega arith)
 
-sub-result : tie.Need-overflow-sub-result
-sub-result c = fits (x c.before ⊟ lit (pos 4096)) tt
+overflow_sub-result : tie.Need-overflow_sub-result
+overflow_sub-result c = fits (x c.before ⊟ lit (pos 4096)) tt
+
+returns-then-raw-ge2048 : tie.Need-returns-then-raw-ge2048
+returns-then-raw-ge2048 c = back (x c.before ⊟ lit (pos 4096)) tt ∙ simp (le-leb 2048 c.args.raw (omega arith))
+
+overflow_cast-result-2 : tie.Need-overflow_cast-result-2
+overflow_cast-result-2 c = cast_us (let h = c.requires in omega arith)
 
 returns : tie.Need-returns
-returns c = back (x c.before ⊟ lit (pos 4096)) tt ∙ simp (le-leb 2048 c.before.args.raw (omega arith))
-
-cast-result-2 : tie.Need-overflow-cast-result-2
-cast-result-2 c = cast_us (let h = c.before.requires in omega arith)
-
-returns_2 : tie.Need-returns-2
-returns_2 c = back (x c.before) tt ∙ simp (lt-leb 2048 c.before.args.raw (omega arith))
+returns c = back (x c.before) tt ∙ simp (lt-leb 2048 c.args.raw (omega arith))
 
 pub two_s_complement_spec : {M : Type 1} → statement M
-two_s_complement_spec = tie.close (tie.spec cast_result sub-result returns cast-result-2 returns_2)
+two_s_complement_spec = tie.close (tie.spec overflow_cast-result overflow_sub-result returns-then-raw-ge2048 overflow_cast-result-2 returns)

@@ -14,31 +14,31 @@ use Rattle.bits.specs.Outcomes.{moved_outcome}
 use Rattle.bits.proofs.OutcomeLaws.{align_due_lem}
 use Rattle.bits.proofs.cursor.Cursor.align_to_byte.Tie as tie
 
-in-data-requires : tie.Need-in-data-requires
-in-data-requires c κs = search rules
+in_data-requires : tie.Need-in_data-requires
+in_data-requires c κs = search rules
+
+returns-then-not-in_data : tie.Need-returns-then-not-in_data
+returns-then-not-in_data c =
+    let args = c.args in
+    both moved_outcome (simp (sym c.in_data.ensures ∙ c.if-not-in_data.true)) (align_due_lem args.«data».now args.self.bit_pos)
+
+-- the data may be read from the position on
+readable : (c : tie.Else-not-in_data) → in_data (length c.args.«data».now) c.args.self.bit_pos ≡ true
+readable c = sym c.in_data.ensures ∙ c.if-not-in_data.false
+
+limits : (c : tie.Else-not-in_data) → (length c.args.«data».now ≤ 1048576) × (c.args.self.bit_pos ≤ 8 * length c.args.«data».now)
+limits c = in_data_yes (length c.args.«data».now) c.args.self.bit_pos (readable c)
+
+overflow_add-result : tie.Need-overflow_add-result
+overflow_add-result c = omega (arith, limits c)
+
+overflow_mul-result : tie.Need-overflow_mul-result
+overflow_mul-result c = omega (arith, limits c)
 
 returns : tie.Need-returns
 returns c =
-    let args = c.before.before.before.args in
-    both moved_outcome (simp (sym c.before.in_data_lem.ensures ∙ not-true _ c.if1.true)) (align_due_lem args.«data».now args.self.bit_pos)
-
--- the data may be read from the position on
-readable : (c : tie.Else1) → in_data (length c.before.before.before.args.«data».now) c.before.before.before.args.self.bit_pos ≡ true
-readable c = sym c.before.in_data_lem.ensures ∙ not-false _ c.if1.false
-
-limits : (c : tie.Else1) → (length c.before.before.before.args.«data».now ≤ 1048576) × (c.before.before.before.args.self.bit_pos ≤ 8 * length c.before.before.before.args.«data».now)
-limits c = in_data_yes (length c.before.before.before.args.«data».now) c.before.before.before.args.self.bit_pos (readable c)
-
-add-t5 : tie.Need-overflow-add-t5
-add-t5 c = omega (arith, limits c)
-
-mul-t9 : tie.Need-overflow-mul-t9
-mul-t9 c = omega (arith, limits c)
-
-returns_2 : tie.Need-returns-2
-returns_2 c =
-    let args = c.before.before.before.args in
+    let args = c.args in
     both moved_outcome (simp (readable c)) (align_due_lem args.«data».now args.self.bit_pos)
 
 pub align_to_byte_spec : {M : Type 1} → statement M
-align_to_byte_spec = tie.close (tie.spec in-data-requires returns add-t5 mul-t9 returns_2)
+align_to_byte_spec = tie.close (tie.spec in_data-requires returns-then-not-in_data overflow_add-result overflow_mul-result returns)

@@ -8,24 +8,24 @@ use Rattle.bits.specs.Outcomes.{bool_outcome}
 use Rattle.bits.proofs.OutcomeLaws.{bool_due_lem}
 use Rattle.bits.proofs.cursor.Cursor.read_bool.Tie as tie
 
-read-bits-requires : tie.Need-read-bits-requires
-read-bits-requires c κs = search rules
+read_bits-requires : tie.Need-read_bits-requires
+read_bits-requires c κs = search rules
 
-enum-known-e : tie.Need-enum-known-e
-enum-known-e c = search rules
+enum_known-e : tie.Need-enum_known-e
+enum_known-e c = search rules
 
-enum-known-v : tie.Need-enum-known-v
-enum-known-v c = search rules
+enum_known-v : tie.Need-enum_known-v
+enum_known-v c = search rules
 
-returns : tie.Need-returns
-returns c =
-    let args = c.before.before.before.before.before.args in
-    both bool_outcome (ap bool_of (sym c.before.e.given.1 ∙ c.before.before.before.read-bits.ensures.0)) (bool_due_lem args.«data».now args.self.bit_pos)
+returns-in-Refused : tie.Need-returns-in-Refused
+returns-in-Refused c =
+    let args = c.args in
+    both bool_outcome (ap bool_of (sym c.in-Refused.is ∙ c.read_bits.ensures.0)) (bool_due_lem args.«data».now args.self.bit_pos)
 
-returns_2 : tie.Need-returns-2
-returns_2 c =
-    let args = c.before.before.before.before.before.args in
-    both bool_outcome (ap bool_of (sym c.before.v.given.1 ∙ c.before.before.before.read-bits.ensures.0)) (bool_due_lem args.«data».now args.self.bit_pos)
+returns-in-Read : tie.Need-returns-in-Read
+returns-in-Read c =
+    let args = c.args in
+    both bool_outcome (ap bool_of (sym c.in-Read.is ∙ c.read_bits.ensures.0)) (bool_due_lem args.«data».now args.self.bit_pos)
 
 pub read_bool_spec : {M : Type 1} → statement M
-read_bool_spec = tie.close (tie.spec read-bits-requires enum-known-e enum-known-v returns returns_2)
+read_bool_spec = tie.close (tie.spec read_bits-requires enum_known-e enum_known-v returns-in-Refused returns-in-Read)

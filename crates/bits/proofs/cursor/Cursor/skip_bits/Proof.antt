@@ -15,39 +15,39 @@ use Rattle.bits.specs.Outcomes.{moved_outcome}
 use Rattle.bits.proofs.OutcomeLaws.{skip_due_lem}
 use Rattle.bits.proofs.cursor.Cursor.skip_bits.Tie as tie
 
-in-data-requires : tie.Need-in-data-requires
-in-data-requires c κs = search rules
+in_data-requires : tie.Need-in_data-requires
+in_data-requires c κs = search rules
+
+returns-then-not-in_data : tie.Need-returns-then-not-in_data
+returns-then-not-in_data c =
+    let args = c.args in
+    both moved_outcome (simp (sym c.in_data.ensures ∙ c.if-not-in_data.true)) (skip_due_lem args.«data».now args.self.bit_pos args.n)
+
+-- the data may be read from the position on
+readable : (c : tie.Else-not-in_data) → in_data (length c.args.«data».now) c.args.self.bit_pos ≡ true
+readable c = sym c.in_data.ensures ∙ c.if-not-in_data.false
+
+limits : (c : tie.Else-not-in_data) → (length c.args.«data».now ≤ 1048576) × (c.args.self.bit_pos ≤ 8 * length c.args.«data».now)
+limits c = in_data_yes (length c.args.«data».now) c.args.self.bit_pos (readable c)
+
+overflow_mul-data : tie.Need-overflow_mul-data
+overflow_mul-data c = omega (arith, limits c)
+
+overflow_sub-data : tie.Need-overflow_sub-data
+overflow_sub-data c = omega (arith, limits c)
+
+returns-then-data-at : tie.Need-returns-then-data-at
+returns-then-data-at c =
+    let args = c.args in
+    both moved_outcome (simp (readable c.before, length-bits_from, lt-leb _ _ c.if-data-at.true)) (skip_due_lem args.«data».now args.self.bit_pos args.n)
+
+overflow_add-result : tie.Need-overflow_add-result
+overflow_add-result c = omega (arith, limits c.before)
 
 returns : tie.Need-returns
 returns c =
-    let args = c.before.before.before.args in
-    both moved_outcome (simp (sym c.before.in_data_lem.ensures ∙ not-true _ c.if1.true)) (skip_due_lem args.«data».now args.self.bit_pos args.n)
-
--- the data may be read from the position on
-readable : (c : tie.Else1) → in_data (length c.before.before.before.args.«data».now) c.before.before.before.args.self.bit_pos ≡ true
-readable c = sym c.before.in_data_lem.ensures ∙ not-false _ c.if1.false
-
-limits : (c : tie.Else1) → (length c.before.before.before.args.«data».now ≤ 1048576) × (c.before.before.before.args.self.bit_pos ≤ 8 * length c.before.before.before.args.«data».now)
-limits c = in_data_yes (length c.before.before.before.args.«data».now) c.before.before.before.args.self.bit_pos (readable c)
-
-mul-if2 : tie.Need-overflow-mul-if2
-mul-if2 c = omega (arith, limits c)
-
-sub-if2 : tie.Need-overflow-sub-if2
-sub-if2 c = omega (arith, limits c)
-
-returns_2 : tie.Need-returns-2
-returns_2 c =
-    let args = c.before.before.before.before.args in
-    both moved_outcome (simp (readable c.before, length-bits_from, lt-leb _ _ c.if2.true)) (skip_due_lem args.«data».now args.self.bit_pos args.n)
-
-add-t6 : tie.Need-overflow-add-t6
-add-t6 c = omega (arith, limits c.before)
-
-returns_3 : tie.Need-returns-3
-returns_3 c =
-    let args = c.before.before.before.before.args in
-    both moved_outcome (simp (readable c.before, length-bits_from, le-leb _ _ c.if2.false)) (skip_due_lem args.«data».now args.self.bit_pos args.n)
+    let args = c.args in
+    both moved_outcome (simp (readable c.before, length-bits_from, le-leb _ _ c.if-data-at.false)) (skip_due_lem args.«data».now args.self.bit_pos args.n)
 
 pub skip_bits_spec : {M : Type 1} → statement M
-skip_bits_spec = tie.close (tie.spec in-data-requires returns mul-if2 sub-if2 returns_2 add-t6 returns_3)
+skip_bits_spec = tie.close (tie.spec in_data-requires returns-then-not-in_data overflow_mul-data overflow_sub-data returns-then-data-at overflow_add-result returns)

@@ -9,26 +9,26 @@ use Rattle.picture_state.specs.Outcomes.{opened_outcome}
 use Rattle.picture_state.proofs.picture.Picture.open.Statement.{statement}
 use Rattle.picture_state.proofs.picture.Picture.open.Tie as tie
 
-size-fine-requires : tie.Need-size-fine-requires
-size-fine-requires c κs = search rules
+size_fine-requires : tie.Need-size_fine-requires
+size_fine-requires c κs = search rules
 
-returns : tie.Need-returns
-returns c =
-    let a = c.before.before.args in
-    both opened_outcome (sym (open_by a.width a.height a.bits-per-pixel a.quant-type false _ (flag_refuses c.before.size-fine.ensures c.if1.true) refl)) (open_due_lem a.width a.height a.bits-per-pixel a.quant-type)
+returns-then-not-size_fine : tie.Need-returns-then-not-size_fine
+returns-then-not-size_fine c =
+    let a = c.args in
+    both opened_outcome (sym (open_by a.width a.height a.bits_per_pixel a.quant_type false _ (flag_refuses c.size_fine.ensures c.if-not-size_fine.true) refl)) (open_due_lem a.width a.height a.bits_per_pixel a.quant_type)
 
 fine-requires : tie.Need-fine-requires
 fine-requires c κs = search rules
 
-returns_2 : tie.Need-returns-2
-returns_2 c =
-    let a = c.before.before.before.before.args in
-    both opened_outcome (sym (open_by a.width a.height a.bits-per-pixel a.quant-type true false (flag_passes c.before.before.before.size-fine.ensures c.before.before.if1.false) (flag_refuses c.before.fine.ensures c.if2.true))) (open_due_lem a.width a.height a.bits-per-pixel a.quant-type)
+returns-then-not-fine : tie.Need-returns-then-not-fine
+returns-then-not-fine c =
+    let a = c.args in
+    both opened_outcome (sym (open_by a.width a.height a.bits_per_pixel a.quant_type true false (flag_passes c.size_fine.ensures c.if-not-size_fine.false) (flag_refuses c.fine.ensures c.if-not-fine.true))) (open_due_lem a.width a.height a.bits_per_pixel a.quant_type)
 
-returns_3 : tie.Need-returns-3
-returns_3 c =
-    let a = c.before.before.before.before.args in
-    both opened_outcome (sym (open_by a.width a.height a.bits-per-pixel a.quant-type true true (flag_passes c.before.before.before.size-fine.ensures c.before.before.if1.false) (flag_passes c.before.fine.ensures c.if2.false))) (open_due_lem a.width a.height a.bits-per-pixel a.quant-type)
+returns : tie.Need-returns
+returns c =
+    let a = c.args in
+    both opened_outcome (sym (open_by a.width a.height a.bits_per_pixel a.quant_type true true (flag_passes c.size_fine.ensures c.if-not-size_fine.false) (flag_passes c.fine.ensures c.if-not-fine.false))) (open_due_lem a.width a.height a.bits_per_pixel a.quant_type)
 
 pub open_spec : {M : Type 1} → statement M
-open_spec = tie.close (tie.spec size-fine-requires returns fine-requires returns_2 returns_3)
+open_spec = tie.close (tie.spec size_fine-requires returns-then-not-size_fine fine-requires returns-then-not-fine returns)

@@ -4,11 +4,11 @@ use Rattle.numbers.proofs.Words.{held}
 use Rattle.prediction.proofs.predictor.BlockPredictors.outside.Statement.{statement}
 use Rattle.prediction.proofs.predictor.BlockPredictors.outside.Tie as tie
 
-missing-dc-requires : tie.Need-missing-dc-requires
-missing-dc-requires c κs = search rules
+missing_dc-dc-requires : tie.Need-missing_dc-dc-requires
+missing_dc-dc-requires c κs = search rules
 
 returns : tie.Need-returns
-returns c = rw (held c.missing-dc.result c.missing-dc.type-inv, c.missing-dc.ensures)
+returns c = rw (held c.missing_dc-dc.result c.missing_dc-dc.type_inv, c.missing_dc-dc.ensures)
 
 pub outside_spec : {M : Type 1} → statement M
-outside_spec = tie.close (tie.spec missing-dc-requires returns)
+outside_spec = tie.close (tie.spec missing_dc-dc-requires returns)
