@@ -4,47 +4,48 @@
 #![tactic(auto)]
 
 use codes::{DcComponent, TcoefTable};
-use libc::STDOUT_FILENO;
+use std::io;
 
-fn text(s: &[u8]) {
-    io::write_all(STDOUT_FILENO, s);
+fn text(rt: &impl Print, s: &[u8]) -> io::Result<()> {
+    rt.write_all(s)
 }
 
-fn number(n: u32) {
-    space();
-    io::print_decimal(STDOUT_FILENO, n as u64);
+fn number(rt: &impl Print, n: u32) -> io::Result<()> {
+    space(rt)?;
+    rt.print(n)
 }
 
-fn small(n: u8) {
-    number(n as u32);
+fn small(rt: &impl Print, n: u8) -> io::Result<()> {
+    number(rt, n as u32)
 }
 
-fn space() {
-    text(b" ");
+fn space(rt: &impl Print) -> io::Result<()> {
+    text(rt, b" ")
 }
 
-fn newline() {
-    text(b"\n");
+fn newline(rt: &impl Print) -> io::Result<()> {
+    text(rt, b"\n")
 }
 
-fn bit(b: u32) {
+fn bit(rt: &impl Print, b: u32) -> io::Result<()> {
     if b == 1 {
-        text(b"1");
+        text(rt, b"1")
     } else {
-        text(b"0");
+        text(rt, b"0")
     }
 }
 
 // A code, top bit first.
-fn code_bits(code: u32, len: u32) {
-    space();
+fn code_bits(rt: &impl Print, code: u32, len: u32) -> io::Result<()> {
+    space(rt)?;
     let mut k = 32;
     while 0 < k {
         k -= 1;
         if k < len {
-            bit((code >> k) % 2);
+            bit(rt, (code >> k) % 2)?;
         }
     }
+    Ok(())
 }
 
 // A code at the front of a window of 16 bits.
@@ -55,7 +56,7 @@ fn window(code: u32, len: u32) -> u32 {
     0
 }
 
-fn tcoef(name: &[u8], table: TcoefTable) {
+fn tcoef(rt: &impl Print, name: &[u8], table: TcoefTable) -> io::Result<()> {
     let codes = codes::tcoef_codes();
     let lens = codes::tcoef_lens();
     let events = codes::tcoef_events(table);
@@ -64,19 +65,20 @@ fn tcoef(name: &[u8], table: TcoefTable) {
         let len = lens[i];
         let row = codes::find_row(&codes, &lens, 102, window(code, len), 16);
         if row < 102 {
-            text(name);
-            code_bits(code, len);
-            small(events[row]);
-            small(events[102 + row]);
-            small(events[204 + row]);
-            small(events[306 + row]);
-            small(events[408 + row]);
-            newline();
+            text(rt, name)?;
+            code_bits(rt, code, len)?;
+            small(rt, events[row])?;
+            small(rt, events[102 + row])?;
+            small(rt, events[204 + row])?;
+            small(rt, events[306 + row])?;
+            small(rt, events[408 + row])?;
+            newline(rt)?;
         }
     }
+    Ok(())
 }
 
-fn rvlc(name: &[u8], table: TcoefTable) {
+fn rvlc(rt: &impl Print, name: &[u8], table: TcoefTable) -> io::Result<()> {
     let codes = codes::rvlc_codes();
     let lens = codes::rvlc_lens();
     let events = codes::rvlc_events(table);
@@ -85,17 +87,18 @@ fn rvlc(name: &[u8], table: TcoefTable) {
         let len = lens[i];
         let row = codes::find_row(&codes, &lens, 169, window(code, len), 16);
         if row < 169 {
-            text(name);
-            code_bits(code, len);
-            small(events[row]);
-            small(events[169 + row]);
-            small(events[338 + row]);
-            newline();
+            text(rt, name)?;
+            code_bits(rt, code, len)?;
+            small(rt, events[row])?;
+            small(rt, events[169 + row])?;
+            small(rt, events[338 + row])?;
+            newline(rt)?;
         }
     }
+    Ok(())
 }
 
-fn dc_size(name: &[u8], component: DcComponent) {
+fn dc_size(rt: &impl Print, name: &[u8], component: DcComponent) -> io::Result<()> {
     let codes = codes::dc_size_codes(component);
     let lens = codes::dc_size_lens(component);
     for i in 0..13 {
@@ -103,25 +106,25 @@ fn dc_size(name: &[u8], component: DcComponent) {
         let len = lens[i];
         let row = codes::find_row(&codes, &lens, 13, window(code, len), 16);
         if row < 13 {
-            text(name);
-            code_bits(code, len);
-            number(row as u32);
-            newline();
+            text(rt, name)?;
+            code_bits(rt, code, len)?;
+            number(rt, row as u32)?;
+            newline(rt)?;
         }
     }
+    Ok(())
 }
 
 // Table B.6: 3 is intra, 4 intra with a quantiser change.
-fn type_and_cbpc(row: u32) {
+fn type_and_cbpc(rt: &impl Print, row: u32) -> io::Result<()> {
     if row == 8 {
-        text(b" stuffing");
-        return;
+        return text(rt, b" stuffing");
     }
-    number(3 + row / 4 % 2);
-    number(row % 4);
+    number(rt, 3 + row / 4 % 2)?;
+    number(rt, row % 4)
 }
 
-fn mcbpc(name: &[u8]) {
+fn mcbpc(rt: &impl Print, name: &[u8]) -> io::Result<()> {
     let codes = codes::mcbpc_codes();
     let lens = codes::mcbpc_lens();
     for i in 0..9 {
@@ -129,15 +132,16 @@ fn mcbpc(name: &[u8]) {
         let len = lens[i];
         let row = codes::find_row(&codes, &lens, 9, window(code, len), 16);
         if row < 9 {
-            text(name);
-            code_bits(code, len);
-            type_and_cbpc(row as u32);
-            newline();
+            text(rt, name)?;
+            code_bits(rt, code, len)?;
+            type_and_cbpc(rt, row as u32)?;
+            newline(rt)?;
         }
     }
+    Ok(())
 }
 
-fn cbpy(name: &[u8]) {
+fn cbpy(rt: &impl Print, name: &[u8]) -> io::Result<()> {
     let codes = codes::cbpy_codes();
     let lens = codes::cbpy_lens();
     for i in 0..16 {
@@ -145,21 +149,22 @@ fn cbpy(name: &[u8]) {
         let len = lens[i];
         let row = codes::find_row(&codes, &lens, 16, window(code, len), 16);
         if row < 16 {
-            text(name);
-            code_bits(code, len);
-            number(row as u32);
-            newline();
+            text(rt, name)?;
+            code_bits(rt, code, len)?;
+            number(rt, row as u32)?;
+            newline(rt)?;
         }
     }
+    Ok(())
 }
 
-fn main() {
-    tcoef(b"intra", TcoefTable::Intra);
-    tcoef(b"inter", TcoefTable::Inter);
-    rvlc(b"rvlc-intra", TcoefTable::Intra);
-    rvlc(b"rvlc-inter", TcoefTable::Inter);
-    dc_size(b"luminance", DcComponent::Luminance);
-    dc_size(b"chrominance", DcComponent::Chrominance);
-    mcbpc(b"mcbpc");
-    cbpy(b"cbpy");
+fn main(rt: HostRuntime) -> io::Result<()> {
+    tcoef(&rt, b"intra", TcoefTable::Intra)?;
+    tcoef(&rt, b"inter", TcoefTable::Inter)?;
+    rvlc(&rt, b"rvlc-intra", TcoefTable::Intra)?;
+    rvlc(&rt, b"rvlc-inter", TcoefTable::Inter)?;
+    dc_size(&rt, b"luminance", DcComponent::Luminance)?;
+    dc_size(&rt, b"chrominance", DcComponent::Chrominance)?;
+    mcbpc(&rt, b"mcbpc")?;
+    cbpy(&rt, b"cbpy")
 }
