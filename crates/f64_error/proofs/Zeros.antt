@@ -42,6 +42,10 @@ value_unique f (fin t m e) (fin u n g) s a c C p q v w =
     sym (of_bits-to_bits f (fin t m e) p)
     ∙ ap (of_bits f) (ap (λ (b : Bool). to_bits f (fin b m e)) (v.0 ∙ sym w.0) ∙ bits-same f u m n e g (cross (m * up e) (n * up g) a c (down e) (down g) (2 ^ low f) C v.1 w.1))
     ∙ of_bits-to_bits f (fin u n g) q
+value_unique f nan y s a c C p q v w = elim v [ ]
+value_unique f (inf _) y s a c C p q v w = elim v [ ]
+value_unique f (fin t m e) nan s a c C p q v w = elim w [ ]
+value_unique f (fin t m e) (inf _) s a c C p q v w = elim w [ ]
 
 -- ---- `round` gives back a float that fits
 -- the significand m of e is a whole number of units, m times a power of two
@@ -191,6 +195,8 @@ has_some (fin t zero e) s a c h v = absurd (none (up e) c (a * down e) (mul-pos 
     none u c x h e = omega arith
 has_some (fin false (suc m) e) s a c h v = tt
 has_some (fin true (suc m) e) s a c h v = nonzero (suc m) (zero-lt-suc m)
+has_some nan s a c h v = elim v [ ]
+has_some (inf _) s a c h v = elim v [ ]
 
 -- a unit at least is not rounded to zero
 round_some : (f : Format) (s : Bool) (num den : ℕ) → 0 < den → den ≤ num * 2 ^ low f → T (not_minus_zero (round f s num den))

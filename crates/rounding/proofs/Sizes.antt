@@ -94,16 +94,12 @@ roundable_means (fin s m e) f t =
 
 -- the same, as the program asks: g is what `magnitude` gave
 module _ (x g : Float) (e : g ≡ mag_f x) where
-  asked : (b : Bool) → not (le g (of_bits binary64 4697254411347427328)) ≡ b → roundable x ≡ not b
+  asked : (b : Bool) → le g (of_bits binary64 4697254411347427328) ≡ b → roundable x ≡ b
   unfolding roundable
-  asked b t = ap (λ (y : Float). le y (of_bits binary64 4697254411347427328)) (sym e) ∙ sym (twice (le g (of_bits binary64 4697254411347427328))) ∙ ap not t
-    where
-      twice : (a : Bool) → not (not a) ≡ a
-      twice true = refl
-      twice false = refl
+  asked b t = ap (λ (y : Float). le y (of_bits binary64 4697254411347427328)) (sym e) ∙ t
 
-  pub too_large : not (le g (of_bits binary64 4697254411347427328)) ≡ true → roundable x ≡ false
-  too_large t = asked true t
+  pub too_large : le g (of_bits binary64 4697254411347427328) ≡ false → roundable x ≡ false
+  too_large t = asked false t
 
-  pub not_too_large : not (le g (of_bits binary64 4697254411347427328)) ≡ false → roundable x ≡ true
-  not_too_large t = asked false t
+  pub not_too_large : le g (of_bits binary64 4697254411347427328) ≡ true → roundable x ≡ true
+  not_too_large t = asked true t
