@@ -78,5 +78,5 @@ module _ (d : List ℕ) (at : ℕ) (c : DcComponent) (e : ℕ) (is : e ≡ size_
             window-begins d at (len + size) (let k = b.len_le in let m = b.size-le in omega arith) thru.0
             ∙ ap₂ (λ (x : Bits) (n : ℕ). x ++ bits_from d n) parts (sym next-is);
         inside = subst (λ (n : ℕ). n ≤ 8 * length d) (sym next-is) thru.0;
-        says = e₃ ∙ ap (λ (y : ℤ). to_z w32 (of_z w32 y)) x-is ∙ to_z-of_z (fits_mag 4095 tt (difference_of c (dc i a)) (difference_small c (dc i a) good));
+        says = e₃ ∙ ap (λ (y : ℤ). to_z w32 (of_z w32 y)) x-is ∙ to_z-of_z {w = w32} (fits_mag 4095 tt (difference_of c (dc i a)) (difference_small c (dc i a) good));
       }

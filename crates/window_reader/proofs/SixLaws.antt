@@ -56,7 +56,7 @@ module _ (d : List ℕ) (at : ℕ) (c : DcComponent) (r : DcAt) (t : DcTold d at
 
   -- its bits are the difference again
   pub difference_back : to_z w32 (of_z w32 r.difference) ≡ r.difference
-  difference_back = to_z-of_z (fits_mag 4095 tt r.difference (subst (λ (z : ℤ). nat_abs z ≤ 4095) (sym t.says) (difference_small c t.part t.good)))
+  difference_back = to_z-of_z {w = w32} (fits_mag 4095 tt r.difference (subst (λ (z : ℤ). nat_abs z ≤ 4095) (sym t.says) (difference_small c t.part t.good)))
 
   -- what is read after the DC part
   after-dc : (coded : Bool) → read_block true false (c, coded) (bits_from d at)

@@ -126,7 +126,7 @@ twelve_mag v h = go (leb 2048 v) refl
 
 -- so its bits are it again
 pub signed_back : (s n : ℕ) → n ≤ 2048 → {z : ℤ} → z ≡ signed_by s n → to_z w32 (of_z w32 z) ≡ signed_by s n
-signed_back s n h {z} e = ap (λ (x : ℤ). to_z w32 (of_z w32 x)) e ∙ to_z-of_z (fits_mag 2048 tt (signed_by s n) (signed_mag s n h))
+signed_back s n h {z} e = ap (λ (x : ℤ). to_z w32 (of_z w32 x)) e ∙ to_z-of_z {w = w32} (fits_mag 2048 tt (signed_by s n) (signed_mag s n h))
 
 pub twelve_back : (v : ℕ) → v < 4096 → {z : ℤ} → z ≡ signed12 v → to_z w32 (of_z w32 z) ≡ signed12 v
-twelve_back v h {z} e = ap (λ (x : ℤ). to_z w32 (of_z w32 x)) e ∙ to_z-of_z (fits_mag 2048 tt (signed12 v) (twelve_mag v h))
+twelve_back v h {z} e = ap (λ (x : ℤ). to_z w32 (of_z w32 x)) e ∙ to_z-of_z {w = w32} (fits_mag 2048 tt (signed12 v) (twelve_mag v h))

@@ -5,6 +5,7 @@ use borrow.Author.Rules.{rules}
 use borrow.Author.Tests.{not-false, not-true}
 use lib.IntN.{ℤ}
 use mir.Facts.{to_z-of_z}
+use mir.Syntax.{w32}
 use Rattle.numbers.proofs.OutcomeLaws.{both}
 use Rattle.numbers.proofs.Words.{fits_mag}
 use Rattle.texture.specs.Outcomes.{list_outcome}
@@ -73,7 +74,7 @@ returns-in-Dc c =
     let n = dc-next a.«data».now a.c.bit_pos a.component a.coded a.reversible v k.in-Dc.next (sym k.in-Dc.is ∙ r.decode_intra_dc-dc.ensures.0) in
     answered s true r.if-not-dc_coded.false
     (c.with_difference.ensures
-    ∙ ap₂ (λ (x : PlacesRead) (z : ℤ). with_difference x.answer x.qfs z) l.read_list-one.ensures (to_z-of_z (fits_mag 4095 tt v.differential n.low))
+    ∙ ap₂ (λ (x : PlacesRead) (z : ℤ). with_difference x.answer x.qfs z) l.read_list-one.ensures (to_z-of_z {w = w32} (fits_mag 4095 tt v.differential n.low))
     ∙ n.is)
 
 pub read_block_spec : {M : Type 1} → statement M

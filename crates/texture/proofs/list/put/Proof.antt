@@ -4,6 +4,7 @@ use Prim.Native.Nat.{◌+◌}
 use lib.IntN.{ℤ}
 use lib.ListN.{set}
 use mir.Facts.{to_z-of_z}
+use mir.Syntax.{w32}
 use borrow.Author.Rules.{rules}
 use borrow.Author.Tests.{eq-eqb, le-ltb, lt-ltb, ne_eqb}
 use Rattle.events.specs.declared.spelling.Spellings.{Spellings}
@@ -38,7 +39,7 @@ returns-then-land-lt64 c =
     let s = c.before.before.before.before.before.before.before.before in
     let a = s.args in
     ap₂ {C = State} (λ (z : ℤ) (n : Spellings). record { place = a.l.place + a.v.run + 1; bad = 0; spellings = n; qfs = set a.qfs.now (a.l.place + a.v.run) z })
-    (to_z-of_z (fits_mag 2047 tt a.v.level s.requires.3)) c.counted.ensures
+    (to_z-of_z {w = w32} (fits_mag 2047 tt a.v.level s.requires.3)) c.counted.ensures
     ∙ simp (eq-eqb _ _ c.if-l-ne0.false, lt-ltb _ _ c.if-land-lt64.true)
 
 returns : tie.Need-returns

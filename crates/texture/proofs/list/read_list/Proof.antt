@@ -39,7 +39,7 @@ abbrev before : tie.After-put-l invariant-loop-why decreases-loop-why → State
 before c = let l = c.loop-why in state_of l.l l.qfs
 
 abbrev after : tie.After-put-l invariant-loop-why decreases-loop-why → State
-after c = state_of c.put-l.result c.put-l.new.0
+after c = state_of c.put-l.result c.put-l.new.qfs
 
 state-is : (c : tie.After-put-l invariant-loop-why decreases-loop-why) → let k = c.before.before in
     let m = k.args.table in

@@ -29,7 +29,7 @@ on : (c : tie.Else-e invariant-loop-e decreases-loop-e) → let p = c.before.bef
     let l = k.before.before.before.before in
     let a = l.args in
     let e = k.event_at-e.result in
-    Stands a.«data».now a.start e.next p.put_at-after.result (l.loop-e.spelled + e.spelled) p.put_at-after.new.1.1.0
+    Stands a.«data».now a.start e.next p.put_at-after.result (l.loop-e.spelled + e.spelled) p.put_at-after.new.places
 on c =
     let p = c.before.before.before in
     let k = p.before.before in
@@ -94,7 +94,7 @@ returns-then-e c = λ z.
     let k = p.before.before in
     let l = k.before.before.before.before in
     let a = l.args in
-    subst⁻¹ (λ (r : ListAt). ListTold a.«data».now a.start r p.put_at-after.new.1.1.0) c.list_to.ensures
+    subst⁻¹ (λ (r : ListAt). ListTold a.«data».now a.start r p.put_at-after.new.places) c.list_to.ensures
     (put_last a.«data».now a.start l.loop-e.at l.loop-e.place l.loop-e.spelled l.loop-e.places l.loop-e.invariant k.event_at-e.result (here k) _ _
     p.put_at-after.ensures.0 p.put_at-after.ensures.1 t.if-after-eq0.false t.if-e.true)
 
@@ -145,7 +145,7 @@ returns-then-f c = λ z.
     let e = m.event_at-e.result in
     let l = m.before.before.before.before.before.before in
     let a = l.args in
-    subst⁻¹ (λ (r : ListAt). ListTold a.«data».now a.start r p.put_at-more.new.1.1.0) c.list_to-then-f.ensures
+    subst⁻¹ (λ (r : ListAt). ListTold a.«data».now a.start r p.put_at-more.new.places) c.list_to-then-f.ensures
     (put_last a.«data».now a.start e.next m.put_at-after.result (l.loop-e.spelled + e.spelled) _ (on f) k.second_at-f.result (there k) _ _
     p.put_at-more.ensures.0 p.put_at-more.ensures.1 t.if-more-eq0.false t.if-f.true)
 

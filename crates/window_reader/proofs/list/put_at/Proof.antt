@@ -3,6 +3,7 @@ use mathlib.Core.Path.{refl, ap}
 use Prim.Native.Nat.{ℕ, ◌+◌}
 use lib.ListN.{set}
 use mir.Facts.{to_z-of_z}
+use mir.Syntax.{w32}
 use borrow.Author.Rules.{rules}
 use borrow.Author.Tests.{le-ltb, lt-ltb}
 use Rattle.numbers.proofs.Words.{fits_mag}
@@ -32,7 +33,7 @@ returns c =
     let s = c.before.before.before in
     let a = s.args in
     let land : ℕ = a.place + a.e.run in
-    rw (lt-ltb land 64 c.if-land-ge64.false) (refl, ap (set a.places.now land) (to_z-of_z (fits_mag 2047 tt a.e.level s.requires.2)))
+    rw (lt-ltb land 64 c.if-land-ge64.false) (refl, ap (set a.places.now land) (to_z-of_z {w = w32} (fits_mag 2047 tt a.e.level s.requires.2)))
 
 pub put_at_spec : {M : Type 1} → statement M
 put_at_spec =

@@ -60,9 +60,9 @@ returns c = λ z.
     let r = k.dc_at-dc.result in
     let t = part k in
     let one = c.list_at-one in
-    subst₂ (λ (b : Bool) (x : ℤ). BlockTold d a.at a.component b one.result (set one.new.1.1.1.1.0 0 x))
+    subst₂ (λ (b : Bool) (x : ℤ). BlockTold d a.at a.component b one.result (set one.new.places 0 x))
     (sym c.if-not-coded.false) (sym (difference_back d a.at a.component r t))
-    (block_listed d a.at a.component r t one.result one.new.1.1.1.1.0 (one.ensures z))
+    (block_listed d a.at a.component r t one.result one.new.places (one.ensures z))
 
 pub block_at_spec : {M : Type 1} → statement M
 block_at_spec =

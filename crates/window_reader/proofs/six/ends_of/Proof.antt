@@ -45,7 +45,7 @@ loop-i-smaller c = omega arith
 loop-i-preserved : tie.Need-loop-i-preserved invariant-loop-i decreases-loop-i
 loop-i-preserved c =
     let l = c.loop-i in
-    let s = c.before.before.before.before in
+    let s = c.before.before.before.before.before in
     let t = c.loop-i-test.true in (
       omega arith,
       length-set l.ends l.i c.end_of.result ∙ l.invariant.1,

@@ -46,7 +46,7 @@ returns-then-six-ne0 c =
     let d = a.«data».now in
     let at = a.c.bit_pos in
     then_2 list_outcome
-    (six_answer d at a.pattern a.dc_coded a.reversible one.result c.spellings_of.result one.new.1.1.1.0 one.new.1.1.1.1.0 (inside k) c.if-dc_coded-reversible.true (one.ensures c.if-six-ne0.true) c.spellings_of.ensures)
+    (six_answer d at a.pattern a.dc_coded a.reversible one.result c.spellings_of.result one.new.rows one.new.ends (inside k) c.if-dc_coded-reversible.true (one.ensures c.if-six-ne0.true) c.spellings_of.ensures)
     (blocks_due_lem d at a.pattern a.dc_coded a.reversible)
 
 six_plainly-requires : tie.Need-six_plainly-requires

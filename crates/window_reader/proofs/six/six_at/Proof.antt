@@ -71,7 +71,7 @@ loop-i-preserved c =
     let a = k.args in
     let d = a.«data».now in
     let one = k.block_at-one in
-    let qfs = one.new.1.1.1.1.1.1.0 in
+    let qfs = one.new.places in
     rows_on d a.start a.pattern l.i l.at l.spelled l.rows l.ends l.invariant k.loop-i-test.true one.result qfs
     (subst (λ (m : DcComponent). BlockTold d l.at m (get_or a.pattern l.i false) one.result qfs) k.component.ensures (one.ensures c.if-one-eq0.false))
 
