@@ -1,4 +1,5 @@
 -- `coefficients::handed::put_side` meets its contract: the side of the direction, where it is there. Assumes nothing.
+use mathlib.Core.Bool.{false, true}
 use mathlib.Core.Path.{◌≡◌, ◌∙◌}
 use mir.Syntax.{w32}
 use mir.Val.{of_z, to_z}
@@ -18,7 +19,8 @@ returns-then-not-p : tie.Need-returns-then-not-p
 returns-then-not-p c =
     let e = c.before.before.before.before in
     let a = e.args in
-    c.put_dcs.ensures ∙ (rw (e.in-FromLeft.is, c.if-not-p.true))
+    let u : a.p.a_has_column ≡ false = not-true _ c.if-not-p.true in
+    c.put_dcs.ensures ∙ (rw (e.in-FromLeft.is, u))
 
 put_numbers-requires : tie.Need-put_numbers-requires
 put_numbers-requires c κs = search rules
@@ -33,7 +35,8 @@ returns-then-not-p-2 : tie.Need-returns-then-not-p-2
 returns-then-not-p-2 c =
     let e = c.before.before.before.before in
     let a = e.args in
-    c.put_dcs-then-not-p-2.ensures ∙ (rw (e.in-FromAbove.is, c.if-not-p-2.true))
+    let u : a.p.c_has_row ≡ false = not-true _ c.if-not-p-2.true in
+    c.put_dcs-then-not-p-2.ensures ∙ (rw (e.in-FromAbove.is, u))
 
 put_numbers-requires-in-FromAbove : tie.Need-put_numbers-requires-in-FromAbove
 put_numbers-requires-in-FromAbove c κs = search rules
@@ -51,9 +54,10 @@ returns-else-not-p c =
     let fa : to_z w32 (of_z w32 p.fa_dc) ≡ p.fa_dc = search rules in
     let fb : to_z w32 (of_z w32 p.fb_dc) ≡ p.fb_dc = search rules in
     let fc : to_z w32 (of_z w32 p.fc_dc) ≡ p.fc_dc = search rules in
+    let left : p.a_has_column ≡ true = not-false _ l.if-not-p.false in
     c.put_numbers.ensures
     ∙ (λ i. numbers_of (fa i) (fb i) (fc i) p.qp_a p.a_first_column)
-    ∙ (rw (e.in-FromLeft.is, l.if-not-p.false))
+    ∙ (rw (e.in-FromLeft.is, left))
 
 returns-else-not-p-2 : tie.Need-returns-else-not-p-2
 returns-else-not-p-2 c =
@@ -68,9 +72,10 @@ returns-else-not-p-2 c =
     let fa : to_z w32 (of_z w32 p.fa_dc) ≡ p.fa_dc = search rules in
     let fb : to_z w32 (of_z w32 p.fb_dc) ≡ p.fb_dc = search rules in
     let fc : to_z w32 (of_z w32 p.fc_dc) ≡ p.fc_dc = search rules in
+    let above : p.c_has_row ≡ true = not-false _ l.if-not-p-2.false in
     c.put_numbers-in-FromAbove.ensures
     ∙ (λ i. numbers_of (fa i) (fb i) (fc i) p.qp_c p.c_first_row)
-    ∙ (rw (e.in-FromAbove.is, l.if-not-p-2.false))
+    ∙ (rw (e.in-FromAbove.is, above))
 
 pub put_side_spec : {M : Type 1} → statement M
 put_side_spec =

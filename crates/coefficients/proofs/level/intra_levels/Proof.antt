@@ -34,7 +34,7 @@ fine-requires c κs = search rules
 returns-then-not-fine : tie.Need-returns-then-not-fine
 returns-then-not-fine c =
     let args = c.args in
-    also stage_outcome (rw (flag_refuses c.fine.ensures c.if-not-fine.true) (refl, refl)) (levels_due_lem args.quantiser_scale args.predictors args.t1)
+    also stage_outcome (rw (flag_refuses c.fine.ensures c.if-not-fine.true) (refl, refl)) (levels_due_lem args.quantiser_scale args.predictors args.qfs)
 
 predictors_fine-requires : tie.Need-predictors_fine-requires
 predictors_fine-requires c κs = search rules
@@ -42,7 +42,7 @@ predictors_fine-requires c κs = search rules
 returns-then-not-predictors_fine : tie.Need-returns-then-not-predictors_fine
 returns-then-not-predictors_fine c =
     let args = c.args in
-    also stage_outcome (rw (context-ok c.before.before, flag_refuses c.predictors_fine.ensures c.if-not-predictors_fine.true) (refl, refl)) (levels_due_lem args.quantiser_scale args.predictors args.t1)
+    also stage_outcome (rw (context-ok c.before.before, flag_refuses c.predictors_fine.ensures c.if-not-predictors_fine.true) (refl, refl)) (levels_due_lem args.quantiser_scale args.predictors args.qfs)
 
 needed-requires : tie.Need-needed-requires
 needed-requires c κs = search rules
@@ -58,11 +58,11 @@ start c = c.before.before.before.before.before.before
 
 -- up to 64 they are all places
 up_to_same : (s : tie.Start) → up_to 64 s.args.qfs ≡ s.args.qfs
-up_to_same s = up_to_all 64 s.args.qfs (good_length (e_s_int w32) 64 s.args.qfs _ s.good.0) (λ k h l. absurd (omega arith))
+up_to_same s = up_to_all 64 s.args.qfs (good_length (e_s_int w32) 64 s.args.qfs _ s.well_formed.0) (λ k h l. absurd (omega arith))
 
 -- what is needed gives the answer and the levels of the predictors
 abbrev got : tie.After-needed → List ℤ
-got c = c.needed.new.1.1.1.0
+got c = c.needed.new.numbers
 
 answer-is : (c : tie.After-needed) → let a = (start c).args in levels_answer a.quantiser_scale (numbered (got c)) (up_to 64 a.qfs) ≡ levels_answer a.quantiser_scale a.predictors a.qfs
 answer-is c =

@@ -70,10 +70,10 @@ sum_is c =
     let e : t.in-Is.scaler ≡ dc_scaler s.args.component s.args.q = cc in
     let a = held (get_or n 0 (pos 0)) c.predict_intra_dc-arg-1.given in
     let b = held (get_or n 2 (pos 0)) c.predict_intra_dc-arg-2-1.given in
-    let p = numbers_passing n s.pre.2 in
+    let p = numbers_passing n s.requires.2 in
     c.predict_intra_dc.ensures.0
-    ∙ (λ i. dc_answer (to_z-of_z s.fits.difference i) s.args.direction (a i) (b i) (e i))
-    ∙ dc-given s.args.difference s.args.direction (get_or n 0 (pos 0)) (get_or n 2 (pos 0)) (dc_scaler s.args.component s.args.q) s.pre.0 p.a p.c
+    ∙ (λ i. dc_answer (to_z-of_z s.ranges.difference i) s.args.direction (a i) (b i) (e i))
+    ∙ dc-given s.args.difference s.args.direction (get_or n 0 (pos 0)) (get_or n 2 (pos 0)) (dc_scaler s.args.component s.args.q) s.requires.0 p.a p.c
 
 enum_known-sum : tie.Need-enum_known-sum
 enum_known-sum c = search rules

@@ -19,7 +19,7 @@ fine-requires c κs = search rules
 difference-is : (c : tie.After-fine) → c.fine.result ≡ difference_fine (get_or (up_to c.args.end c.args.qfs.now) 0 (pos 0))
 difference-is c =
     let f = c.first_place in
-    c.fine.ensures ∙ ap difference_fine (held f.result f.ok ∙ f.ensures)
+    c.fine.ensures ∙ ap difference_fine (held f.result f.type_inv ∙ f.ensures)
 
 returns-then-not-fine : tie.Need-returns-then-not-fine
 returns-then-not-fine c = rw (flag_refuses (difference-is c.before) c.if-not-fine.true)

@@ -50,7 +50,7 @@ quantiser-is c = c.abs.ensures ∙ ap nat_abs (held (get_or c.args.n.now 3 (pos 
 
 -- the seven predictions
 abbrev got : tie.After-predict_seven → List ℤ
-got c = c.predict_seven.new.1.1.1.0
+got c = c.predict_seven.new.more
 
 values_small : (c : tie.After-seven_in) (k : ℕ) → k < 7 → nat_abs (get_or (seven_in c.args.n.now) k (pos 0)) ≤ 2048
 values_small c k h =
@@ -60,18 +60,18 @@ values_small c k h =
 predictions_are : (c : tie.After-predict_seven) → let n = (start c).args.n.now in got c ≡ seven_predicted (seven_in n) (nat_abs (get_or n 3 (pos 0))) (start c).args.q
 predictions_are c =
     let s = start c in
-    let p = numbers_passing s.args.n.now s.pre.1 in
+    let p = numbers_passing s.args.n.now s.requires.1 in
     let b = c.before.before in
     let v = b.seven_in in
     c.predict_seven.ensures.0.1
-    ∙ seven-given v.result b.abs.result s.args.q _ s.pre.0 (ap quantiser_fine (quantiser-is b) ∙ p.quantiser) (ap (every level_fine) v.ensures ∙ p.values)
+    ∙ seven-given v.result b.abs.result s.args.q _ s.requires.0 (ap quantiser_fine (quantiser-is b) ∙ p.quantiser) (ap (every level_fine) v.ensures ∙ p.values)
     ∙ (λ i. seven_predicted (v.ensures i) (quantiser-is b i) s.args.q)
 
 predictions_small : (c : tie.After-predict_seven) (k : ℕ) → k < 7 → nat_abs (get_or (got c) k (pos 0)) ≤ 1046528
 predictions_small c =
     let s = start c in
     let n = s.args.n.now in
-    let r = quantiser_range (nat_abs (get_or n 3 (pos 0))) (numbers_passing n s.pre.1).quantiser in
+    let r = quantiser_range (nat_abs (get_or n 3 (pos 0))) (numbers_passing n s.requires.1).quantiser in
     seven-abs (seven_in n) (nat_abs (get_or n 3 (pos 0))) s.args.q (values_small c.before.before.before.before) (omega arith) (got c) (predictions_are c)
 
 enum_told-1 : tie.Need-enum_told-1
@@ -103,7 +103,7 @@ returns-in-FromLeft c =
     let p = numbered a.n.now in
     c.add_column.ensures
     ∙ ap (λ (more : List ℤ). column_added 7 more a.qf.now) (predictions_are t)
-    ∙ left_added a.qf.now s.pre.2 p a.q refl
+    ∙ left_added a.qf.now s.requires.2 p a.q refl
     ∙ (λ i. ac_predicted (sym (set_is t.before.before.before.before.before) i) (sym e.in-FromLeft.is i) p a.q a.qf.now)
 
 returns-in-FromAbove : tie.Need-returns-in-FromAbove
@@ -115,7 +115,7 @@ returns-in-FromAbove c =
     let p = numbered a.n.now in
     c.add_row.ensures
     ∙ ap (λ (more : List ℤ). row_added 7 more a.qf.now) (predictions_are t)
-    ∙ above_added a.qf.now s.pre.2 p a.q refl
+    ∙ above_added a.qf.now s.requires.2 p a.q refl
     ∙ (λ i. ac_predicted (sym (set_is t.before.before.before.before.before) i) (sym e.in-FromAbove.is i) p a.q a.qf.now)
 
 pub predict_spec : {M : Type 1} → statement M

@@ -71,10 +71,10 @@ predict-requires c κs =
     let l = c.before.before.before in
     let s = start l in
     let a = s.args in (
-      s.pre.0,
-      s.pre.1,
+      s.requires.0,
+      s.requires.1,
       subst Levelled (sym c.put_scanned.ensures)
-          (scanned_levelled (up_to a.end a.qfs.now) (up_to_length a.end a.qfs.now) _ (scan_of_lem l) (ap level_fine (level-is l) ∙ saturated-fine (unlimited l)) s.pre.2),
+          (scanned_levelled (up_to a.end a.qfs.now) (up_to_length a.end a.qfs.now) _ (scan_of_lem l) (ap level_fine (level-is l) ∙ saturated-fine (unlimited l)) s.requires.2),
     )
 
 returns : tie.Need-returns

@@ -75,7 +75,7 @@ overflow_sub-result c = fits (x₄ c) tt
 returns : tie.Need-returns
 returns c =
     let z = (s c).args.qf in
-    let q = (s c).args.quantiser-scale in
+    let q = (s c).args.quantiser_scale in
     back (x₄ c) tt
     ∙ ap (λ (t : ℤ). (pos 2 *ℤ z +ℤ t) *ℤ pos q -ℤ t *ℤ (pos 1 -ℤ pos (q % 2))) (sign-is c)
     ∙ method2-is z q (s c).requires.1

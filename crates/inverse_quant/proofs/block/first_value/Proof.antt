@@ -22,7 +22,7 @@ given c =
     ∙ intra_dc_given a.level x.component x.quantiser_scale x.short_video_header (quantiser-fine x s.requires.1) s.requires.0
 
 returns-then-not-ctx : tie.Need-returns-then-not-ctx
-returns-then-not-ctx c = let s = c.before.before in rw c.if-not-ctx.true (to_z-of_z s.ranges.value)
+returns-then-not-ctx c = let s = c.before.before in rw (not-true _ c.if-not-ctx.true) (to_z-of_z s.ranges.value)
 
 inverse_quant_intra_dc-dc-requires : tie.Need-inverse_quant_intra_dc-dc-requires
 inverse_quant_intra_dc-dc-requires c κs = search rules
@@ -47,7 +47,7 @@ returns-in-Is c =
     let s = k.before.before.before in
     let a = s.args in
     let z = c.in-Is in
-    rw k.if-not-ctx.false
+    rw (not-false _ k.if-not-ctx.false)
     (held c.saturate_fprime.result c.saturate_fprime.type_inv ∙ c.saturate_fprime.ensures
     ∙ ap (limited_f a.ctx.bits_per_pixel)
     (held z.z c.in-Is.known_told-1-own.given.0.1 ∙ value_is k.inverse_quant_intra_dc-dc.result z.z _ (given k) z.is))

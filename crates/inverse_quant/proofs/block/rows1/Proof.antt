@@ -44,7 +44,7 @@ module _ (c : tie.After-fill1-filled) where
   rows = rows_by1 s.args.ctx s.args.w.now qf
 
   abbrev f : List (List ℤ)
-  f = c.fill1-filled.new.1.1.1.0
+  f = c.fill1-filled.new.f
 
   fine : block_fine qf ≡ true
   fine = in_range c.before.before.before

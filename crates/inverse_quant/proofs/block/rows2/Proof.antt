@@ -92,7 +92,7 @@ unfolding dequantised2
 returns c =
     let e = c.before.before.before in
     let x = (s e).args.ctx in
-    let f = e.fill2.new.1.1.0 in
+    let f = e.fill2.new.f in
     let filled : f ≡ rows e = e.fill2.ensures in
     let first = cell (qf e) 0 0 in
     let value = held (cell f 0 0) c.first_value-arg-2-1.given ∙ ap (λ (b : List (List ℤ)). cell b 0 0) filled in

@@ -48,15 +48,15 @@ loop-u-preserved c =
     let u = a.loop-u.u in
     let z = get_or r u (pos 0) in (
       omega arith,
-      test_more is_zero (pos 0) r (every is_zero r) u (eqb a.loop-u.some 0) (eqb (of_z w32 z) 0) (omega (arith, eight a.before)) a.loop-u.invariant.1 (bits-zero z (fits_ok w32 z c.some-1.given))
-          ∙ ap (λ (t : Bool). t && every is_zero (drop (u + 1) r)) (or-zero a.loop-u.some (of_z w32 z)),
+      test_more is_zero (pos 0) r (every is_zero r) u (eqb a.loop-u.some-bits 0) (eqb (of_z w32 z) 0) (omega (arith, eight a.before)) a.loop-u.invariant.1 (bits-zero z (fits_ok w32 z c.some-1.given))
+          ∙ ap (λ (t : Bool). t && every is_zero (drop (u + 1) r)) (or-zero a.loop-u.some-bits (of_z w32 z)),
     )
 
 returns : tie.Need-returns invariant-loop-u decreases-loop-u
 returns c =
     let a = c.before in
     let r = a.args.row in
-    test_done is_zero (pos 0) r (every is_zero r) a.loop-u.u (eqb a.loop-u.some 0) (omega (arith, eight a.before)) a.loop-u.invariant.1
+    test_done is_zero (pos 0) r (every is_zero r) a.loop-u.u (eqb a.loop-u.some-bits 0) (omega (arith, eight a.before)) a.loop-u.invariant.1
 
 pub row_zero_spec : {M : Type 1} → statement M
 row_zero_spec = tie.close (tie.spec invariant-loop-u decreases-loop-u loop-u-init offset_bounds-row-u bounds-row-u overflow_step-u loop-u-smaller loop-u-preserved returns)

@@ -32,7 +32,7 @@ returns-then-not-ctx c =
     let e = c.before in
     let s = e.before.before in
     let a = s.args in
-    rw e.if-not-ctx.true
+    rw (not-true _ e.if-not-ctx.true)
     (held c.other1.result c.other1.type_inv ∙ c.other1.ensures
     ∙ ap (λ (z : ℤ). limited_f a.ctx.bits_per_pixel (method1 false z a.weight a.ctx.quantiser_scale)) (level_back s))
 
@@ -56,7 +56,7 @@ returns c =
     (back (part m) tt
     ∙ ap (λ (z : ℤ). quot_z z (pos 8)) (m.product-f.ensures ∙ ap (λ (z : ℤ). z *ℤ pos a.weight *ℤ pos a.ctx.quantiser_scale) (level_back s))
     ∙ method1_eighth a.level a.weight a.ctx.quantiser_scale
-    ∙ ap (λ (t : Bool). method1 t a.level a.weight a.ctx.quantiser_scale) (sym e.if-not-ctx.false))
+    ∙ ap (λ (t : Bool). method1 t a.level a.weight a.ctx.quantiser_scale) (sym (not-false _ e.if-not-ctx.false)))
 
 pub value1_spec : {M : Type 1} → statement M
 value1_spec =

@@ -15,10 +15,10 @@ module _ (s : tie.Start) where
   reads_a = let g = s.well_formed in search rules
 
   reads_b : to_z w32 (of_z w32 s.args.b) ≡ s.args.b
-  reads_b = let g = s.good in search rules
+  reads_b = let g = s.well_formed in search rules
 
   reads_c : to_z w32 (of_z w32 s.args.c) ≡ s.args.c
-  reads_c = let g = s.good in search rules
+  reads_c = let g = s.well_formed in search rules
 
 put_numbers-requires : tie.Need-put_numbers-requires
 put_numbers-requires c κs = search rules
