@@ -1,10 +1,11 @@
 // Reads standard input and writes what is said to it; the work is in `still_lines`.
 #![tactic(auto)]
 
-use libc::{STDIN_FILENO, STDOUT_FILENO};
+use std::io;
+use std::io::Read;
 use still_lines::{Reading, Stepped};
 
-// Where reading stands, and whether it goes on: not after a read or a write that failed, nor at the end.
+// Where reading stands, and whether it goes on: not after the end, nor where the lent memory is too short.
 #[derive(Clone, Copy)]
 struct Going {
     reading: Reading,
@@ -12,6 +13,7 @@ struct Going {
 }
 
 fn byte(
+    rt: &impl Print,
     r: Reading,
     b: u8,
     line: &mut [u8],
@@ -19,21 +21,25 @@ fn byte(
     samples: &mut [i32],
     store: &mut [i32],
     out: &mut [u8],
-) -> Going {
+) -> io::Result<Going> {
     let s = still_lines::step(r, b, line, data, samples, store, out);
     match s {
-        Stepped::TooShort => Going {
+        Stepped::TooShort => Ok(Going {
             reading: r,
             on: false,
-        },
+        }),
         Stepped::Went(next, n) => {
-            let on = io::write_all(STDOUT_FILENO, &out[..n]);
-            Going { reading: next, on }
+            rt.write_all(&out[..n])?;
+            Ok(Going {
+                reading: next,
+                on: true,
+            })
         }
     }
 }
 
 fn bytes(
+    rt: &impl Print,
     r: Reading,
     chunk: &[u8],
     line: &mut [u8],
@@ -41,7 +47,7 @@ fn bytes(
     samples: &mut [i32],
     store: &mut [i32],
     out: &mut [u8],
-) -> Going {
+) -> io::Result<Going> {
     let mut g = Going {
         reading: r,
         on: true,
@@ -49,32 +55,35 @@ fn bytes(
     let mut i = 0;
     while i < chunk.len() {
         if !g.on {
-            return g;
+            return Ok(g);
         }
         let reading = g.reading;
-        g = byte(reading, chunk[i], line, data, samples, store, out);
+        g = byte(rt, reading, chunk[i], line, data, samples, store, out)?;
         i += 1;
     }
-    g
+    Ok(g)
 }
 
 fn end(
+    rt: &impl Print,
     r: Reading,
     line: &[u8],
     data: &mut [u8],
     samples: &mut [i32],
     store: &mut [i32],
     out: &mut [u8],
-) -> bool {
+) -> io::Result<()> {
     let s = still_lines::finish(r, line, data, samples, store, out);
     match s {
-        Stepped::TooShort => false,
-        Stepped::Went(_, n) => io::write_all(STDOUT_FILENO, &out[..n]),
+        Stepped::TooShort => Ok(()),
+        Stepped::Went(_, n) => rt.write_all(&out[..n]),
     }
 }
 
 // One read. One that fails is not the end of the input: nothing more is said.
 fn turn(
+    rt: &impl Print,
+    input: &mut impl Read,
     r: Reading,
     buffer: &mut [u8],
     line: &mut [u8],
@@ -82,63 +91,60 @@ fn turn(
     samples: &mut [i32],
     store: &mut [i32],
     out: &mut [u8],
-) -> Going {
-    let got = libc::read(STDIN_FILENO, buffer);
-    if got < 0 {
-        return Going {
-            reading: r,
-            on: false,
-        };
-    }
-    let n = io::count(got, &*buffer);
+) -> io::Result<Going> {
+    let n = input.read(buffer)?;
     if n == 0 {
-        end(r, &*line, data, samples, store, out);
-        return Going {
+        end(rt, r, &*line, data, samples, store, out)?;
+        return Ok(Going {
             reading: r,
             on: false,
-        };
+        });
     }
-    bytes(r, &buffer[..n], line, data, samples, store, out)
+    bytes(rt, r, &buffer[..n], line, data, samples, store, out)
 }
 
-// A proved loop has to end: it counts its turns down, from a number that no run uses up.
+// A proved loop has to end: it has more turns than any run uses up.
 fn run(
+    rt: &impl Print,
+    input: &mut impl Read,
     buffer: &mut [u8],
     line: &mut [u8],
     data: &mut [u8],
     samples: &mut [i32],
     store: &mut [i32],
     out: &mut [u8],
-) {
+) -> io::Result<()> {
     let r = still_lines::start();
     let mut g = Going {
         reading: r,
         on: true,
     };
-    let mut turns = u64::MAX;
-    while turns > 0 {
+    for _ in 0..u64::MAX {
         if !g.on {
-            return;
+            return Ok(());
         }
         let reading = g.reading;
-        g = turn(reading, buffer, line, data, samples, store, out);
-        turns -= 1;
+        g = turn(rt, input, reading, buffer, line, data, samples, store, out)?;
     }
+    Ok(())
 }
 
-fn main() {
-    let mut buffer = io::large_buffer();
+fn main(rt: HostRuntime) -> io::Result<()> {
+    let mut input = rt.stdin();
+    let mut buffer = [0u8; 65536];
     let mut line = [0u8; 32768];
     let mut data = [0u8; 16384];
     let mut samples = [0i32; 384];
     let mut store = [0i32; 8640];
     let mut out = [0u8; 512];
     run(
+        &rt,
+        &mut input,
         &mut buffer,
         &mut line,
         &mut data,
         &mut samples,
         &mut store,
         &mut out,
-    );
+    )
 }
