@@ -22,7 +22,7 @@ enum_told-in-Done : tie.Need-enum_told-in-Done
 enum_told-in-Done c = search rules
 
 -- the record that was begun
-begun : (c : tie.In-Done) → c.new_record-begun.new.1.0 ≡ blank c.args.p.quantiser_scale
+begun : (c : tie.In-Done) → c.new_record-begun.new.own ≡ blank c.args.p.quantiser_scale
 begun c = let n = c.new_record-begun in n.ensures.0.1 ∙ handed_out _ _ (sym n.ensures.0.0 ∙ c.in-Done.is)
 
 slice_bounds-neighbours_fine-end : tie.Need-slice_bounds-neighbours_fine-end
