@@ -68,7 +68,7 @@ decoded-requires c κs = search rules
 
 -- nothing of it is refused, and it is rebuilt by all its predictors
 whole : (c : tie.After-rebuild_up_to-rebuilt) → let r = c.before.before.before.before.before.before.before.before.before in let a = r.args in
-    Given a.component a.ctx a.predictors a.w r.read_block-one.result.qfs Fine c.rebuild_up_to-rebuilt.result c.rebuild_up_to-rebuilt.new.1.1.1.1.1.1.0 a.spatial.now c.rebuild_up_to-rebuilt.new.1.1.1.1.1.1.1.0 a.qf.now
+    Given a.component a.ctx a.predictors a.w r.read_block-one.result.qfs Fine c.rebuild_up_to-rebuilt.result c.rebuild_up_to-rebuilt.new.spatial a.spatial.now c.rebuild_up_to-rebuilt.new.qf a.qf.now
 whole c =
     let p = c.before.before.before.before in
     let n = p.before in

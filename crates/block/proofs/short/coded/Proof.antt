@@ -18,14 +18,14 @@ use Rattle.block.proofs.short.coded.Tie as tie
 
 -- the levels that the stage left
 levels-are : (c : tie.In-Done) → let l = c.before in let a = l.args in
-    l.intra_levels_up_to-stage.new.1.1.1.1.1.1.1.0 ≡ levels_here a.component a.ctx (numbered a.n.now) a.w (up_to a.end a.qfs.now)
+    l.intra_levels_up_to-stage.new.qf ≡ levels_here a.component a.ctx (numbered a.n.now) a.w (up_to a.end a.qfs.now)
 levels-are c =
     let l = c.before in
     let a = l.args in
     l.intra_levels_up_to-stage.ensures.0.1 ∙ done_leaves (levels_answer a.ctx.quantiser_scale (numbered a.n.now) (up_to a.end a.qfs.now)) _ _ (sym l.intra_levels_up_to-stage.ensures.0.0 ∙ c.in-Done.is)
 
 -- and where it refused, those that were
-levels-kept : (c : tie.In-Refused) → let l = c.before in l.intra_levels_up_to-stage.new.1.1.1.1.1.1.1.0 ≡ l.args.qf.now
+levels-kept : (c : tie.In-Refused) → let l = c.before in l.intra_levels_up_to-stage.new.qf ≡ l.args.qf.now
 levels-kept c =
     let l = c.before in
     let a = l.args in

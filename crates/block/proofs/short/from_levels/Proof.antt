@@ -29,7 +29,7 @@ done c =
     let a = s.args in
     rows-done a.ctx a.w s.requires.0 a.component a.levels s.requires.1 k.quant_of-quant.result k.quant_of-quant.ensures c.inverse_quant_rows-stage.result c.inverse_quant_rows-stage.ensures.0.0
 
-values-are : (c : tie.After-inverse_quant_rows-stage) → let a = c.args in c.inverse_quant_rows-stage.new.1.1.1.1.1.0 ≡ values_of a.component a.ctx a.w a.levels
+values-are : (c : tie.After-inverse_quant_rows-stage) → let a = c.args in c.inverse_quant_rows-stage.new.out ≡ values_of a.component a.ctx a.w a.levels
 values-are c =
     let k = c.before.before.before in
     let s = k.before in
@@ -37,7 +37,7 @@ values-are c =
     by_rows a.ctx a.w s.requires.0 a.component a.levels s.requires.1 k.quant_of-quant.result k.quant_of-quant.ensures c.inverse_quant_rows-stage.result _ _ c.inverse_quant_rows-stage.ensures.0.0 c.inverse_quant_rows-stage.ensures.0.1
 
 -- they are within the limits, so the transform takes them
-within : (c : tie.After-inverse_quant_rows-stage) → values_fine c.args.ctx.bits_per_pixel c.inverse_quant_rows-stage.new.1.1.1.1.1.0 ≡ true
+within : (c : tie.After-inverse_quant_rows-stage) → values_fine c.args.ctx.bits_per_pixel c.inverse_quant_rows-stage.new.out ≡ true
 within c =
     let a = c.args in
     ap (values_fine a.ctx.bits_per_pixel) (values-are c) ∙ values-fine a.component a.ctx a.w a.levels
@@ -110,7 +110,7 @@ returns-in-Transformed c =
     let e = values-are r in
     let deep = depth-fine x a.w s.requires.0 in
     let small = subst⁻¹ (λ (f : List (List ℤ)). nat_abs (cell f 0 0) ≤ 32768) e (values_small a.component x a.w a.levels deep) in (
-      ap Rebuilt (to_z-of_z (fits_mag 32768 tt _ small) ∙ ap (λ (f : List (List ℤ)). cell f 0 0) e),
+      ap Rebuilt (to_z-of_z {w = w32} (fits_mag 32768 tt _ small) ∙ ap (λ (f : List (List ℤ)). cell f 0 0) e),
       samples-told x _ i.idct_8x8_clipped.result deep (within r) i.idct_8x8_clipped.ensures.0 _ _ _ _ e i.idct_8x8_clipped.ensures.1,
     )
 

@@ -9,10 +9,10 @@ use Rattle.block.proofs.short.stays_alone.Statement.{statement}
 use Rattle.block.proofs.short.stays_alone.Tie as tie
 
 returns-then-not-ctx : tie.Need-returns-then-not-ctx
-returns-then-not-ctx c = rw c.if-not-ctx.true
+returns-then-not-ctx c = rw (not-true c.args.ctx.quant_type c.if-not-ctx.true)
 
 returns-then-ctx : tie.Need-returns-then-ctx
-returns-then-ctx c = rw (c.if-not-ctx.false, c.if-ctx.true)
+returns-then-ctx c = rw (not-false c.args.ctx.quant_type c.if-not-ctx.false, c.if-ctx.true)
 
 nonzero_rem-result : tie.Need-nonzero_rem-result
 nonzero_rem-result c = let s = c.before.before.before in (lit< tt, fits (any s.args.dc s.ranges.dc ⊘ lit (pos 2)) tt)
@@ -20,7 +20,7 @@ nonzero_rem-result c = let s = c.before.before.before in (lit< tt, fits (any s.a
 returns : tie.Need-returns
 returns c =
     let s = c.before.before.before in
-    rw (to_z-of_z s.ranges.dc, rem_tells s.args.dc, c.if-not-ctx.false, c.if-ctx.false)
+    rw (to_z-of_z s.ranges.dc, rem_tells s.args.dc, not-false s.args.ctx.quant_type c.if-not-ctx.false, c.if-ctx.false)
 
 pub stays_alone_spec : {M : Type 1} → statement M
 stays_alone_spec = tie.close (tie.spec returns-then-not-ctx returns-then-ctx nonzero_rem-result returns)

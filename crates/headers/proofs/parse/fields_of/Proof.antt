@@ -40,7 +40,7 @@ returns c =
     let t = l.before.before.before.before.before.before in
     let s = t.before in
     let a = s.args in
-    fields_are a.p a.quantiser_scale s.requires.0 t.type_of-mb_type.result t.type_of-mb_type.ensures _ (to_z-of_z (fits_mag 2 tt a.p.dquant_delta s.requires.0.2))
+    fields_are a.p a.quantiser_scale s.requires.0 t.type_of-mb_type.result t.type_of-mb_type.ensures _ (to_z-of_z {w = w32} (fits_mag 2 tt a.p.dquant_delta s.requires.0.2))
     l.limited.result (l.limited.ensures ∙ ap limited_quantiser (back (changed s) tt))
 
 pub fields_of_spec : {M : Type 1} → statement M

@@ -77,17 +77,17 @@ returns-then-one-eq0 c =
     (header_read_due_lem d a.c.bit_pos a.quantiser_scale)
 
 fields_of-fields-requires : tie.Need-fields_of-fields-requires
-fields_of-fields-requires c κs = ((parts c).fine, below c.before.before.before)
+fields_of-fields-requires c κs = ((parts c.before).fine, below c.before.before.before.before)
 
 returns : tie.Need-returns
 returns c =
     let t = c.before in
-    let e = t.before.before.before in
+    let e = t.before.before.before.before in
     let k = e.before.before in
     let a = k.args in
     let d = a.«data».now in
     both header_read_outcome
-    (header-given d a.c.bit_pos a.quantiser_scale _ _ (t.parts_at-one.ensures t.if-one-eq0.false).inside (parts t) _ c.fields_of-fields.ensures
+    (header-given d a.c.bit_pos a.quantiser_scale _ _ (t.parts_at-one.ensures t.if-one-eq0.false).inside (parts t.before) _ c.fields_of-fields.ensures
     ∙ sym (header_read d a.c.bit_pos a.quantiser_scale (inside k) (fine e)))
     (header_read_due_lem d a.c.bit_pos a.quantiser_scale)
 

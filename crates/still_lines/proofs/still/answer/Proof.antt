@@ -61,7 +61,7 @@ returns-then-not-s c =
     let a = s.args in
     let m = formed j in
     let r = without a.s a.samples.now a.store.now a.line.now _ _ _ _ _ m.bytes
-    (left_by a.s a.samples.now a.store.now a.line.now _ m.is) c.if-not-s.true in
+    (left_by a.s a.samples.now a.store.now a.line.now _ m.is) (not-true a.s.has_picture c.if-not-s.true) in
     ((r.0.0, (c.empty-text-then-not-s.ensures.0 ∙ r.0.1, omega (arith, c.empty-text-then-not-s.ensures.1))), (p.parse-form.ensures.1, r.1))
 
 slice_bounds-decoded-end : tie.Need-slice_bounds-decoded-end

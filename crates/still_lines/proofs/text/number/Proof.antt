@@ -11,7 +11,7 @@ use Rattle.still_lines.proofs.text.number.Statement.{statement}
 use Rattle.still_lines.proofs.text.number.Tie as tie
 
 -- at most 20 digits
-few : (k : tie.After-digits-2-1) → length (take k.decimal-k.result k.decimal-k.new.1.0) ≤ 20
+few : (k : tie.After-digits-2-1) → length (take k.decimal-k.result k.decimal-k.new.out) ≤ 20
 few k =
     let d = k.decimal-k in
     let s = k.before.before.before in
