@@ -1,4 +1,5 @@
 -- `block::short::from_levels` meets its contract: neither inverse quantisation nor the transform refuses. Assumes nothing.
+use mir.Syntax.{w32}
 use mathlib.Core.Bool.{true}
 use mathlib.Core.List.{List}
 use mathlib.Core.Path.{◌≡◌, ap, subst⁻¹, ◌∙◌}

@@ -143,7 +143,7 @@ returns-else-not-s c =
     let b = data_is a.line.now a.«data».now s.requires m _ p.parse.ensures.1 in
     let x = ap (λ (bs : List ℕ). input_of g.0 g.1.0 g.1.1.0 g.1.1.1.0 g.1.1.1.1.0 bs ss) b in
     let r = within S ss t a.line.now _ _ _ _ _ m.bytes (left_by S ss t a.line.now _ m.is)
-    d.if1.false in
+    (not-false S.has_picture d.if-not-s.false) in
     let o = d.decoded.ensures in (
       (
         o.0.0 ∙ ap (λ (y : Input). still_decoded S (answer_out S.picture y t)) x ∙ r.0.0,
