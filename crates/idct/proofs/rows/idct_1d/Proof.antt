@@ -1,6 +1,5 @@
 -- `idct::rows::idct_1d` meets its contract: one term a turn, at every x. Assumes nothing.
 use mathlib.Core.List.{List, []}
-use mathlib.Core.Logic.{⊎_elim}
 use mathlib.Core.Path.{◌≡◌, ap, ◌∙◌}
 use Prim.Native.Nat.{ℕ, ◌-◌, ◌≤◌}
 use native.Mathlib.Omega.{arith}
@@ -10,6 +9,7 @@ use Rattle.numbers.proofs.Fill.{build-eq, get_or-build}
 use Rattle.numbers.specs.Grid.{build}
 use Rattle.cosines.specs.Cosines.{cos_f}
 use Rattle.idct.proofs.Loops.{sum_at, no_terms, one_more_lem, none_more, all_terms}
+use Rattle.idct.proofs.rows.idct_1d.Lts.{then-f, else-f}
 use Rattle.idct.proofs.rows.idct_1d.Statement.{statement}
 use Rattle.idct.proofs.rows.idct_1d.Tie as tie
 
@@ -49,17 +49,15 @@ loop-u-smaller c = omega arith
 
 loop-u-preserved : tie.Need-loop-u-preserved invariant-loop-u decreases-loop-u
 loop-u-preserved c =
-    let o = c.before.before.before in
-    let e = o.before in
-    let u = o.loop-u.u in
+    let u = c.loop-u.u in
     let l = c.loop-u-test.true in
-    let f = ap (λ (k : Float). mul binary64 k (get_or e.args.input u nan)) c.c.ensures in
-    let row = ap (λ (t : List (List Float)). get_or t u []) e.requires ∙ get_or-build 8 (λ (v : ℕ). build 8 (cos_f v)) u [] l in (
+    let f = ap (λ (k : Float). mul binary64 k (get_or c.args.input u nan)) c.c.ensures in
+    let row = ap (λ (t : List (List Float)). get_or t u []) c.requires ∙ get_or-build 8 (λ (v : ℕ). build 8 (cos_f v)) u [] l in (
       omega arith,
-      ⊎_elim
-          (λ w. w.3 ∙ one_more_lem e.args.input u o.loop-u.sums _ _ _ o.loop-u.invariant.1 row f w.2.ensures)
-          (λ w. w.1 ∙ none_more e.args.input u o.loop-u.sums _ o.loop-u.invariant.1 f w.0.left)
-          c.if-f.branch,
+      elim c.if-f.branch [
+        | then-f w ↦ w.sums-is ∙ one_more_lem c.args.input u c.loop-u.sums _ _ _ c.loop-u.invariant.1 row f w.add_term-more.ensures
+        | else-f w ↦ w.sums-is ∙ none_more c.args.input u c.loop-u.sums _ c.loop-u.invariant.1 f w.if-f.false
+      ],
     )
 
 halves-requires : tie.Need-halves-requires invariant-loop-u decreases-loop-u

@@ -40,11 +40,10 @@ loop-u-preserved c =
     let i = c.before.before in
     let row = i.args.row in
     let z = get_or row i.loop-u.u (pos 0) in
-    let k = c.some-1.given in
-    (omega arith, test_more is_zero (pos 0) row _ i.loop-u.u (eqb i.loop-u.some 0) (is_zero z) (omega arith) i.loop-u.invariant.1 refl ∙ ap (λ (b : Bool). b && every is_zero (drop (i.loop-u.u + 1) row)) (sym (both_zero i.loop-u.some z (record { sfits = search rules }))))
+    (omega arith, test_more is_zero (pos 0) row _ i.loop-u.u (eqb i.loop-u.some-bits 0) (is_zero z) (omega arith) i.loop-u.invariant.1 refl ∙ ap (λ (b : Bool). b && every is_zero (drop (i.loop-u.u + 1) row)) (sym (both_zero i.loop-u.some-bits z (record { sfits = search rules }))))
 
 returns : tie.Need-returns invariant-loop-u decreases-loop-u
-returns c = test_done is_zero (pos 0) c.args.row _ c.loop-u.u (eqb c.loop-u.some 0) (omega arith) c.loop-u.invariant.1
+returns c = test_done is_zero (pos 0) c.args.row _ c.loop-u.u (eqb c.loop-u.some-bits 0) (omega arith) c.loop-u.invariant.1
 
 pub zero_row_spec : {M : Type 1} → statement M
 zero_row_spec =

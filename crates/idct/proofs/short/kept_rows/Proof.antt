@@ -1,12 +1,11 @@
 -- `idct::short::kept_rows` meets its contract, one row a turn. Assumes nothing.
-use mathlib.Core.Logic.{⊎_elim}
 use mathlib.Core.Path.{◌≡◌, sym, subst, ◌∙◌}
 use Prim.Native.Nat.{ℕ, ◌+◌, ◌-◌, ◌≤◌}
 use native.Mathlib.Omega.{arith}
-use borrow.Author.Tests.{not-false}
 use Rattle.numbers.proofs.Tests.{true-T}
 use Rattle.idct.specs.ShortWays.{Kept}
 use Rattle.idct.proofs.KeptLaws.{kept_more, kept-none, kept_same, kept_skip}
+use Rattle.idct.proofs.short.kept_rows.Lts.{then-not-zero_row, else-not-zero_row}
 use Rattle.idct.proofs.short.kept_rows.Statement.{statement}
 use Rattle.idct.proofs.short.kept_rows.Tie as tie
 
@@ -54,23 +53,19 @@ loop-v-smaller c = omega arith
 
 loop-v-preserved : tie.Need-loop-v-preserved invariant-loop-v decreases-loop-v
 loop-v-preserved c =
-    let t = c.before in
-    let i = t.before.before in
-    let o = i.before in
-    let l = o.args.f.now in
-    let v = o.loop-v.v in (
+    let l = c.args.f.now in
+    let v = c.loop-v.v in (
       omega arith,
-      ⊎_elim
-          (λ w. kept_same l (v + 1) c.if-not-zero_row.terms _ c.if-not-zero_row.which _ c.if-not-zero_row.n _ w.2 w.3 w.4 (kept_more l v o.loop-v.terms o.loop-v.which o.loop-v.n w.1.result w.1.ensures i.loop-v-test.true o.loop-v.invariant.1))
-          (λ w. kept_same l (v + 1) c.if-not-zero_row.terms _ c.if-not-zero_row.which _ c.if-not-zero_row.n _ w.1 w.2 w.3 (kept_skip l v o.loop-v.terms o.loop-v.which o.loop-v.n (true-T _ (sym t.zero_row.ensures ∙ not-false _ w.0.left)) o.loop-v.invariant.1))
-          c.if-not-zero_row.branch,
+      elim c.if-not-zero_row.branch [
+        | then-not-zero_row w ↦ kept_same l (v + 1) c.if-not-zero_row.terms _ c.if-not-zero_row.which _ c.if-not-zero_row.n _ w.terms-is w.which-is w.n-is (kept_more l v c.loop-v.terms c.loop-v.which c.loop-v.n w.row_terms-more.result w.row_terms-more.ensures c.loop-v-test.true c.loop-v.invariant.1)
+        | else-not-zero_row w ↦ kept_same l (v + 1) c.if-not-zero_row.terms _ c.if-not-zero_row.which _ c.if-not-zero_row.n _ w.terms-is w.which-is w.n-is (kept_skip l v c.loop-v.terms c.loop-v.which c.loop-v.n (true-T _ (sym c.zero_row.ensures ∙ w.if-not-zero_row.false)) c.loop-v.invariant.1)
+      ],
     )
 
 returns : tie.Need-returns invariant-loop-v decreases-loop-v
 returns c =
-    let o = c.before in
-    let h : o.loop-v.v ≡ 8 = omega (arith, o.loop-v.invariant.0, c.loop-v-test.false) in
-    subst (λ (v : ℕ). Kept o.args.f.now v o.loop-v.terms o.loop-v.which o.loop-v.n) h o.loop-v.invariant.1
+    let h : c.loop-v.v ≡ 8 = omega (arith, c.loop-v.invariant.0, c.loop-v-test.false) in
+    subst (λ (v : ℕ). Kept c.args.f.now v c.loop-v.terms c.loop-v.which c.loop-v.n) h c.loop-v.invariant.1
 
 pub kept_rows_spec : {M : Type 1} → statement M
 kept_rows_spec =

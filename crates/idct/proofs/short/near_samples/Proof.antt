@@ -32,18 +32,16 @@ eight_rows-requires c κs = tt
 loop-y-init : tie.Need-loop-y-init invariant-loop-y decreases-loop-y
 unfolding build
 loop-y-init c =
-    let a = c.before.before.args in
+    let a = c.args in
     (omega arith, rows_none (f (to_z w32 (of_z w32 a.lo)) (to_z w32 (of_z w32 a.hi)) a.evens.now a.even.now a.m a.odds.now a.odd.now a.n) (Done 0 0) _ c.eight_rows.ensures done_none, cleared_none (value_of_both a.evens.now a.even.now a.m a.odds.now a.odd.now a.n) (Done 0 0) _ done_none refl)
 
 sums_of-e-requires : tie.Need-sums_of-e-requires invariant-loop-y decreases-loop-y
 sums_of-e-requires c κs =
-    let s = c.before.before.before.before in
-    (s.requires.0, s.requires.1, omega (arith, c.loop-y-test.true), s.requires.3)
+    (c.requires.0, c.requires.1, omega (arith, c.loop-y-test.true), c.requires.3)
 
 sums_of-o-requires : tie.Need-sums_of-o-requires invariant-loop-y decreases-loop-y
 sums_of-o-requires c κs =
-    let s = c.before.before.before.before.before in
-    (s.requires.0, s.requires.2, omega (arith, c.loop-y-test.true), s.requires.4)
+    (c.requires.0, c.requires.2, omega (arith, c.loop-y-test.true), c.requires.4)
 
 plus-sums-requires : tie.Need-plus-sums-requires invariant-loop-y decreases-loop-y
 plus-sums-requires c κs = tt
@@ -56,17 +54,11 @@ farther-far-requires c κs = tt
 
 clipped_row-requires : tie.Need-clipped_row-requires invariant-loop-y decreases-loop-y
 clipped_row-requires c κs =
-    let k = c.before in
-    let p = k.before in
-    let o = p.before in
-    let e = o.before in
-    let i = e.before in
-    let s = i.before.before.before.before in
-    let a = s.args in
-    let y = i.loop-y.y in
-    let h = i.loop-y-test.true in
+    let a = c.args in
+    let y = c.loop-y.y in
+    let h = c.loop-y-test.true in
     let g : y < 8 = omega arith in
-    near_castable (value_of_both a.evens.now a.even.now a.m a.odds.now a.odd.now a.n y) p.plus-sums.result k.near_row-near.result (plus-is a.evens.now a.even.now a.m a.odds.now a.odd.now a.n y h _ _ _ e.sums_of-e.ensures o.sums_of-o.ensures p.plus-sums.ensures) k.near_row-near.ensures (λ x q. s.requires.5 y x g q)
+    near_castable (value_of_both a.evens.now a.even.now a.m a.odds.now a.odd.now a.n y) c.plus-sums.result c.near_row-near.result (plus-is a.evens.now a.even.now a.m a.odds.now a.odd.now a.n y h _ _ _ c.sums_of-e.ensures c.sums_of-o.ensures c.plus-sums.ensures) c.near_row-near.ensures (λ x q. c.requires.5 y x g q)
 
 offset_bounds-out-y : tie.Need-offset_bounds-out-y invariant-loop-y decreases-loop-y
 offset_bounds-out-y c = omega arith
@@ -85,17 +77,11 @@ farther-worst-requires c κs = tt
 
 clipped_row-requires-in-loop-y : tie.Need-clipped_row-requires-in-loop-y invariant-loop-y decreases-loop-y
 clipped_row-requires-in-loop-y c κs =
-    let k = c.before in
-    let t = k.before in
-    let o = t.before.before.before.before.before in
-    let e = o.before in
-    let i = e.before in
-    let s = i.before.before.before.before in
-    let a = s.args in
-    let y = i.loop-y.y in
-    let h = i.loop-y-test.true in
+    let a = c.args in
+    let y = c.loop-y.y in
+    let h = c.loop-y-test.true in
     let g : 7 - y < 8 = omega arith in
-    near_castable (value_of_both a.evens.now a.even.now a.m a.odds.now a.odd.now a.n (7 - y)) t.minus-more.result k.near_row-next.result (minus_is a.evens.now a.even.now a.m a.odds.now a.odd.now a.n y h _ _ _ e.sums_of-e.ensures o.sums_of-o.ensures t.minus-more.ensures) k.near_row-next.ensures (λ x q. s.requires.5 (7 - y) x g q)
+    near_castable (value_of_both a.evens.now a.even.now a.m a.odds.now a.odd.now a.n (7 - y)) c.minus-more.result c.near_row-next.result (minus_is a.evens.now a.even.now a.m a.odds.now a.odd.now a.n y h _ _ _ c.sums_of-e.ensures c.sums_of-o.ensures c.minus-more.ensures) c.near_row-next.ensures (λ x q. c.requires.5 (7 - y) x g q)
 
 overflow_sub-y : tie.Need-overflow_sub-y invariant-loop-y decreases-loop-y
 overflow_sub-y c = omega arith
@@ -114,36 +100,25 @@ loop-y-smaller c = omega arith
 
 loop-y-preserved : tie.Need-loop-y-preserved invariant-loop-y decreases-loop-y
 loop-y-preserved c =
-    let g = c.before in
-    let m = g.before in
-    let t = m.before in
-    let b = t.before in
-    let d = b.before in
-    let k = d.before in
-    let p = k.before in
-    let o = p.before in
-    let e = o.before in
-    let i = e.before in
-    let l = i.loop-y in
-    let s = i.before.before.before.before in
-    let a = s.args in
+    let l = c.loop-y in
+    let a = c.args in
     let lo = to_z w32 (of_z w32 a.lo) in
     let hi = to_z w32 (of_z w32 a.hi) in
     let y = l.y in
-    let h = i.loop-y-test.true in
+    let h = c.loop-y-test.true in
     let low : y < 8 = omega arith in
     let high : 7 - y < 8 = omega arith in
     let value = value_of_both a.evens.now a.even.now a.m a.odds.now a.odd.now a.n in
-    let sums = p.plus-sums.result in
-    let more = t.minus-more.result in
-    let near = k.near_row-near in
-    let next = m.near_row-next in
-    let one = plus-is a.evens.now a.even.now a.m a.odds.now a.odd.now a.n y h _ _ sums e.sums_of-e.ensures o.sums_of-o.ensures p.plus-sums.ensures in
-    let two = minus_is a.evens.now a.even.now a.m a.odds.now a.odd.now a.n y h _ _ more e.sums_of-e.ensures o.sums_of-o.ensures t.minus-more.ensures in
-    let first = cleared_more value (Done y y) y l.worst sums near.result d.farther-far.result (Done (y + 1) y) (done-low y) l.invariant.2 (λ x q. s.requires.5 y x low q) (sum_at (value y) sums one) near.ensures d.farther-far.ensures in
-    let second = cleared_more value (Done (y + 1) y) (7 - y) d.farther-far.result more next.result g.farther-worst.result (Done (y + 1) (y + 1)) (λ j. done_high y j h) first (λ x q. s.requires.5 (7 - y) x high q) (sum_at (value (7 - y)) more two) next.ensures g.farther-worst.ensures in
+    let sums = c.plus-sums.result in
+    let more = c.minus-more.result in
+    let near = c.near_row-near in
+    let next = c.near_row-next in
+    let one = plus-is a.evens.now a.even.now a.m a.odds.now a.odd.now a.n y h _ _ sums c.sums_of-e.ensures c.sums_of-o.ensures c.plus-sums.ensures in
+    let two = minus_is a.evens.now a.even.now a.m a.odds.now a.odd.now a.n y h _ _ more c.sums_of-e.ensures c.sums_of-o.ensures c.minus-more.ensures in
+    let first = cleared_more value (Done y y) y l.worst sums near.result c.farther-far.result (Done (y + 1) y) (done-low y) l.invariant.2 (λ x q. c.requires.5 y x low q) (sum_at (value y) sums one) near.ensures c.farther-far.ensures in
+    let second = cleared_more value (Done (y + 1) y) (7 - y) c.farther-far.result more next.result c.farther-worst.result (Done (y + 1) (y + 1)) (λ j. done_high y j h) first (λ x q. c.requires.5 (7 - y) x high q) (sum_at (value (7 - y)) more two) next.ensures c.farther-worst.ensures in
     let goal = f lo hi a.evens.now a.even.now a.m a.odds.now a.odd.now a.n in
-    let upper = rows_more goal (Done y y) l.out (Done (y + 1) y) y b.clipped_row.result low (near-clipped (value y) sums near.result one near.ensures lo hi b.clipped_row.result b.clipped_row.ensures) (done-low y) l.invariant.1 in
+    let upper = rows_more goal (Done y y) l.out (Done (y + 1) y) y c.clipped_row.result low (near-clipped (value y) sums near.result one near.ensures lo hi c.clipped_row.result c.clipped_row.ensures) (done-low y) l.invariant.1 in
     let lower = rows_more goal (Done (y + 1) y) _ (Done (y + 1) (y + 1)) (7 - y) c.clipped_row-in-loop-y.result high (near-clipped (value (7 - y)) more next.result two next.ensures lo hi c.clipped_row-in-loop-y.result c.clipped_row-in-loop-y.ensures) (λ j. done_high y j h) upper in
     (omega arith, lower, second)
 
@@ -152,12 +127,10 @@ settled-requires c κs = tt
 
 returns : tie.Need-returns invariant-loop-y decreases-loop-y
 returns c =
-    let o = c.before.before in
-    let l = o.loop-y in
-    let s = o.before.before.before in
-    let a = s.args in
-    let lo = to_z-of_z {w = w32} {z = a.lo} s.ranges.lo in
-    let hi = to_z-of_z {w = w32} {z = a.hi} s.ranges.hi in
+    let l = c.loop-y in
+    let a = c.args in
+    let lo = to_z-of_z {w = w32} {z = a.lo} c.ranges.lo in
+    let hi = to_z-of_z {w = w32} {z = a.hi} c.ranges.hi in
     let h = c.loop-y-test.false in (
       rows_all (f (to_z w32 (of_z w32 a.lo)) (to_z w32 (of_z w32 a.hi)) a.evens.now a.even.now a.m a.odds.now a.odd.now a.n) (Done l.y l.y) l.out (λ y p. done_all l.y y h p) l.invariant.1 ∙ (λ i. build 8 (f (lo i) (hi i) a.evens.now a.even.now a.m a.odds.now a.odd.now a.n)),
       λ e y x p q. cleared_all (value_of_both a.evens.now a.even.now a.m a.odds.now a.odd.now a.n) (Done l.y l.y) l.worst c.settled.result l.invariant.2 c.settled.ensures e y x (done_all l.y y h p) q,

@@ -1,7 +1,6 @@
 -- `idct::short::odd_rows` meets its contract, one row a turn. Assumes nothing.
 use mathlib.Core.Bool.{true}
 use mathlib.Core.List.{List, []}
-use mathlib.Core.Logic.{⊎_elim}
 use mathlib.Core.Path.{◌≡◌, sym, subst, ◌∙◌}
 use Prim.Native.Nat.{ℕ, ◌+◌, ◌-◌, ◌*◌, ◌≤◌, ◌<◌}
 use native.Mathlib.Omega.{arith}
@@ -9,8 +8,7 @@ use lib.IntN.{ℤ, pos}
 use lib.ListN.{get_or}
 use mir.Facts.{to_z-of_z}
 use mir.Syntax.{w32}
-use mir.Val.{of_z, to_z}
-use borrow.Author.Tests.{not-false, not-true}
+use mir.Val.{SFits, of_z, to_z}
 use Rattle.numbers.proofs.Every.{every_fails}
 use Rattle.numbers.specs.Every.{every}
 use Rattle.ranges.specs.Range.{within}
@@ -18,6 +16,7 @@ use Rattle.exact_transform.specs.EvenOdd.{Half}
 use Rattle.idct.proofs.EvenOddLaws.{half_kept_at, half-kept-none, half-kept-same, half_skip_at, within_at}
 use Rattle.idct.proofs.KeptLaws.{zeros_within}
 use Rattle.numbers.proofs.Tests.{true-T}
+use Rattle.idct.proofs.short.odd_rows.Lts.{then-not-zero_row+else-not-row_within, else-not-zero_row}
 use Rattle.idct.proofs.short.odd_rows.Statement.{statement}
 use Rattle.idct.proofs.short.odd_rows.Tie as tie
 
@@ -49,31 +48,29 @@ row_within-requires : tie.Need-row_within-requires invariant-loop-k decreases-lo
 row_within-requires c κs = tt
 
 -- the limits, read back
-row_back : (c : tie.Start invariant-loop-k decreases-loop-k) (l : List ℤ) → every (within (to_z w32 (of_z w32 c.args.least)) (to_z w32 (of_z w32 c.args.most))) l ≡ every (within c.args.least c.args.most) l
-row_back c l =
-    let lo = to_z-of_z {w = w32} {z = c.args.least} c.ranges.least in
-    let hi = to_z-of_z {w = w32} {z = c.args.most} c.ranges.most in
-    λ i. every (within (lo i) (hi i)) l
+module _ (least most : ℤ) (fits_least : SFits w32 least) (fits_most : SFits w32 most) where
+  row_back : (l : List ℤ) → every (within (to_z w32 (of_z w32 least)) (to_z w32 (of_z w32 most))) l ≡ every (within least most) l
+  row_back l =
+      let lo = to_z-of_z {w = w32} {z = least} fits_least in
+      let hi = to_z-of_z {w = w32} {z = most} fits_most in
+      λ i. every (within (lo i) (hi i)) l
 
-back : (c : tie.Start invariant-loop-k decreases-loop-k) (l : List (List ℤ)) → every (every (within (to_z w32 (of_z w32 c.args.least)) (to_z w32 (of_z w32 c.args.most)))) l ≡ every (every (within c.args.least c.args.most)) l
-back c l =
-    let lo = to_z-of_z {w = w32} {z = c.args.least} c.ranges.least in
-    let hi = to_z-of_z {w = w32} {z = c.args.most} c.ranges.most in
-    λ i. every (every (within (lo i) (hi i))) l
+  back : (l : List (List ℤ)) → every (every (within (to_z w32 (of_z w32 least)) (to_z w32 (of_z w32 most)))) l ≡ every (every (within least most)) l
+  back l =
+      let lo = to_z-of_z {w = w32} {z = least} fits_least in
+      let hi = to_z-of_z {w = w32} {z = most} fits_most in
+      λ i. every (every (within (lo i) (hi i))) l
 
-zero_back : (c : tie.Start invariant-loop-k decreases-loop-k) → within (to_z w32 (of_z w32 c.args.least)) (to_z w32 (of_z w32 c.args.most)) (pos 0) ≡ within c.args.least c.args.most (pos 0)
-zero_back c =
-    let lo = to_z-of_z {w = w32} {z = c.args.least} c.ranges.least in
-    let hi = to_z-of_z {w = w32} {z = c.args.most} c.ranges.most in
-    λ i. within (lo i) (hi i) (pos 0)
+  zero_back : within (to_z w32 (of_z w32 least)) (to_z w32 (of_z w32 most)) (pos 0) ≡ within least most (pos 0)
+  zero_back =
+      let lo = to_z-of_z {w = w32} {z = least} fits_least in
+      let hi = to_z-of_z {w = w32} {z = most} fits_most in
+      λ i. within (lo i) (hi i) (pos 0)
 
 returns-then-not-row_within : tie.Need-returns-then-not-row_within invariant-loop-k decreases-loop-k
 returns-then-not-row_within c =
-    let i = c.before.before.before.before.before in
-    let o = i.before in
-    let s = o.before in
-    let l = s.args.f.now in
-    sym (back s l) ∙ every_fails (every (within (to_z w32 (of_z w32 s.args.least)) (to_z w32 (of_z w32 s.args.most)))) [] l (2 * o.loop-k.k + 1) (omega (arith, s.requires.1, i.loop-k-test.true)) (sym c.row_within.ensures ∙ c.if-not-row_within.true)
+    let l = c.args.f.now in
+    sym (back c.args.least c.args.most c.ranges.least c.ranges.most l) ∙ every_fails (every (within (to_z w32 (of_z w32 c.args.least)) (to_z w32 (of_z w32 c.args.most)))) [] l (2 * c.loop-k.k + 1) (omega (arith, c.requires.1, c.loop-k-test.true)) (sym c.row_within.ensures ∙ c.if-not-row_within.true)
 
 offset_bounds-f-v-then-not-zero_row : tie.Need-offset_bounds-f-v-then-not-zero_row invariant-loop-k decreases-loop-k
 offset_bounds-f-v-then-not-zero_row c = omega arith
@@ -88,7 +85,7 @@ bounds-terms-n : tie.Need-bounds-terms-n invariant-loop-k decreases-loop-k
 bounds-terms-n c = omega arith
 
 paired_terms-requires : tie.Need-paired_terms-requires invariant-loop-k decreases-loop-k
-paired_terms-requires c κs = c.before.before.before.before.before.before.before.before.before.requires.0
+paired_terms-requires c κs = c.requires.0
 
 offset_bounds-which-n : tie.Need-offset_bounds-which-n invariant-loop-k decreases-loop-k
 offset_bounds-which-n c = omega arith
@@ -107,36 +104,30 @@ loop-k-smaller c = omega arith
 
 loop-k-preserved : tie.Need-loop-k-preserved invariant-loop-k decreases-loop-k
 loop-k-preserved c =
-    let t = c.before in
-    let i = t.before.before in
-    let o = i.before in
-    let s = o.before in
-    let l = s.args.f.now in
-    let k = o.loop-k.k in
-    let lo = to_z w32 (of_z w32 s.args.least) in
-    let hi = to_z w32 (of_z w32 s.args.most) in
-    let zero = zero_back s ∙ s.requires.4 in
+    let l = c.args.f.now in
+    let k = c.loop-k.k in
+    let lo = to_z w32 (of_z w32 c.args.least) in
+    let hi = to_z w32 (of_z w32 c.args.most) in
+    let zero = zero_back c.args.least c.args.most c.ranges.least c.ranges.most ∙ c.requires.4 in
     let v = 2 * k + 1 in
     let z : v ≡ 2 * k + 1 = omega arith in
-    let more : every (within lo hi) (get_or l v []) ≡ true → (j : ℕ) → j < k + 1 → every (within lo hi) (get_or l (2 * j + 1) []) ≡ true = λ e j q. within_at 1 l k v z lo hi e o.loop-k.invariant.2 j q in (
+    let more : every (within lo hi) (get_or l v []) ≡ true → (j : ℕ) → j < k + 1 → every (within lo hi) (get_or l (2 * j + 1) []) ≡ true = λ e j q. within_at 1 l k v z lo hi e c.loop-k.invariant.2 j q in (
       omega arith,
-      ⊎_elim
-          (λ w. half-kept-same 1 l (k + 1) c.if-not-zero_row.terms _ c.if-not-zero_row.which _ c.if-not-zero_row.n _ w.6 w.7 w.8 (half_kept_at 1 l k v z o.loop-k.terms o.loop-k.which o.loop-k.n _ w.5.ensures i.loop-k-test.true (omega arith) o.loop-k.invariant.1))
-          (λ w. half-kept-same 1 l (k + 1) c.if-not-zero_row.terms _ c.if-not-zero_row.which _ c.if-not-zero_row.n _ w.1 w.2 w.3 (half_skip_at 1 l k v z o.loop-k.terms o.loop-k.which o.loop-k.n (true-T _ (sym t.zero_row.ensures ∙ not-false _ w.0.left)) o.loop-k.invariant.1))
-          c.if-not-zero_row.branch,
-      ⊎_elim
-          (λ w. more (sym w.1.ensures ∙ not-false _ w.2.left))
-          (λ w. more (zeros_within lo hi (get_or l v []) zero (sym t.zero_row.ensures ∙ not-false _ w.0.left)))
-          c.if-not-zero_row.branch,
+      elim c.if-not-zero_row.branch [
+        | then-not-zero_row+else-not-row_within w ↦ half-kept-same 1 l (k + 1) c.if-not-zero_row.terms _ c.if-not-zero_row.which _ c.if-not-zero_row.n _ w.terms-is w.which-is w.n-is (half_kept_at 1 l k v z c.loop-k.terms c.loop-k.which c.loop-k.n _ w.paired_terms.ensures c.loop-k-test.true (omega arith) c.loop-k.invariant.1)
+        | else-not-zero_row w ↦ half-kept-same 1 l (k + 1) c.if-not-zero_row.terms _ c.if-not-zero_row.which _ c.if-not-zero_row.n _ w.terms-is w.which-is w.n-is (half_skip_at 1 l k v z c.loop-k.terms c.loop-k.which c.loop-k.n (true-T _ (sym c.zero_row.ensures ∙ w.if-not-zero_row.false)) c.loop-k.invariant.1)
+      ],
+      elim c.if-not-zero_row.branch [
+        | then-not-zero_row+else-not-row_within w ↦ more (sym w.row_within.ensures ∙ w.if-not-row_within.false)
+        | else-not-zero_row w ↦ more (zeros_within lo hi (get_or l v []) zero (sym c.zero_row.ensures ∙ w.if-not-zero_row.false))
+      ],
     )
 
 returns : tie.Need-returns invariant-loop-k decreases-loop-k
 returns c =
-    let o = c.before in
-    let s = o.before in
-    let l = s.args.f.now in
-    let h : o.loop-k.k ≡ 4 = omega (arith, o.loop-k.invariant.0, c.loop-k-test.false) in
-    (λ i q. sym (row_back s (get_or l (2 * i + 1) [])) ∙ o.loop-k.invariant.2 i (omega arith), subst (λ (k : ℕ). Half 1 l k o.loop-k.terms o.loop-k.which o.loop-k.n) h o.loop-k.invariant.1)
+    let l = c.args.f.now in
+    let h : c.loop-k.k ≡ 4 = omega (arith, c.loop-k.invariant.0, c.loop-k-test.false) in
+    (λ i q. sym (row_back c.args.least c.args.most c.ranges.least c.ranges.most (get_or l (2 * i + 1) [])) ∙ c.loop-k.invariant.2 i (omega arith), subst (λ (k : ℕ). Half 1 l k c.loop-k.terms c.loop-k.which c.loop-k.n) h c.loop-k.invariant.1)
 
 pub odd_rows_spec : {M : Type 1} → statement M
 odd_rows_spec =

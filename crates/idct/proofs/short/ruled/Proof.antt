@@ -39,7 +39,7 @@ eight_rows-requires c κs = tt
 
 loop-p-init : tie.Need-loop-p-init invariant-loop-p decreases-loop-p
 loop-p-init c =
-    let a = c.before.before.args in
+    let a = c.args in
     (omega arith, cells-none 8 (f (to_z w32 (of_z w32 a.lo)) (to_z w32 (of_z w32 a.hi)) a.rounding a.terms.now a.which.now a.n) (old a.out.now) _ (is-build [] _ 8 (old a.out.now) c.eight_rows.ensures (λ i h. refl)))
 
 overflow_mul-y : tie.Need-overflow_mul-y invariant-loop-p decreases-loop-p
@@ -47,18 +47,14 @@ overflow_mul-y c = omega arith
 
 two_rows-pair-requires : tie.Need-two_rows-pair-requires invariant-loop-p decreases-loop-p
 two_rows-pair-requires c κs =
-    let s = c.before.before.before.before in
-    (s.requires.0, s.requires.1, omega arith, s.requires.2)
+    (c.requires.0, c.requires.1, omega arith, c.requires.2)
 
 ruled_row-requires : tie.Need-ruled_row-requires invariant-loop-p decreases-loop-p
 ruled_row-requires c κs =
-    let t = c.before in
-    let i = t.before in
-    let s = i.before.before.before.before in
-    let a = s.args in
-    let y = 2 * i.loop-p.p in
-    let h : y < 8 = omega (arith, i.loop-p-test.true) in
-    λ x q. row_bounded (sum_of_kept a.terms.now a.which.now a.n y) t.two_rows-pair.result.sums t.two_rows-pair.ensures.0 (λ x q. s.requires.3 y x h q) x q
+    let a = c.args in
+    let y = 2 * c.loop-p.p in
+    let h : y < 8 = omega (arith, c.loop-p-test.true) in
+    λ x q. row_bounded (sum_of_kept a.terms.now a.which.now a.n y) c.two_rows-pair.result.sums c.two_rows-pair.ensures.0 (λ x q. c.requires.3 y x h q) x q
 
 offset_bounds-out-y : tie.Need-offset_bounds-out-y invariant-loop-p decreases-loop-p
 offset_bounds-out-y c = omega arith
@@ -68,13 +64,10 @@ bounds-out-y c = omega arith
 
 ruled_row-requires-in-loop-p : tie.Need-ruled_row-requires-in-loop-p invariant-loop-p decreases-loop-p
 ruled_row-requires-in-loop-p c κs =
-    let t = c.before.before.before in
-    let i = t.before in
-    let s = i.before.before.before.before in
-    let a = s.args in
-    let y = 2 * i.loop-p.p + 1 in
-    let h : y < 8 = omega (arith, i.loop-p-test.true) in
-    λ x q. row_bounded (sum_of_kept a.terms.now a.which.now a.n y) t.two_rows-pair.result.more t.two_rows-pair.ensures.1 (λ x q. s.requires.3 y x h q) x q
+    let a = c.args in
+    let y = 2 * c.loop-p.p + 1 in
+    let h : y < 8 = omega (arith, c.loop-p-test.true) in
+    λ x q. row_bounded (sum_of_kept a.terms.now a.which.now a.n y) c.two_rows-pair.result.more c.two_rows-pair.ensures.1 (λ x q. c.requires.3 y x h q) x q
 
 overflow_add-y : tie.Need-overflow_add-y invariant-loop-p decreases-loop-p
 overflow_add-y c = omega arith
@@ -93,28 +86,23 @@ loop-p-smaller c = omega arith
 
 loop-p-preserved : tie.Need-loop-p-preserved invariant-loop-p decreases-loop-p
 loop-p-preserved c =
-    let r = c.before.before in
-    let t = r.before.before in
-    let i = t.before in
-    let l = i.loop-p in
-    let a = i.before.before.before.before.args in
+    let l = c.loop-p in
+    let a = c.args in
     let lo = to_z w32 (of_z w32 a.lo) in
     let hi = to_z w32 (of_z w32 a.hi) in
     let sum = sum_of_kept a.terms.now a.which.now a.n in (
       omega arith,
-      pair_more (f lo hi a.rounding a.terms.now a.which.now a.n) (old a.out.now) [] l.out l.p r.ruled_row.result c.ruled_row-in-loop-p.result i.loop-p-test.true l.invariant.1
-          (row_ruled (sum (2 * l.p)) t.two_rows-pair.result.sums t.two_rows-pair.ensures.0 a.rounding lo hi r.ruled_row.result r.ruled_row.ensures)
-          (row_ruled (sum (2 * l.p + 1)) t.two_rows-pair.result.more t.two_rows-pair.ensures.1 a.rounding lo hi c.ruled_row-in-loop-p.result c.ruled_row-in-loop-p.ensures),
+      pair_more (f lo hi a.rounding a.terms.now a.which.now a.n) (old a.out.now) [] l.out l.p c.ruled_row.result c.ruled_row-in-loop-p.result c.loop-p-test.true l.invariant.1
+          (row_ruled (sum (2 * l.p)) c.two_rows-pair.result.sums c.two_rows-pair.ensures.0 a.rounding lo hi c.ruled_row.result c.ruled_row.ensures)
+          (row_ruled (sum (2 * l.p + 1)) c.two_rows-pair.result.more c.two_rows-pair.ensures.1 a.rounding lo hi c.ruled_row-in-loop-p.result c.ruled_row-in-loop-p.ensures),
     )
 
 returns : tie.Need-returns invariant-loop-p decreases-loop-p
 returns c =
-    let o = c.before in
-    let l = o.loop-p in
-    let s = o.before.before.before in
-    let a = s.args in
-    let lo = to_z-of_z {w = w32} {z = a.lo} s.ranges.lo in
-    let hi = to_z-of_z {w = w32} {z = a.hi} s.ranges.hi in
+    let l = c.loop-p in
+    let a = c.args in
+    let lo = to_z-of_z {w = w32} {z = a.lo} c.ranges.lo in
+    let hi = to_z-of_z {w = w32} {z = a.hi} c.ranges.hi in
     pairs_all (f (to_z w32 (of_z w32 a.lo)) (to_z w32 (of_z w32 a.hi)) a.rounding a.terms.now a.which.now a.n) (old a.out.now) l.out l.p c.loop-p-test.false l.invariant.0 l.invariant.1 ∙ (λ i. build 8 (f (lo i) (hi i) a.rounding a.terms.now a.which.now a.n))
 
 pub ruled_spec : {M : Type 1} → statement M

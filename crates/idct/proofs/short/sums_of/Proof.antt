@@ -22,10 +22,6 @@ loop-j-init c =
     let a = c.args in
     (omega arith, sums_none a.terms.now a.which.now a.y)
 
--- a kept row is one of eight
-place : (c : tie.In-loop-j invariant-loop-j decreases-loop-j) → get_or c.args.which.now c.loop-j.j 0 < 8
-place c = c.requires.3 _ c.loop-j-test.true
-
 offset_bounds-terms-j : tie.Need-offset_bounds-terms-j invariant-loop-j decreases-loop-j
 offset_bounds-terms-j c = omega arith
 
@@ -39,13 +35,13 @@ bounds-which-j : tie.Need-bounds-which-j invariant-loop-j decreases-loop-j
 bounds-which-j c = omega arith
 
 offset_bounds-table-v : tie.Need-offset_bounds-table-v invariant-loop-j decreases-loop-j
-offset_bounds-table-v c = omega (arith, place c.before.before)
+offset_bounds-table-v c = omega (arith, c.requires.3 _ c.loop-j-test.true)
 
 offset_bounds-table-y : tie.Need-offset_bounds-table-y invariant-loop-j decreases-loop-j
 offset_bounds-table-y c = omega arith
 
 bounds-table-v : tie.Need-bounds-table-v invariant-loop-j decreases-loop-j
-bounds-table-v c = place c.before.before
+bounds-table-v c = c.requires.3 _ c.loop-j-test.true
 
 bounds-table-y : tie.Need-bounds-table-y invariant-loop-j decreases-loop-j
 bounds-table-y c = omega arith
@@ -61,12 +57,9 @@ loop-j-smaller c = omega arith
 
 loop-j-preserved : tie.Need-loop-j-preserved invariant-loop-j decreases-loop-j
 loop-j-preserved c =
-    let i = c.before.before.before.before in
-    let o = i.before in
-    let s = o.before in
-    let a = s.args in
-    let v = get_or a.which.now o.loop-j.j 0 in
-    (omega arith, sums-one-more a.terms.now a.which.now o.loop-j.j a.y o.loop-j.sums c.add_row-added.result _ o.loop-j.invariant.1 (half_cosine_at a.table.now v a.y s.requires.0 (place i) s.requires.2) c.add_row-added.ensures)
+    let a = c.args in
+    let v = get_or a.which.now c.loop-j.j 0 in
+    (omega arith, sums-one-more a.terms.now a.which.now c.loop-j.j a.y c.loop-j.sums c.add_row-added.result _ c.loop-j.invariant.1 (half_cosine_at a.table.now v a.y c.requires.0 (c.requires.3 _ c.loop-j-test.true) c.requires.2) c.add_row-added.ensures)
 
 returns : tie.Need-returns invariant-loop-j decreases-loop-j
 returns c =

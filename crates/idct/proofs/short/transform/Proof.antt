@@ -12,29 +12,6 @@ use Rattle.idct.proofs.EvenOddArms.{all_within, half-kept, half-not, half-within
 use Rattle.idct.proofs.short.transform.Statement.{statement}
 use Rattle.idct.proofs.short.transform.Tie as tie
 
--- what the first pass told of the even rows, and of the odd ones
-evens : (c : tie.In-Are) → Half 0 c.args.f.now 4 c.even_rows.new.1.1.1.1.0 c.even_rows.new.1.1.1.1.1.0 c.in-Are.m
-evens c =
-    let k = c.even_rows in
-    let s = c.before.before.before.before in
-    half-kept 0 s.args.f.now _ _ s.args.least s.args.most _ _ k.result (to_z-of_z {w = w32} {z = s.args.least} s.ranges.least) (to_z-of_z {w = w32} {z = s.args.most} s.ranges.most) k.ensures c.in-Are.m c.in-Are.is
-
-odds : (c : tie.In-Are-odd_rows) → Half 1 c.args.f.now 4 c.odd_rows.new.1.1.1.1.0 c.odd_rows.new.1.1.1.1.1.0 c.in-Are-odd_rows.n
-odds c =
-    let k = c.odd_rows in
-    let s = c.before.before.before.before.before.before.before.before in
-    half-kept 1 s.args.f.now _ _ s.args.least s.args.most _ _ k.result (to_z-of_z {w = w32} {z = s.args.least} s.ranges.least) (to_z-of_z {w = w32} {z = s.args.most} s.ranges.most) k.ensures c.in-Are-odd_rows.n c.in-Are-odd_rows.is
-
-fine : (c : tie.In-Are-odd_rows) → let a = c.args in every (every (within a.least a.most)) a.f.now ≡ true
-fine c =
-    let m = c.before.before.before.before in
-    let e = m.even_rows in
-    let o = c.odd_rows in
-    let s = m.before.before.before.before in
-    all_within s.args.f.now s.args.least s.args.most s.requires.1
-    (half-within 0 s.args.f.now _ _ s.args.least s.args.most _ _ e.result (to_z-of_z {w = w32} {z = s.args.least} s.ranges.least) (to_z-of_z {w = w32} {z = s.args.most} s.ranges.most) e.ensures m.in-Are.m m.in-Are.is)
-    (half-within 1 s.args.f.now _ _ s.args.least s.args.most _ _ o.result (to_z-of_z {w = w32} {z = s.args.least} s.ranges.least) (to_z-of_z {w = w32} {z = s.args.most} s.ranges.most) o.ensures c.in-Are-odd_rows.n c.in-Are-odd_rows.is)
-
 even_rows-requires : tie.Need-even_rows-requires
 even_rows-requires c κs = search rules
 
@@ -55,42 +32,50 @@ enum_known-n c = search rules
 
 near_samples-requires : tie.Need-near_samples-requires
 near_samples-requires c κs =
-    let n = c.before.before.before.before.before in
-    let m = n.before.before.before.before in
-    let s = m.before.before.before.before in
-    (s.requires.0, (evens m).few, (odds n).few, (evens m).below, (odds n).below, λ y x p q. both_bounded s.args.f.now (s.requires.3 (fine n)) _ _ _ _ _ _ (evens m) (odds n) y x p q)
+    let evens = half-kept 0 c.args.f.now _ _ c.args.least c.args.most _ _ c.even_rows.result (to_z-of_z {w = w32} {z = c.args.least} c.ranges.least) (to_z-of_z {w = w32} {z = c.args.most} c.ranges.most) c.even_rows.ensures c.in-Are.m c.in-Are.is in
+    let odds = half-kept 1 c.args.f.now _ _ c.args.least c.args.most _ _ c.odd_rows.result (to_z-of_z {w = w32} {z = c.args.least} c.ranges.least) (to_z-of_z {w = w32} {z = c.args.most} c.ranges.most) c.odd_rows.ensures c.in-Are-odd_rows.n c.in-Are-odd_rows.is in
+    let fine =
+    all_within c.args.f.now c.args.least c.args.most c.requires.1
+    (half-within 0 c.args.f.now _ _ c.args.least c.args.most _ _ c.even_rows.result (to_z-of_z {w = w32} {z = c.args.least} c.ranges.least) (to_z-of_z {w = w32} {z = c.args.most} c.ranges.most) c.even_rows.ensures c.in-Are.m c.in-Are.is)
+    (half-within 1 c.args.f.now _ _ c.args.least c.args.most _ _ c.odd_rows.result (to_z-of_z {w = w32} {z = c.args.least} c.ranges.least) (to_z-of_z {w = w32} {z = c.args.most} c.ranges.most) c.odd_rows.ensures c.in-Are-odd_rows.n c.in-Are-odd_rows.is) in
+    (c.requires.0, evens.few, odds.few, evens.below, odds.below, λ y x p q. both_bounded c.args.f.now (c.requires.3 fine) _ _ _ _ _ _ evens odds y x p q)
 
 returns-then-near_samples : tie.Need-returns-then-near_samples
 returns-then-near_samples c =
-    let n = c.before.before.before.before.before.before.before in
-    let m = n.before.before.before.before in
-    let s = m.before.before.before.before in
+    let evens = half-kept 0 c.args.f.now _ _ c.args.least c.args.most _ _ c.even_rows.result (to_z-of_z {w = w32} {z = c.args.least} c.ranges.least) (to_z-of_z {w = w32} {z = c.args.most} c.ranges.most) c.even_rows.ensures c.in-Are.m c.in-Are.is in
+    let odds = half-kept 1 c.args.f.now _ _ c.args.least c.args.most _ _ c.odd_rows.result (to_z-of_z {w = w32} {z = c.args.least} c.ranges.least) (to_z-of_z {w = w32} {z = c.args.most} c.ranges.most) c.odd_rows.ensures c.in-Are-odd_rows.n c.in-Are-odd_rows.is in
+    let fine =
+    all_within c.args.f.now c.args.least c.args.most c.requires.1
+    (half-within 0 c.args.f.now _ _ c.args.least c.args.most _ _ c.even_rows.result (to_z-of_z {w = w32} {z = c.args.least} c.ranges.least) (to_z-of_z {w = w32} {z = c.args.most} c.ranges.most) c.even_rows.ensures c.in-Are.m c.in-Are.is)
+    (half-within 1 c.args.f.now _ _ c.args.least c.args.most _ _ c.odd_rows.result (to_z-of_z {w = w32} {z = c.args.least} c.ranges.least) (to_z-of_z {w = w32} {z = c.args.most} c.ranges.most) c.odd_rows.ensures c.in-Are-odd_rows.n c.in-Are-odd_rows.is) in
     let e = c.near_samples.ensures in
-    (sym (fine n), near-are s.args.f.now (s.requires.3 (fine n)) _ _ _ _ _ _ (evens m) (odds n) s.args.rounding _ _ s.args.lo s.args.hi _ (to_z-of_z {w = w32} {z = s.args.lo} s.ranges.lo) (to_z-of_z {w = w32} {z = s.args.hi} s.ranges.hi) e.0 (e.1 c.if-near_samples.true))
+    (sym fine, near-are c.args.f.now (c.requires.3 fine) _ _ _ _ _ _ evens odds c.args.rounding _ _ c.args.lo c.args.hi _ (to_z-of_z {w = w32} {z = c.args.lo} c.ranges.lo) (to_z-of_z {w = w32} {z = c.args.hi} c.ranges.hi) e.0 (e.1 c.if-near_samples.true))
 
 slow-requires : tie.Need-slow-requires
 slow-requires c κs =
-    let n = c.before.before.before.before.before.before.before.before in
-    let s = n.before.before.before.before.before.before.before.before in
-    (s.requires.1, s.requires.3 (fine n))
+    let fine =
+    all_within c.args.f.now c.args.least c.args.most c.requires.1
+    (half-within 0 c.args.f.now _ _ c.args.least c.args.most _ _ c.even_rows.result (to_z-of_z {w = w32} {z = c.args.least} c.ranges.least) (to_z-of_z {w = w32} {z = c.args.most} c.ranges.most) c.even_rows.ensures c.in-Are.m c.in-Are.is)
+    (half-within 1 c.args.f.now _ _ c.args.least c.args.most _ _ c.odd_rows.result (to_z-of_z {w = w32} {z = c.args.least} c.ranges.least) (to_z-of_z {w = w32} {z = c.args.most} c.ranges.most) c.odd_rows.ensures c.in-Are-odd_rows.n c.in-Are-odd_rows.is) in
+    (c.requires.1, c.requires.3 fine)
 
 returns-in-OutOfLimits : tie.Need-returns-in-OutOfLimits
 returns-in-OutOfLimits c =
     let k = c.even_rows in
-    let s = c.before.before.before.before in
-    (sym (half-not 0 s.args.f.now _ _ s.args.least s.args.most _ _ k.result (to_z-of_z {w = w32} {z = s.args.least} s.ranges.least) (to_z-of_z {w = w32} {z = s.args.most} s.ranges.most) k.ensures c.in-OutOfLimits.is), refl)
+    (sym (half-not 0 c.args.f.now _ _ c.args.least c.args.most _ _ k.result (to_z-of_z {w = w32} {z = c.args.least} c.ranges.least) (to_z-of_z {w = w32} {z = c.args.most} c.ranges.most) k.ensures c.in-OutOfLimits.is), refl)
 
 returns-in-OutOfLimits-odd_rows : tie.Need-returns-in-OutOfLimits-odd_rows
 returns-in-OutOfLimits-odd_rows c =
     let k = c.odd_rows in
-    let s = c.before.before.before.before.before.before.before.before in
-    (sym (half-not 1 s.args.f.now _ _ s.args.least s.args.most _ _ k.result (to_z-of_z {w = w32} {z = s.args.least} s.ranges.least) (to_z-of_z {w = w32} {z = s.args.most} s.ranges.most) k.ensures c.in-OutOfLimits-odd_rows.is), refl)
+    (sym (half-not 1 c.args.f.now _ _ c.args.least c.args.most _ _ k.result (to_z-of_z {w = w32} {z = c.args.least} c.ranges.least) (to_z-of_z {w = w32} {z = c.args.most} c.ranges.most) k.ensures c.in-OutOfLimits-odd_rows.is), refl)
 
 returns-else-near_samples : tie.Need-returns-else-near_samples
 returns-else-near_samples c =
-    let n = c.before.before.before.before.before.before.before.before.before in
-    let s = n.before.before.before.before.before.before.before.before in
-    (sym (fine n), ruled_between s.args.f.now s.args.rounding _ _ s.args.lo s.args.hi _ (to_z-of_z {w = w32} {z = s.args.lo} s.ranges.lo) (to_z-of_z {w = w32} {z = s.args.hi} s.ranges.hi) c.slow.ensures)
+    let fine =
+    all_within c.args.f.now c.args.least c.args.most c.requires.1
+    (half-within 0 c.args.f.now _ _ c.args.least c.args.most _ _ c.even_rows.result (to_z-of_z {w = w32} {z = c.args.least} c.ranges.least) (to_z-of_z {w = w32} {z = c.args.most} c.ranges.most) c.even_rows.ensures c.in-Are.m c.in-Are.is)
+    (half-within 1 c.args.f.now _ _ c.args.least c.args.most _ _ c.odd_rows.result (to_z-of_z {w = w32} {z = c.args.least} c.ranges.least) (to_z-of_z {w = w32} {z = c.args.most} c.ranges.most) c.odd_rows.ensures c.in-Are-odd_rows.n c.in-Are-odd_rows.is) in
+    (sym fine, ruled_between c.args.f.now c.args.rounding _ _ c.args.lo c.args.hi _ (to_z-of_z {w = w32} {z = c.args.lo} c.ranges.lo) (to_z-of_z {w = w32} {z = c.args.hi} c.ranges.hi) c.slow.ensures)
 
 pub transform_spec : {M : Type 1} → statement M
 transform_spec =

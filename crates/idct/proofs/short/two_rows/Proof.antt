@@ -21,10 +21,6 @@ loop-j-init c =
     let a = c.args in
     (omega arith, sums_none a.terms.now a.which.now a.y, sums_none a.terms.now a.which.now (a.y + 1))
 
--- a kept row is one of eight
-place : (c : tie.In-loop-j invariant-loop-j decreases-loop-j) → get_or c.args.which.now c.loop-j.j 0 < 8
-place c = c.requires.3 _ c.loop-j-test.true
-
 offset_bounds-terms-j : tie.Need-offset_bounds-terms-j invariant-loop-j decreases-loop-j
 offset_bounds-terms-j c = omega arith
 
@@ -38,16 +34,16 @@ bounds-which-j : tie.Need-bounds-which-j invariant-loop-j decreases-loop-j
 bounds-which-j c = omega arith
 
 offset_bounds-table-v : tie.Need-offset_bounds-table-v invariant-loop-j decreases-loop-j
-offset_bounds-table-v c = omega (arith, place c.before.before)
+offset_bounds-table-v c = omega (arith, c.requires.3 _ c.loop-j-test.true)
 
 offset_bounds-table-y : tie.Need-offset_bounds-table-y invariant-loop-j decreases-loop-j
-offset_bounds-table-y c = omega (arith, place c.before.before)
+offset_bounds-table-y c = omega (arith, c.requires.3 _ c.loop-j-test.true)
 
 bounds-table-v : tie.Need-bounds-table-v invariant-loop-j decreases-loop-j
-bounds-table-v c = omega (arith, place c.before.before)
+bounds-table-v c = omega (arith, c.requires.3 _ c.loop-j-test.true)
 
 bounds-table-y : tie.Need-bounds-table-y invariant-loop-j decreases-loop-j
-bounds-table-y c = omega (arith, place c.before.before)
+bounds-table-y c = omega (arith, c.requires.3 _ c.loop-j-test.true)
 
 add_row-first-requires : tie.Need-add_row-first-requires invariant-loop-j decreases-loop-j
 add_row-first-requires c κs = tt
@@ -56,13 +52,13 @@ overflow_add-y : tie.Need-overflow_add-y invariant-loop-j decreases-loop-j
 overflow_add-y c = omega arith
 
 offset_bounds-table-v-in-loop-j : tie.Need-offset_bounds-table-v-in-loop-j invariant-loop-j decreases-loop-j
-offset_bounds-table-v-in-loop-j c = omega (arith, place c.before.before.before.before)
+offset_bounds-table-v-in-loop-j c = omega (arith, c.requires.3 _ c.loop-j-test.true)
 
 offset_bounds-table-y-in-loop-j : tie.Need-offset_bounds-table-y-in-loop-j invariant-loop-j decreases-loop-j
 offset_bounds-table-y-in-loop-j c = omega arith
 
 bounds-table-v-in-loop-j : tie.Need-bounds-table-v-in-loop-j invariant-loop-j decreases-loop-j
-bounds-table-v-in-loop-j c = place c.before.before.before.before
+bounds-table-v-in-loop-j c = c.requires.3 _ c.loop-j-test.true
 
 bounds-table-y-in-loop-j : tie.Need-bounds-table-y-in-loop-j invariant-loop-j decreases-loop-j
 bounds-table-y-in-loop-j c = omega arith
@@ -78,16 +74,12 @@ loop-j-smaller c = omega arith
 
 loop-j-preserved : tie.Need-loop-j-preserved invariant-loop-j decreases-loop-j
 loop-j-preserved c =
-    let f = c.before.before in
-    let i = f.before.before.before.before in
-    let o = i.before in
-    let s = o.before in
-    let a = s.args in
-    let v = get_or a.which.now o.loop-j.j 0 in
+    let a = c.args in
+    let v = get_or a.which.now c.loop-j.j 0 in
     let y : a.y < 8 = omega arith in (
       omega arith,
-      sums-one-more a.terms.now a.which.now o.loop-j.j a.y o.loop-j.sums f.add_row-first.result _ o.loop-j.invariant.1 (cosine_at a.table.now v a.y s.requires.0 (place i) y) f.add_row-first.ensures,
-      sums-one-more a.terms.now a.which.now o.loop-j.j (a.y + 1) o.loop-j.more c.add_row-second.result _ o.loop-j.invariant.2 (cosine_at a.table.now v (a.y + 1) s.requires.0 (place i) s.requires.2) c.add_row-second.ensures,
+      sums-one-more a.terms.now a.which.now c.loop-j.j a.y c.loop-j.sums c.add_row-first.result _ c.loop-j.invariant.1 (cosine_at a.table.now v a.y c.requires.0 (c.requires.3 _ c.loop-j-test.true) y) c.add_row-first.ensures,
+      sums-one-more a.terms.now a.which.now c.loop-j.j (a.y + 1) c.loop-j.more c.add_row-second.result _ c.loop-j.invariant.2 (cosine_at a.table.now v (a.y + 1) c.requires.0 (c.requires.3 _ c.loop-j-test.true) c.requires.2) c.add_row-second.ensures,
     )
 
 returns : tie.Need-returns invariant-loop-j decreases-loop-j
