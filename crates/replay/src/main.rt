@@ -36,77 +36,101 @@ mod symbols;
 mod whole;
 
 use feed::Reading;
-use libc::STDIN_FILENO;
 use picture::Picture;
+use std::io;
+use std::io::Read;
 
 // What a line says; the picture that is open after it.
-fn answer(p: Picture, line: &[i32], store: &mut [i32]) -> Picture {
+fn answer(rt: &impl Print, p: Picture, line: &[i32], store: &mut [i32]) -> io::Result<Picture> {
     let kind = line::number(line, 0, 0);
     match kind {
-        1 => symbols::dc(line),
-        2 => symbols::event(line),
-        3 => symbols::list(line),
-        4 => pixels::block(line),
-        5 => pixels::macroblock(line),
-        6 => return pixels::opening(p, line),
-        7 => return pixels::in_picture(p, line, store),
-        8 => pixels::transform(line),
-        9 => whole::header(line),
-        10 => whole::macroblock(line),
-        11 => return whole::in_picture(p, line, store),
-        _ => say::none(),
+        1 => symbols::dc(rt, line)?,
+        2 => symbols::event(rt, line)?,
+        3 => symbols::list(rt, line)?,
+        4 => pixels::block(rt, line)?,
+        5 => pixels::macroblock(rt, line)?,
+        6 => return pixels::opening(rt, p, line),
+        7 => return pixels::in_picture(rt, p, line, store),
+        8 => pixels::transform(rt, line)?,
+        9 => whole::header(rt, line)?,
+        10 => whole::macroblock(rt, line)?,
+        11 => return whole::in_picture(rt, p, line, store),
+        _ => say::none(rt)?,
     }
-    p
+    Ok(p)
 }
 
-fn byte(r: Reading, b: u8, line: &mut [i32], store: &mut [i32]) -> Reading {
+fn byte(
+    rt: &impl Print,
+    r: Reading,
+    b: u8,
+    line: &mut [i32],
+    store: &mut [i32],
+) -> io::Result<Reading> {
     let fed = feed::feed(r, b, line);
     if b != b'\n' {
-        return fed;
+        return Ok(fed);
     }
     let n = line::within(fed.n, &*line);
     let p = fed.picture;
-    let open = answer(p, &line[..n], store);
-    say::end();
-    feed::start(open)
+    let open = answer(rt, p, &line[..n], store)?;
+    say::end(rt)?;
+    Ok(feed::start(open))
 }
 
-fn bytes(r: Reading, chunk: &[u8], line: &mut [i32], store: &mut [i32]) -> Reading {
+fn bytes(
+    rt: &impl Print,
+    r: Reading,
+    chunk: &[u8],
+    line: &mut [i32],
+    store: &mut [i32],
+) -> io::Result<Reading> {
     let mut now_at = r;
     let mut i = 0;
     while i < chunk.len() {
-        now_at = byte(now_at, chunk[i], line, store);
+        now_at = byte(rt, now_at, chunk[i], line, store)?;
         i += 1;
     }
-    now_at
+    Ok(now_at)
 }
 
 // One read.
-fn turn(r: Reading, line: &mut [i32], store: &mut [i32]) -> Reading {
-    let mut buffer = io::large_buffer();
-    let n = io::read_full(STDIN_FILENO, &mut buffer);
+fn turn(
+    rt: &impl Print,
+    input: &mut impl Read,
+    r: Reading,
+    line: &mut [i32],
+    store: &mut [i32],
+) -> io::Result<Reading> {
+    let mut buffer = [0u8; 65536];
+    let n = input.read(&mut buffer)?;
     if n == 0 {
-        return feed::end(r);
+        return Ok(feed::end(r));
     }
-    bytes(r, &buffer[..n], line, store)
+    bytes(rt, r, &buffer[..n], line, store)
 }
 
-// A proved loop has to end: it counts its turns down, from a number that no run uses up.
-fn run(line: &mut [i32], store: &mut [i32]) {
+// A proved loop has to end: it has more turns than any run uses up.
+fn run(
+    rt: &impl Print,
+    input: &mut impl Read,
+    line: &mut [i32],
+    store: &mut [i32],
+) -> io::Result<()> {
     let none = pixels::none();
     let mut r = feed::start(none);
-    let mut turns = u64::MAX;
-    while turns > 0 {
+    for _ in 0..u64::MAX {
         if r.ended {
-            return;
+            return Ok(());
         }
-        r = turn(r, line, store);
-        turns -= 1;
+        r = turn(rt, input, r, line, store)?;
     }
+    Ok(())
 }
 
-fn main() {
+fn main(rt: HostRuntime) -> io::Result<()> {
+    let mut input = rt.stdin();
     let mut line = [0i32; 4096];
     let mut store = [0i32; 8640];
-    run(&mut line, &mut store);
+    run(&rt, &mut input, &mut line, &mut store)
 }

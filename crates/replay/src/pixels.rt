@@ -2,22 +2,28 @@
 use block::BlockDecoded;
 use macroblock::MacroblockDecoded;
 use picture::{Picture, PictureDecoded, PictureOpened};
+use std::io;
 
-fn block_said(answer: BlockDecoded, samples: [[i32; 8]; 8], levels: [[i32; 8]; 8]) {
+fn block_said(
+    rt: &impl Print,
+    answer: BlockDecoded,
+    samples: [[i32; 8]; 8],
+    levels: [[i32; 8]; 8],
+) -> io::Result<()> {
     match answer {
         BlockDecoded::Refused(e) => {
-            crate::say::refused(e.number(), e.figure());
-            crate::say::blocks_kept(samples, levels);
+            crate::say::refused(rt, e.number(), e.figure())?;
+            crate::say::blocks_kept(rt, samples, levels)
         }
         BlockDecoded::Decoded(dc, next, _) => {
-            crate::say::decoded(dc, next.bit_pos);
-            crate::say::block(levels);
-            crate::say::block(samples);
+            crate::say::decoded(rt, dc, next.bit_pos)?;
+            crate::say::block(rt, levels)?;
+            crate::say::block(rt, samples)
         }
     }
 }
 
-fn one_block(line: &[i32], at: usize, data: &[u8]) {
+fn one_block(rt: &impl Print, line: &[i32], at: usize, data: &[u8]) -> io::Result<()> {
     let mut samples = crate::say::lent_block();
     let mut levels = crate::say::lent_block();
     let answer = block::decode_intra_block_full(
@@ -33,25 +39,25 @@ fn one_block(line: &[i32], at: usize, data: &[u8]) {
         &mut samples,
         &mut levels,
     );
-    block_said(answer, samples, levels);
+    block_said(rt, answer, samples, levels)
 }
 
-pub(crate) fn block(line: &[i32]) {
+pub(crate) fn block(rt: &impl Print, line: &[i32]) -> io::Result<()> {
     let mut data = crate::line::space();
     let at = crate::setting::after_matrix(line, 33);
     let n = crate::line::data_of(line, crate::line::later(at, 1), &mut data);
-    one_block(line, at, &data[..n]);
+    one_block(rt, line, at, &data[..n])
 }
 
-fn macroblock_said(answer: MacroblockDecoded, samples: &[i32]) {
+fn macroblock_said(rt: &impl Print, answer: MacroblockDecoded, samples: &[i32]) -> io::Result<()> {
     match answer {
         MacroblockDecoded::Refused(e) => {
-            crate::say::refused(e.number(), e.figure());
-            crate::say::all_kept(samples);
+            crate::say::refused(rt, e.number(), e.figure())?;
+            crate::say::all_kept(rt, samples)
         }
         MacroblockDecoded::Decoded(bits, next, _) => {
-            crate::say::taken(bits, next.bit_pos);
-            crate::say::all(samples);
+            crate::say::taken(rt, bits, next.bit_pos)?;
+            crate::say::all(rt, samples)
         }
     }
 }
@@ -71,18 +77,24 @@ fn alone(line: &[i32], at: usize, data: &[u8], samples: &mut [i32]) -> Macrobloc
     )
 }
 
-fn alone_said(line: &[i32], at: usize, data: &[u8], samples: &mut [i32]) {
+fn alone_said(
+    rt: &impl Print,
+    line: &[i32],
+    at: usize,
+    data: &[u8],
+    samples: &mut [i32],
+) -> io::Result<()> {
     let answer = alone(line, at, data, samples);
-    macroblock_said(answer, samples);
+    macroblock_said(rt, answer, samples)
 }
 
-pub(crate) fn macroblock(line: &[i32]) {
+pub(crate) fn macroblock(rt: &impl Print, line: &[i32]) -> io::Result<()> {
     let mut data = crate::line::space();
     let mut samples = crate::say::lent_samples();
     let at = crate::setting::after_matrix(line, 37);
     let n = crate::line::data_of(line, crate::line::later(at, 1), &mut data);
     let room = crate::line::within(crate::line::size(line, 8, 0), &samples);
-    alone_said(line, at, &data[..n], &mut samples[..room]);
+    alone_said(rt, line, at, &data[..n], &mut samples[..room])
 }
 
 // Before the first opening: a picture that no call fits.
@@ -97,7 +109,7 @@ pub(crate) fn none() -> Picture {
 }
 
 // The picture that is open after it.
-pub(crate) fn opening(p: Picture, line: &[i32]) -> Picture {
+pub(crate) fn opening(rt: &impl Print, p: Picture, line: &[i32]) -> io::Result<Picture> {
     let answer = Picture::open(
         crate::line::unsigned(line, 1, 0),
         crate::line::unsigned(line, 2, 0),
@@ -106,29 +118,34 @@ pub(crate) fn opening(p: Picture, line: &[i32]) -> Picture {
     );
     match answer {
         PictureOpened::Refused(e) => {
-            crate::say::refused(e.number(), e.figure());
-            p
+            crate::say::refused(rt, e.number(), e.figure())?;
+            Ok(p)
         }
         PictureOpened::Opened(q) => {
-            crate::say::opened(q.width, q.height, q.bits_per_pixel, q.quant_type);
-            crate::say::number(q.accepted as u64);
-            q
+            crate::say::opened(rt, q.width, q.height, q.bits_per_pixel, q.quant_type)?;
+            crate::say::number(rt, q.accepted as u64)?;
+            Ok(q)
         }
     }
 }
 
-fn picture_said(p: Picture, answer: PictureDecoded, samples: &[i32]) -> Picture {
+fn picture_said(
+    rt: &impl Print,
+    p: Picture,
+    answer: PictureDecoded,
+    samples: &[i32],
+) -> io::Result<Picture> {
     match answer {
         PictureDecoded::Refused(e) => {
-            crate::say::refused(e.number(), e.figure());
-            crate::say::all_kept(samples);
-            p
+            crate::say::refused(rt, e.number(), e.figure())?;
+            crate::say::all_kept(rt, samples)?;
+            Ok(p)
         }
         PictureDecoded::Decoded(bits, next, _, q) => {
-            crate::say::taken(bits, next.bit_pos);
-            crate::say::number(q.accepted as u64);
-            crate::say::all(samples);
-            q
+            crate::say::taken(rt, bits, next.bit_pos)?;
+            crate::say::number(rt, q.accepted as u64)?;
+            crate::say::all(rt, samples)?;
+            Ok(q)
         }
     }
 }
@@ -155,18 +172,24 @@ fn next(
 }
 
 fn next_said(
+    rt: &impl Print,
     p: Picture,
     line: &[i32],
     at: usize,
     data: &[u8],
     samples: &mut [i32],
     store: &mut [i32],
-) -> Picture {
+) -> io::Result<Picture> {
     let answer = next(p, line, at, data, samples, store);
-    picture_said(p, answer, samples)
+    picture_said(rt, p, answer, samples)
 }
 
-pub(crate) fn in_picture(p: Picture, line: &[i32], store: &mut [i32]) -> Picture {
+pub(crate) fn in_picture(
+    rt: &impl Print,
+    p: Picture,
+    line: &[i32],
+    store: &mut [i32],
+) -> io::Result<Picture> {
     let mut data = crate::line::space();
     let mut samples = crate::say::lent_samples();
     let at = crate::setting::after_matrix(line, 15);
@@ -174,6 +197,7 @@ pub(crate) fn in_picture(p: Picture, line: &[i32], store: &mut [i32]) -> Picture
     let room = crate::line::within(crate::line::size(line, 8, 0), &samples);
     let stored = crate::line::within(crate::line::size(line, 9, 0), &*store);
     next_said(
+        rt,
         p,
         line,
         at,
@@ -183,7 +207,7 @@ pub(crate) fn in_picture(p: Picture, line: &[i32], store: &mut [i32]) -> Picture
     )
 }
 
-pub(crate) fn transform(line: &[i32]) {
+pub(crate) fn transform(rt: &impl Print, line: &[i32]) -> io::Result<()> {
     let mut samples = crate::say::lent_block();
     let rounding = crate::setting::rule(crate::line::flag(line, 2, 0));
     let answer = idct::idct_8x8_rounded(
@@ -194,10 +218,9 @@ pub(crate) fn transform(line: &[i32]) {
     );
     let number = answer.number();
     if number != 0 {
-        crate::say::refused(number, 0);
-        crate::say::block_kept(samples);
-        return;
+        crate::say::refused(rt, number, 0)?;
+        return crate::say::block_kept(rt, samples);
     }
-    crate::say::transformed();
-    crate::say::block(samples);
+    crate::say::transformed(rt)?;
+    crate::say::block(rt, samples)
 }

@@ -1,88 +1,101 @@
 // What is printed, and lent memory before and after a call.
 use headers::{DerivedMbType, HeaderFields};
-use libc::STDOUT_FILENO;
+use std::io;
 
 // In lent memory before a call: a number that no call gives.
 const LENT: i32 = 9999;
 
-fn text(s: &[u8]) {
-    io::write_all(STDOUT_FILENO, s);
+fn text(rt: &impl Print, s: &[u8]) -> io::Result<()> {
+    rt.write_all(s)
 }
 
 // The first number of a line.
-fn first(n: u32) {
-    io::print_decimal(STDOUT_FILENO, n as u64);
+fn first(rt: &impl Print, n: u32) -> io::Result<()> {
+    rt.print(n)
 }
 
-pub(crate) fn number(n: u64) {
-    text(b" ");
-    io::print_decimal(STDOUT_FILENO, n);
+pub(crate) fn number(rt: &impl Print, n: u64) -> io::Result<()> {
+    text(rt, b" ")?;
+    rt.print(n)
 }
 
-fn signed(z: i32) {
-    text(b" ");
+fn signed(rt: &impl Print, z: i32) -> io::Result<()> {
+    text(rt, b" ")?;
     if z < 0 {
-        text(b"-");
+        text(rt, b"-")?;
     }
-    io::print_decimal(STDOUT_FILENO, numbers::abs(z) as u64);
+    rt.print(numbers::abs(z))
 }
 
-fn flag(set: bool) {
-    if set {
-        number(1);
-    } else {
-        number(0);
-    }
+fn flag(rt: &impl Print, set: bool) -> io::Result<()> {
+    if set { number(rt, 1) } else { number(rt, 0) }
 }
 
 // Each of these begins the line of an accepted call.
-pub(crate) fn dc_part(size: u32, differential: i32, position: usize) {
-    first(0);
-    number(size as u64);
-    signed(differential);
-    number(position as u64);
+pub(crate) fn dc_part(
+    rt: &impl Print,
+    size: u32,
+    differential: i32,
+    position: usize,
+) -> io::Result<()> {
+    first(rt, 0)?;
+    number(rt, size as u64)?;
+    signed(rt, differential)?;
+    number(rt, position as u64)
 }
 
-pub(crate) fn event(last: bool, run: u32, level: i32, position: usize) {
-    first(0);
-    flag(last);
-    number(run as u64);
-    signed(level);
-    number(position as u64);
+pub(crate) fn event(
+    rt: &impl Print,
+    last: bool,
+    run: u32,
+    level: i32,
+    position: usize,
+) -> io::Result<()> {
+    first(rt, 0)?;
+    flag(rt, last)?;
+    number(rt, run as u64)?;
+    signed(rt, level)?;
+    number(rt, position as u64)
 }
 
-pub(crate) fn read(position: usize) {
-    first(0);
-    number(position as u64);
+pub(crate) fn read(rt: &impl Print, position: usize) -> io::Result<()> {
+    first(rt, 0)?;
+    number(rt, position as u64)
 }
 
-pub(crate) fn decoded(value: i32, position: usize) {
-    first(0);
-    signed(value);
-    number(position as u64);
+pub(crate) fn decoded(rt: &impl Print, value: i32, position: usize) -> io::Result<()> {
+    first(rt, 0)?;
+    signed(rt, value)?;
+    number(rt, position as u64)
 }
 
-pub(crate) fn taken(bits: usize, position: usize) {
-    first(0);
-    number(bits as u64);
-    number(position as u64);
+pub(crate) fn taken(rt: &impl Print, bits: usize, position: usize) -> io::Result<()> {
+    first(rt, 0)?;
+    number(rt, bits as u64)?;
+    number(rt, position as u64)
 }
 
-pub(crate) fn opened(width: u32, height: u32, bits_per_pixel: u32, quant_type: bool) {
-    first(0);
-    number(width as u64);
-    number(height as u64);
-    number(bits_per_pixel as u64);
-    flag(quant_type);
+pub(crate) fn opened(
+    rt: &impl Print,
+    width: u32,
+    height: u32,
+    bits_per_pixel: u32,
+    quant_type: bool,
+) -> io::Result<()> {
+    first(rt, 0)?;
+    number(rt, width as u64)?;
+    number(rt, height as u64)?;
+    number(rt, bits_per_pixel as u64)?;
+    flag(rt, quant_type)
 }
 
-pub(crate) fn transformed() {
-    first(0);
+pub(crate) fn transformed(rt: &impl Print) -> io::Result<()> {
+    first(rt, 0)
 }
 
-pub(crate) fn refused(n: u32, figure: u32) {
-    first(n);
-    number(figure as u64);
+pub(crate) fn refused(rt: &impl Print, n: u32, figure: u32) -> io::Result<()> {
+    first(rt, n)?;
+    number(rt, figure as u64)
 }
 
 // A type's place in Table B.1, 0 the missing one.
@@ -98,31 +111,32 @@ fn place(t: DerivedMbType) -> u64 {
 }
 
 // What is read of a header in bits.
-pub(crate) fn fields(f: HeaderFields) {
+pub(crate) fn fields(rt: &impl Print, f: HeaderFields) -> io::Result<()> {
     let header = f.header;
     let mb_type = header.mb_type;
-    flag(header.not_coded);
-    number(place(mb_type));
-    number(header.cbpc as u64);
-    flag(header.ac_pred_flag);
-    number(header.cbpy as u64);
-    signed(f.dquant_delta);
-    number(f.quantiser_scale as u64);
+    flag(rt, header.not_coded)?;
+    number(rt, place(mb_type))?;
+    number(rt, header.cbpc as u64)?;
+    flag(rt, header.ac_pred_flag)?;
+    number(rt, header.cbpy as u64)?;
+    signed(rt, f.dquant_delta)?;
+    number(rt, f.quantiser_scale as u64)
 }
 
 // Of a kind that there is not.
-pub(crate) fn none() {
-    text(b"?");
+pub(crate) fn none(rt: &impl Print) -> io::Result<()> {
+    text(rt, b"?")
 }
 
-pub(crate) fn end() {
-    text(b"\n");
+pub(crate) fn end(rt: &impl Print) -> io::Result<()> {
+    text(rt, b"\n")
 }
 
-pub(crate) fn all(s: &[i32]) {
+pub(crate) fn all(rt: &impl Print, s: &[i32]) -> io::Result<()> {
     for k in 0..s.len() {
-        signed(s[k]);
+        signed(rt, s[k])?;
     }
+    Ok(())
 }
 
 pub(crate) fn lent_samples() -> [i32; 512] {
@@ -138,20 +152,20 @@ fn kept(s: &[i32]) -> bool {
     true
 }
 
-pub(crate) fn all_kept(s: &[i32]) {
-    flag(kept(s));
+pub(crate) fn all_kept(rt: &impl Print, s: &[i32]) -> io::Result<()> {
+    flag(rt, kept(s))
 }
 
 pub(crate) fn lent_places() -> [i32; 64] {
     [LENT; 64]
 }
 
-pub(crate) fn places(qfs: [i32; 64]) {
-    all(&qfs);
+pub(crate) fn places(rt: &impl Print, qfs: [i32; 64]) -> io::Result<()> {
+    all(rt, &qfs)
 }
 
-pub(crate) fn places_kept(qfs: [i32; 64]) {
-    flag(kept(&qfs));
+pub(crate) fn places_kept(rt: &impl Print, qfs: [i32; 64]) -> io::Result<()> {
+    flag(rt, kept(&qfs))
 }
 
 pub(crate) fn lent_block() -> [[i32; 8]; 8] {
@@ -159,14 +173,15 @@ pub(crate) fn lent_block() -> [[i32; 8]; 8] {
     [row; 8]
 }
 
-fn row(r: [i32; 8]) {
-    all(&r);
+fn row(rt: &impl Print, r: [i32; 8]) -> io::Result<()> {
+    all(rt, &r)
 }
 
-pub(crate) fn block(b: [[i32; 8]; 8]) {
+pub(crate) fn block(rt: &impl Print, b: [[i32; 8]; 8]) -> io::Result<()> {
     for y in 0..8 {
-        row(b[y]);
+        row(rt, b[y])?;
     }
+    Ok(())
 }
 
 fn row_kept(r: [i32; 8]) -> bool {
@@ -182,14 +197,14 @@ fn block_is_kept(b: [[i32; 8]; 8]) -> bool {
     true
 }
 
-pub(crate) fn block_kept(b: [[i32; 8]; 8]) {
-    flag(block_is_kept(b));
+pub(crate) fn block_kept(rt: &impl Print, b: [[i32; 8]; 8]) -> io::Result<()> {
+    flag(rt, block_is_kept(b))
 }
 
-pub(crate) fn blocks_kept(b: [[i32; 8]; 8], d: [[i32; 8]; 8]) {
+pub(crate) fn blocks_kept(rt: &impl Print, b: [[i32; 8]; 8], d: [[i32; 8]; 8]) -> io::Result<()> {
     if block_is_kept(b) {
-        block_kept(d);
+        block_kept(rt, d)
     } else {
-        flag(false);
+        flag(rt, false)
     }
 }

@@ -1,6 +1,7 @@
 // DC parts, events and event lists.
 use bits::Cursor;
 use codes::{DcComponent, TcoefTable};
+use std::io;
 use texture::{DcRead, EventRead, EventsRead};
 
 fn component(chrominance: bool) -> DcComponent {
@@ -23,18 +24,21 @@ pub(crate) fn cursor(line: &[i32], base: usize) -> Cursor {
     }
 }
 
-fn dc_said(answer: DcRead) {
+fn dc_said(rt: &impl Print, answer: DcRead) -> io::Result<()> {
     match answer {
-        DcRead::Refused(e) => crate::say::refused(e.number(), e.figure()),
-        DcRead::Dc(d, next) => crate::say::dc_part(d.size, d.differential, next.bit_pos),
+        DcRead::Refused(e) => crate::say::refused(rt, e.number(), e.figure()),
+        DcRead::Dc(d, next) => crate::say::dc_part(rt, d.size, d.differential, next.bit_pos),
     }
 }
 
-pub(crate) fn dc(line: &[i32]) {
+pub(crate) fn dc(rt: &impl Print, line: &[i32]) -> io::Result<()> {
     let mut data = crate::line::space();
     let n = crate::line::data_of(line, 3, &mut data);
     let component = component(crate::line::flag(line, 1, 0));
-    dc_said(texture::decode_intra_dc(&data[..n], cursor(line, 2), component));
+    dc_said(
+        rt,
+        texture::decode_intra_dc(&data[..n], cursor(line, 2), component),
+    )
 }
 
 fn read_event(reversible: bool, data: &[u8], c: Cursor, table: TcoefTable) -> EventRead {
@@ -44,19 +48,22 @@ fn read_event(reversible: bool, data: &[u8], c: Cursor, table: TcoefTable) -> Ev
     texture::decode_ac_event(data, c, table)
 }
 
-fn event_said(answer: EventRead) {
+fn event_said(rt: &impl Print, answer: EventRead) -> io::Result<()> {
     match answer {
-        EventRead::Refused(e) => crate::say::refused(e.number(), e.figure()),
-        EventRead::Event(v, next) => crate::say::event(v.last, v.run, v.level, next.bit_pos),
+        EventRead::Refused(e) => crate::say::refused(rt, e.number(), e.figure()),
+        EventRead::Event(v, next) => crate::say::event(rt, v.last, v.run, v.level, next.bit_pos),
     }
 }
 
-pub(crate) fn event(line: &[i32]) {
+pub(crate) fn event(rt: &impl Print, line: &[i32]) -> io::Result<()> {
     let mut data = crate::line::space();
     let n = crate::line::data_of(line, 4, &mut data);
     let table = table(crate::line::flag(line, 2, 0));
     let reversible = crate::line::flag(line, 1, 0);
-    event_said(read_event(reversible, &data[..n], cursor(line, 3), table));
+    event_said(
+        rt,
+        read_event(reversible, &data[..n], cursor(line, 3), table),
+    )
 }
 
 fn read_events(
@@ -73,20 +80,20 @@ fn read_events(
     texture::decode_ac_events(data, c, table, dc_coded, qfs)
 }
 
-fn list_said(answer: EventsRead, qfs: [i32; 64]) {
+fn list_said(rt: &impl Print, answer: EventsRead, qfs: [i32; 64]) -> io::Result<()> {
     match answer {
         EventsRead::Refused(e) => {
-            crate::say::refused(e.number(), e.figure());
-            crate::say::places_kept(qfs);
+            crate::say::refused(rt, e.number(), e.figure())?;
+            crate::say::places_kept(rt, qfs)
         }
         EventsRead::Read(next, _) => {
-            crate::say::read(next.bit_pos);
-            crate::say::places(qfs);
+            crate::say::read(rt, next.bit_pos)?;
+            crate::say::places(rt, qfs)
         }
     }
 }
 
-pub(crate) fn list(line: &[i32]) {
+pub(crate) fn list(rt: &impl Print, line: &[i32]) -> io::Result<()> {
     let mut data = crate::line::space();
     let n = crate::line::data_of(line, 5, &mut data);
     let table = table(crate::line::flag(line, 2, 0));
@@ -101,5 +108,5 @@ pub(crate) fn list(line: &[i32]) {
         dc_coded,
         &mut qfs,
     );
-    list_said(answer, qfs);
+    list_said(rt, answer, qfs)
 }

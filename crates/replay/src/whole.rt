@@ -2,35 +2,39 @@
 use headers::HeaderRead;
 use macroblock::WholeDecoded;
 use picture::{Picture, PictureWholeDecoded};
+use std::io;
 
-fn header_said(answer: HeaderRead) {
+fn header_said(rt: &impl Print, answer: HeaderRead) -> io::Result<()> {
     match answer {
-        HeaderRead::Refused(e) => crate::say::refused(e.number(), e.figure()),
+        HeaderRead::Refused(e) => crate::say::refused(rt, e.number(), e.figure()),
         HeaderRead::Read(fields, next) => {
-            crate::say::read(next.bit_pos);
-            crate::say::fields(fields);
+            crate::say::read(rt, next.bit_pos)?;
+            crate::say::fields(rt, fields)
         }
     }
 }
 
-pub(crate) fn header(line: &[i32]) {
+pub(crate) fn header(rt: &impl Print, line: &[i32]) -> io::Result<()> {
     let mut data = crate::line::space();
     let n = crate::line::data_of(line, 3, &mut data);
     let quantiser_scale = crate::line::unsigned(line, 1, 0);
     let c = crate::symbols::cursor(line, 2);
-    header_said(headers::parse_macroblock_header(&data[..n], c, quantiser_scale));
+    header_said(
+        rt,
+        headers::parse_macroblock_header(&data[..n], c, quantiser_scale),
+    )
 }
 
-fn macroblock_said(answer: WholeDecoded, samples: &[i32]) {
+fn macroblock_said(rt: &impl Print, answer: WholeDecoded, samples: &[i32]) -> io::Result<()> {
     match answer {
         WholeDecoded::Refused(e) => {
-            crate::say::refused(e.number(), e.figure());
-            crate::say::all_kept(samples);
+            crate::say::refused(rt, e.number(), e.figure())?;
+            crate::say::all_kept(rt, samples)
         }
         WholeDecoded::Decoded(bits, next, _, fields) => {
-            crate::say::taken(bits, next.bit_pos);
-            crate::say::fields(fields);
-            crate::say::all(samples);
+            crate::say::taken(rt, bits, next.bit_pos)?;
+            crate::say::fields(rt, fields)?;
+            crate::say::all(rt, samples)
         }
     }
 }
@@ -49,33 +53,44 @@ fn alone(line: &[i32], at: usize, data: &[u8], samples: &mut [i32]) -> WholeDeco
     )
 }
 
-fn alone_said(line: &[i32], at: usize, data: &[u8], samples: &mut [i32]) {
+fn alone_said(
+    rt: &impl Print,
+    line: &[i32],
+    at: usize,
+    data: &[u8],
+    samples: &mut [i32],
+) -> io::Result<()> {
     let answer = alone(line, at, data, samples);
-    macroblock_said(answer, samples);
+    macroblock_said(rt, answer, samples)
 }
 
-pub(crate) fn macroblock(line: &[i32]) {
+pub(crate) fn macroblock(rt: &impl Print, line: &[i32]) -> io::Result<()> {
     let mut data = crate::line::space();
     let mut samples = crate::say::lent_samples();
     let at = crate::setting::after_matrix(line, 32);
     let n = crate::line::data_of(line, crate::line::later(at, 1), &mut data);
     let room = crate::line::within(crate::line::size(line, 3, 0), &samples);
-    alone_said(line, at, &data[..n], &mut samples[..room]);
+    alone_said(rt, line, at, &data[..n], &mut samples[..room])
 }
 
-fn picture_said(p: Picture, answer: PictureWholeDecoded, samples: &[i32]) -> Picture {
+fn picture_said(
+    rt: &impl Print,
+    p: Picture,
+    answer: PictureWholeDecoded,
+    samples: &[i32],
+) -> io::Result<Picture> {
     match answer {
         PictureWholeDecoded::Refused(e) => {
-            crate::say::refused(e.number(), e.figure());
-            crate::say::all_kept(samples);
-            p
+            crate::say::refused(rt, e.number(), e.figure())?;
+            crate::say::all_kept(rt, samples)?;
+            Ok(p)
         }
         PictureWholeDecoded::Decoded(bits, next, _, q, fields) => {
-            crate::say::taken(bits, next.bit_pos);
-            crate::say::number(q.accepted as u64);
-            crate::say::fields(fields);
-            crate::say::all(samples);
-            q
+            crate::say::taken(rt, bits, next.bit_pos)?;
+            crate::say::number(rt, q.accepted as u64)?;
+            crate::say::fields(rt, fields)?;
+            crate::say::all(rt, samples)?;
+            Ok(q)
         }
     }
 }
@@ -101,18 +116,24 @@ fn next(
 }
 
 fn next_said(
+    rt: &impl Print,
     p: Picture,
     line: &[i32],
     at: usize,
     data: &[u8],
     samples: &mut [i32],
     store: &mut [i32],
-) -> Picture {
+) -> io::Result<Picture> {
     let answer = next(p, line, at, data, samples, store);
-    picture_said(p, answer, samples)
+    picture_said(rt, p, answer, samples)
 }
 
-pub(crate) fn in_picture(p: Picture, line: &[i32], store: &mut [i32]) -> Picture {
+pub(crate) fn in_picture(
+    rt: &impl Print,
+    p: Picture,
+    line: &[i32],
+    store: &mut [i32],
+) -> io::Result<Picture> {
     let mut data = crate::line::space();
     let mut samples = crate::say::lent_samples();
     let at = crate::setting::after_matrix(line, 10);
@@ -120,6 +141,7 @@ pub(crate) fn in_picture(p: Picture, line: &[i32], store: &mut [i32]) -> Picture
     let room = crate::line::within(crate::line::size(line, 3, 0), &samples);
     let stored = crate::line::within(crate::line::size(line, 4, 0), &*store);
     next_said(
+        rt,
         p,
         line,
         at,
