@@ -15,11 +15,8 @@ use Rattle.texture.specs.declared.list.EventsRead.{EventsRead}
 use Rattle.texture.specs.declared.list.EventsRead.TheVariants.{Read, Refused as Unread}
 use Rattle.block.proofs.RowLaws.{SixRead, six_read, six_refused}
 use Rattle.block_reader.specs.Rows.{blocks_answer, rows_after}
-use Rattle.coefficients.proofs.NeededLaws.{needed_fine}
 use Rattle.coefficients.specs.Level.{places_fine, predictors_fine}
-use Rattle.coefficients.specs.Needed.{needed_of, numbered}
 use Rattle.prediction.specs.declared.predictor.BlockPredictors.{BlockPredictors}
-use Rattle.assembly.proofs.ContextLaws.{quantiser-fine}
 use Rattle.assembly.specs.Values.{context_fine}
 use Rattle.assembly.specs.declared.context.MacroblockTextureContext.{MacroblockTextureContext}
 use Rattle.assembly.specs.declared.error.BlockAssemblyError.TheVariants.{Texture}
@@ -27,7 +24,6 @@ use Rattle.assembly.specs.declared.error.Checked.TheVariants.{Fine}
 use Rattle.headers.specs.Fields.{pattern_by}
 use Rattle.headers.specs.declared.header.MacroblockHeader.{MacroblockHeader}
 use Rattle.window_reader.specs.Ends.{ends_of}
-use Rattle.macroblock.proofs.SixLaws.{needed_six}
 use Rattle.macroblock.proofs.StateLaws.{StateFine, state-fine}
 use Rattle.macroblock.specs.Answer.{samples_told, sentence_of, state_of, told}
 use Rattle.macroblock.specs.Six.{samples_of_six, values_of_six}
@@ -65,17 +61,13 @@ module _ (d : List ℕ) (at : ℕ) (header : MacroblockHeader) (dc_coded rev : B
     unfolding sentence_of
     told-read = ap₂ (λ (y : Cursor) (m : Spellings). Decoded (y.bit_pos - at) y m) read.place read.counts_are ∙ sym (ap (told d at) read.read)
 
-    -- with what is needed of the predictors
-    module _ (ns : List ℤ) (n : ns ≡ needed_of x.quantiser_scale x.ac_pred_flag p) where
-      pub six_ready : (ends : List ℕ) → ends ≡ ends_of rows
-          → (384 ≤ length old) × (context_fine x w ≡ true) × (predictors_fine (numbered ns) ≡ true) × (ends ≡ ends_of rows) × ((i : ℕ) → i < 6 → (places_fine (get_or rows i []) ≡ true) × (length (get_or rows i []) ≡ 64))
-      six_ready ends m =
-          let near = ap (λ (ns : List ℤ). predictors_fine (numbered ns)) n ∙ needed_fine x.quantiser_scale x.ac_pred_flag p (quantiser-fine x w fine.context) fine.predictors in
-          (fine.roomy, fine.context, near, m, λ i l. (read.fine i l, read.long i l))
+    pub six_ready : (ends : List ℕ) → ends ≡ ends_of rows
+        → (384 ≤ length old) × (context_fine x w ≡ true) × (predictors_fine p ≡ true) × (ends ≡ ends_of rows) × ((i : ℕ) → i < 6 → (places_fine (get_or rows i []) ≡ true) × (length (get_or rows i []) ≡ 64))
+    six_ready ends m = (fine.roomy, fine.context, fine.predictors, m, λ i l. (read.fine i l, read.long i l))
 
-      -- with its samples
-      pub decoded : (out : List ℤ) → out ≡ samples_after (samples_of_six x (values_of_six x (numbered ns) w rows)) old → Tells (Decoded (next.bit_pos - at) next counts) out
-      unfolding sentence_of
-      decoded out b =
-          let values = ap (λ (ns : List ℤ). values_of_six x (numbered ns) w rows) n ∙ needed_six x p w rows fine.predictors ∙ ap (values_of_six x p w) read.rows_are in
-          (told-read, b ∙ ap (λ (fs : List (List (List ℤ))). samples_after (samples_of_six x fs) old) values ∙ sym (ap (λ (y : Res (List Parts)). samples_told header dc_coded x p w y old) read.read))
+    -- with its samples
+    pub decoded : (out : List ℤ) → out ≡ samples_after (samples_of_six x (values_of_six x p w rows)) old → Tells (Decoded (next.bit_pos - at) next counts) out
+    unfolding sentence_of
+    decoded out b =
+        let values = ap (values_of_six x p w) read.rows_are in
+        (told-read, b ∙ ap (λ (fs : List (List (List ℤ))). samples_after (samples_of_six x fs) old) values ∙ sym (ap (λ (y : Res (List Parts)). samples_told header dc_coded x p w y old) read.read))

@@ -91,9 +91,7 @@ fn decode_checked(
     match answer {
         EventsRead::Refused(e) => MacroblockDecoded::Refused(BlockAssemblyError::Texture(e)),
         EventsRead::Read(next, spellings) => {
-            let mut n = [0i32; 11];
-            coefficients::needed(predictors, ctx.quantiser_scale, ctx.ac_pred_flag, &mut n);
-            let rebuilt = crate::six::samples_of_six(&rows, ends, ctx, &n, w, samples);
+            let rebuilt = crate::six::samples_of_six(&rows, ends, ctx, predictors, w, samples);
             match rebuilt {
                 Checked::Bad(e) => MacroblockDecoded::Refused(e),
                 Checked::Fine => {

@@ -12,6 +12,7 @@ ghost use Rattle.window_reader.specs.Ends.{ends_of};
 ghost use Rattle.macroblock.specs.Six.{samples_of_six, values_of_six};
 
 use block::{BlockAssemblyError, BlockRebuilt, Checked, MacroblockTextureContext};
+use coefficients::BlockPredictors;
 use samples::BlockWritten;
 
 // Block `i` out of its places below `end`, with what it needs of its predictors, into its part of the samples. The state is fine and the places are a sentence's,
@@ -44,20 +45,22 @@ fn block_into(
     }
 }
 
-// The samples of six blocks with what they need of the same predictors, each row with its end.
+// The samples of six blocks with the same predictors, each row with its end.
 pub(crate) fn samples_of_six(
     rows: &[[i32; 64]; 6],
     ends: [usize; 6],
     ctx: MacroblockTextureContext,
-    n: &[i32; 11],
+    predictors: BlockPredictors,
     w: [[u8; 8]; 8],
     samples: &mut [i32],
 ) -> Checked
-    requires { (macroblock_samples ≤ length samples.old) × (context_fine ctx w ≡ true) × (predictors_fine (numbered n.now) ≡ true) × (ends ≡ ends_of rows.now) × ((i : ℕ) → i < 6 → (places_fine (get_or rows.now i []) ≡ true) × (length (get_or rows.now i []) ≡ 64)) }
-    ensures { (result ≡ Fine) × (samples.new ≡ samples_after (samples_of_six ctx (values_of_six ctx (numbered n.now) w rows.now)) samples.old) }
+    requires { (macroblock_samples ≤ length samples.old) × (context_fine ctx w ≡ true) × (predictors_fine predictors ≡ true) × (ends ≡ ends_of rows.now) × ((i : ℕ) → i < 6 → (places_fine (get_or rows.now i []) ≡ true) × (length (get_or rows.now i []) ≡ 64)) }
+    ensures { (result ≡ Fine) × (samples.new ≡ samples_after (samples_of_six ctx (values_of_six ctx predictors w rows.now)) samples.old) }
 {
+    let mut n = [0i32; 11];
+    coefficients::needed(predictors, ctx.quantiser_scale, ctx.ac_pred_flag, &mut n);
     for i in 0..6 {
-        let one = block_into(i, &rows[i], ends[i], ctx, n, w, samples);
+        let one = block_into(i, &rows[i], ends[i], ctx, &n, w, samples);
         match one {
             Checked::Bad(e) => {
                 return Checked::Bad(e);

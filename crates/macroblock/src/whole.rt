@@ -68,9 +68,7 @@ fn decode_after(
     match answer {
         EventsRead::Refused(e) => WholeDecoded::Refused(BlockAssemblyError::Texture(e)),
         EventsRead::Read(after, spellings) => {
-            let mut n = [0i32; 11];
-            coefficients::needed(predictors, x.quantiser_scale, x.ac_pred_flag, &mut n);
-            let rebuilt = crate::six::samples_of_six(&rows, ends, x, &n, w, samples);
+            let rebuilt = crate::six::samples_of_six(&rows, ends, x, predictors, w, samples);
             match rebuilt {
                 Checked::Bad(e) => WholeDecoded::Refused(e),
                 Checked::Fine => {

@@ -19,17 +19,11 @@ enum_known-answer c = search rules
 enum_known-answer-in-Read-1 : tie.Need-enum_known-answer-in-Read-1
 enum_known-answer-in-Read-1 c = search rules
 
-needed-requires : tie.Need-needed-requires
-needed-requires c κs = search rules
-
 samples_of_six-rebuilt-requires : tie.Need-samples_of_six-rebuilt-requires
 samples_of_six-rebuilt-requires c κs =
-    let m = c.before.before.before in
-    let k = m.before.before in
-    let b = k.before in
-    let s = b.before.before.before.before.before in
-    let a = s.args in
-    six_ready a.«data».now a.c.bit_pos a.header a.use_intra_dc_vlc a.reversible_vlc a.ctx a.predictors a.w a.samples.now s.requires _ b.pattern_code-pattern.ensures _ b.read_six-answer.ensures.0 _ _ b.read_six-answer.ensures.1.0 _ _ k.in-Read.is _ m.needed.ensures _ b.read_six-answer.ensures.1.1.0
+    let b = c in
+    let a = c.args in
+    six_ready a.«data».now a.c.bit_pos a.header a.use_intra_dc_vlc a.reversible_vlc a.ctx a.predictors a.w a.samples.now c.requires _ b.pattern_code-pattern.ensures _ b.read_six-answer.ensures.0 _ _ b.read_six-answer.ensures.1.0 _ _ b.in-Read.is _ b.read_six-answer.ensures.1.1.0
 
 enum_known-rebuilt : tie.Need-enum_known-rebuilt
 enum_known-rebuilt c = search rules
@@ -39,18 +33,15 @@ enum_told-1 c = search rules
 
 overflow_sub-bits : tie.Need-overflow_sub-bits
 overflow_sub-bits c =
-    let k = c.before.before.before.before.before.before.before.before.before.before in
-    let b = k.before in
-    let s = b.before.before.before.before.before in
-    let a = s.args in
-    forward a.«data».now a.c.bit_pos a.header a.use_intra_dc_vlc a.reversible_vlc a.ctx a.predictors a.w a.samples.now s.requires _ b.pattern_code-pattern.ensures _ b.read_six-answer.ensures.0 _ _ b.read_six-answer.ensures.1.0 _ _ k.in-Read.is
+    let b = c in
+    let a = c.args in
+    forward a.«data».now a.c.bit_pos a.header a.use_intra_dc_vlc a.reversible_vlc a.ctx a.predictors a.w a.samples.now c.requires _ b.pattern_code-pattern.ensures _ b.read_six-answer.ensures.0 _ _ b.read_six-answer.ensures.1.0 _ _ b.in-Read.is
 
 returns-in-Refused : tie.Need-returns-in-Refused
 returns-in-Refused c =
-    let b = c.before in
-    let s = b.before.before.before.before.before in
-    let a = s.args in
-    unread a.«data».now a.c.bit_pos a.header a.use_intra_dc_vlc a.reversible_vlc a.ctx a.predictors a.w a.samples.now s.requires _ b.pattern_code-pattern.ensures _ b.read_six-answer.ensures.0 c.in-Refused.is
+    let b = c in
+    let a = c.args in
+    unread a.«data».now a.c.bit_pos a.header a.use_intra_dc_vlc a.reversible_vlc a.ctx a.predictors a.w a.samples.now c.requires _ b.pattern_code-pattern.ensures _ b.read_six-answer.ensures.0 c.in-Refused.is
 
 shape_of-samples-in-Bad : tie.Need-shape_of-samples-in-Bad
 shape_of-samples-in-Bad c = search rules
@@ -67,13 +58,9 @@ shape_of-samples-in-Fine c = search rules
 
 returns-in-Fine : tie.Need-returns-in-Fine
 returns-in-Fine c =
-    let g = c.before.before.before.before in
-    let m = g.before.before.before.before in
-    let k = m.before.before in
-    let b = k.before in
-    let s = b.before.before.before.before.before in
-    let a = s.args in
-    decoded a.«data».now a.c.bit_pos a.header a.use_intra_dc_vlc a.reversible_vlc a.ctx a.predictors a.w a.samples.now s.requires _ b.pattern_code-pattern.ensures _ b.read_six-answer.ensures.0 _ _ b.read_six-answer.ensures.1.0 _ _ k.in-Read.is _ m.needed.ensures _ g.samples_of_six-rebuilt.ensures.1
+    let b = c in
+    let a = c.args in
+    decoded a.«data».now a.c.bit_pos a.header a.use_intra_dc_vlc a.reversible_vlc a.ctx a.predictors a.w a.samples.now c.requires _ b.pattern_code-pattern.ensures _ b.read_six-answer.ensures.0 _ _ b.read_six-answer.ensures.1.0 _ _ b.in-Read.is _ b.samples_of_six-rebuilt.ensures.1
 
 pub decode_checked_spec : {M : Type 1} → statement M
 decode_checked_spec =
@@ -83,7 +70,6 @@ decode_checked_spec =
     read_six-answer-requires
     enum_known-answer
     enum_known-answer-in-Read-1
-    needed-requires
     samples_of_six-rebuilt-requires
     enum_known-rebuilt
     enum_told-1

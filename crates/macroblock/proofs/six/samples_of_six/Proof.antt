@@ -1,23 +1,31 @@
 -- `macroblock::six::samples_of_six` meets its contract: block after block into the samples, none refused. Assumes nothing.
+use mathlib.Core.List.{List}
 use mathlib.Core.Path.{◌≡◌, ap, refl, sym, ◌∙◌}
 use Prim.Native.Nat.{ℕ, ◌-◌, ◌≤◌}
 use native.Mathlib.Omega.{arith}
 use borrow.Author.Rules.{rules}
+use lib.IntN.{ℤ}
 use lib.ListN.{length}
 use Rattle.samples.proofs.TurnLaws.{block-length, turn-none}
-use Rattle.samples.specs.Samples.{blocks_after}
+use Rattle.samples.specs.Samples.{blocks_after, samples_after}
+use Rattle.assembly.proofs.ContextLaws.{quantiser-fine}
+use Rattle.coefficients.proofs.NeededLaws.{needed_fine}
+use Rattle.coefficients.specs.Level.{predictors_fine}
 use Rattle.coefficients.specs.Needed.{numbered}
-use Rattle.macroblock.proofs.SixLaws.{all_below_end, all_six, one_more_lem}
+use Rattle.macroblock.proofs.SixLaws.{all_below_end, all_six, needed_six, one_more_lem}
 use Rattle.macroblock.specs.Six.{samples_of_six, values_of_six}
 use Rattle.macroblock.proofs.six.samples_of_six.Statement.{statement}
 use Rattle.macroblock.proofs.six.samples_of_six.Tie as tie
 
 abbrev invariant-loop-i : tie.invariant-loop-i
-invariant-loop-i rows ctx n w samples₀ ends i₀ samples i =
+invariant-loop-i rows ctx w samples₀ ends n i₀ samples i =
     (i ≤ 6) × (length samples ≡ length samples₀) × (samples ≡ blocks_after i (samples_of_six ctx (values_of_six ctx (numbered n) w rows)) samples₀)
 
 abbrev decreases-loop-i : tie.decreases-loop-i
-decreases-loop-i rows ctx n w samples₀ ends i₀ samples i = 6 - i
+decreases-loop-i rows ctx w samples₀ ends n i₀ samples i = 6 - i
+
+needed-requires : tie.Need-needed-requires invariant-loop-i decreases-loop-i
+needed-requires c κs = search rules
 
 loop-i-init : tie.Need-loop-i-init invariant-loop-i decreases-loop-i
 loop-i-init c = (omega arith, refl, sym (turn-none _ _))
@@ -36,13 +44,13 @@ bounds-ends-i c = omega arith
 
 block_into-one-requires : tie.Need-block_into-one-requires invariant-loop-i decreases-loop-i
 block_into-one-requires c κs =
-    let g = c.before.before.before in
-    let l = g.loop in
-    let t = g.loop-test.true in
-    let s = g.before.before in
-    let p = s.requires in
+    let l = c.loop-i in
+    let t = c.loop-i-test.true in
+    let a = c.args in
+    let p = c.requires in
     let row = p.4 l.i t in
-    (t, omega (arith, p.0, l.invariant.1), p.1, p.2, row.0, all_below_end s.args.rows.now s.args.ends l.i p.3 row.1)
+    let fine = ap (λ (ns : List ℤ). predictors_fine (numbered ns)) c.needed.ensures ∙ needed_fine a.ctx.quantiser_scale a.ctx.ac_pred_flag a.predictors (quantiser-fine a.ctx a.w p.1) p.2 in
+    (t, omega (arith, p.0, l.invariant.1), p.1, fine, row.0, all_below_end a.rows.now a.ends l.i p.3 row.1)
 
 enum_known-one : tie.Need-enum_known-one invariant-loop-i decreases-loop-i
 enum_known-one c = search rules
@@ -68,16 +76,13 @@ loop-i-smaller c = omega arith
 
 loop-i-preserved : tie.Need-loop-i-preserved invariant-loop-i decreases-loop-i
 loop-i-preserved c =
-    let b = c.before.before in
-    let g = b.before.before.before.before in
-    let l = g.loop in
-    let t = g.loop-test.true in
-    let s = g.before.before in
-    let a = s.args in
-    let e = b.block_into-one.ensures.1 in (
+    let l = c.loop-i in
+    let t = c.loop-i-test.true in
+    let a = c.args in
+    let e = c.block_into-one.ensures.1 in (
       omega arith,
       ap length e ∙ block-length l.i _ l.samples ∙ l.invariant.1,
-      e ∙ one_more_lem a.ctx (numbered a.n.now) a.w a.rows.now l.i a.samples.now l.samples s.requires.0 l.invariant.2 t,
+      e ∙ one_more_lem a.ctx (numbered c.needed.new.numbers) a.w a.rows.now l.i a.samples.now l.samples c.requires.0 l.invariant.2 t,
     )
 
 shape_of-samples : tie.Need-shape_of-samples invariant-loop-i decreases-loop-i
@@ -86,9 +91,12 @@ shape_of-samples c = c.loop-i.invariant.1
 returns : tie.Need-returns invariant-loop-i decreases-loop-i
 returns c =
     let l = c.loop-i in
-    let s = c.before.before in
-    let a = s.args in
-    (refl, all_six a.ctx (numbered a.n.now) a.w a.rows.now l.i a.samples.now l.samples s.requires.0 l.invariant.2 (omega arith))
+    let a = c.args in
+    let whole = ap (λ (ns : List ℤ). values_of_six a.ctx (numbered ns) a.w a.rows.now) c.needed.ensures ∙ needed_six a.ctx a.predictors a.w a.rows.now c.requires.2 in (
+      refl,
+      all_six a.ctx (numbered c.needed.new.numbers) a.w a.rows.now l.i a.samples.now l.samples c.requires.0 l.invariant.2 (omega arith)
+          ∙ ap (λ (fs : List (List (List ℤ))). samples_after (samples_of_six a.ctx fs) a.samples.now) whole,
+    )
 
 pub samples_of_six_spec : {M : Type 1} → statement M
 samples_of_six_spec =
@@ -96,6 +104,7 @@ samples_of_six_spec =
     (tie.spec
     invariant-loop-i
     decreases-loop-i
+    needed-requires
     loop-i-init
     offset_bounds-rows-i
     bounds-rows-i

@@ -33,17 +33,12 @@ enum_known-answer c = search rules
 enum_known-answer-in-Read-1 : tie.Need-enum_known-answer-in-Read-1
 enum_known-answer-in-Read-1 c = search rules
 
-needed-requires : tie.Need-needed-requires
-needed-requires c κs = search rules
-
 samples_of_six-rebuilt-requires : tie.Need-samples_of_six-rebuilt-requires
 samples_of_six-rebuilt-requires c κs =
-    let m = c.before.before.before in
-    let k = m.before.before in
-    let b = k.before in
-    let x = b.before.before.before.before in
-    let a = x.args in
-    six_ready a.«data».now a.next.bit_pos a.fields.header a.use_intra_dc_vlc a.reversible_vlc _ a.predictors a.w a.samples.now (behind x) _ b.pattern_code-pattern.ensures _ b.read_six-answer.ensures.0 _ _ b.read_six-answer.ensures.1.0 _ _ k.in-Read.is _ m.needed.ensures _ b.read_six-answer.ensures.1.1.0
+    let b = c in
+    let x = c.before.before.before.before.before.before.before in
+    let a = c.args in
+    six_ready a.«data».now a.next.bit_pos a.fields.header a.use_intra_dc_vlc a.reversible_vlc _ a.predictors a.w a.samples.now (behind x) _ b.pattern_code-pattern.ensures _ b.read_six-answer.ensures.0 _ _ b.read_six-answer.ensures.1.0 _ _ b.in-Read.is _ b.read_six-answer.ensures.1.1.0
 
 enum_known-rebuilt : tie.Need-enum_known-rebuilt
 enum_known-rebuilt c = search rules
@@ -53,22 +48,19 @@ enum_told-1 c = search rules
 
 overflow_sub-bits : tie.Need-overflow_sub-bits
 overflow_sub-bits c =
-    let k = c.before.before.before.before.before.before.before.before.before.before in
-    let b = k.before in
-    let x = b.before.before.before.before in
-    let s = x.before.before.before in
-    let a = s.args in
-    then_forward a.«data».now a.c.bit_pos a.use_intra_dc_vlc a.reversible_vlc a.ctx a.predictors a.w a.samples.now s.requires.0 a.fields a.next s.requires.1 _ x.context_with-x.ensures _ (told-read a.«data».now a.next.bit_pos a.fields.header a.use_intra_dc_vlc a.reversible_vlc _ a.predictors a.w a.samples.now (behind x) _ b.pattern_code-pattern.ensures _ b.read_six-answer.ensures.0 _ _ b.read_six-answer.ensures.1.0 _ _ k.in-Read.is) refl
+    let b = c in
+    let x = c.before.before.before.before.before.before.before.before.before.before.before.before in
+    let a = c.args in
+    then_forward a.«data».now a.c.bit_pos a.use_intra_dc_vlc a.reversible_vlc a.ctx a.predictors a.w a.samples.now c.requires.0 a.fields a.next c.requires.1 _ x.context_with-x.ensures _ (told-read a.«data».now a.next.bit_pos a.fields.header a.use_intra_dc_vlc a.reversible_vlc _ a.predictors a.w a.samples.now (behind x) _ b.pattern_code-pattern.ensures _ b.read_six-answer.ensures.0 _ _ b.read_six-answer.ensures.1.0 _ _ b.in-Read.is) refl
 
 returns-in-Refused : tie.Need-returns-in-Refused
 returns-in-Refused c =
-    let b = c.before in
-    let x = b.before.before.before.before in
-    let s = x.before.before.before in
-    let a = s.args in
+    let b = c in
+    let x = c.before.before.before.before.before in
+    let a = c.args in
     let t = unread a.«data».now a.next.bit_pos a.fields.header a.use_intra_dc_vlc a.reversible_vlc _ a.predictors a.w a.samples.now (behind x) _ b.pattern_code-pattern.ensures _ b.read_six-answer.ensures.0 c.in-Refused.is in (
-      then_refused a.«data».now a.c.bit_pos a.use_intra_dc_vlc a.reversible_vlc a.ctx a.predictors a.w a.samples.now s.requires.0 a.fields a.next s.requires.1 _ x.context_with-x.ensures _ t.0 refl,
-      then_samples a.«data».now a.c.bit_pos a.use_intra_dc_vlc a.reversible_vlc a.ctx a.predictors a.w a.samples.now s.requires.0 a.fields a.next s.requires.1 _ x.context_with-x.ensures _ t.1,
+      then_refused a.«data».now a.c.bit_pos a.use_intra_dc_vlc a.reversible_vlc a.ctx a.predictors a.w a.samples.now c.requires.0 a.fields a.next c.requires.1 _ x.context_with-x.ensures _ t.0 refl,
+      then_samples a.«data».now a.c.bit_pos a.use_intra_dc_vlc a.reversible_vlc a.ctx a.predictors a.w a.samples.now c.requires.0 a.fields a.next c.requires.1 _ x.context_with-x.ensures _ t.1,
     )
 
 shape_of-samples-in-Bad : tie.Need-shape_of-samples-in-Bad
@@ -86,16 +78,12 @@ shape_of-samples-in-Fine c = search rules
 
 returns-in-Fine : tie.Need-returns-in-Fine
 returns-in-Fine c =
-    let g = c.before.before.before.before in
-    let m = g.before.before.before.before in
-    let k = m.before.before in
-    let b = k.before in
-    let x = b.before.before.before.before in
-    let s = x.before.before.before in
-    let a = s.args in
-    let t = decoded a.«data».now a.next.bit_pos a.fields.header a.use_intra_dc_vlc a.reversible_vlc _ a.predictors a.w a.samples.now (behind x) _ b.pattern_code-pattern.ensures _ b.read_six-answer.ensures.0 _ _ b.read_six-answer.ensures.1.0 _ _ k.in-Read.is _ m.needed.ensures _ g.samples_of_six-rebuilt.ensures.1 in (
-      then_decoded a.«data».now a.c.bit_pos a.use_intra_dc_vlc a.reversible_vlc a.ctx a.predictors a.w a.samples.now s.requires.0 a.fields a.next s.requires.1 _ x.context_with-x.ensures _ t.0 refl,
-      then_samples a.«data».now a.c.bit_pos a.use_intra_dc_vlc a.reversible_vlc a.ctx a.predictors a.w a.samples.now s.requires.0 a.fields a.next s.requires.1 _ x.context_with-x.ensures _ t.1,
+    let b = c in
+    let x = c.before.before.before.before.before.before.before.before.before.before.before.before in
+    let a = c.args in
+    let t = decoded a.«data».now a.next.bit_pos a.fields.header a.use_intra_dc_vlc a.reversible_vlc _ a.predictors a.w a.samples.now (behind x) _ b.pattern_code-pattern.ensures _ b.read_six-answer.ensures.0 _ _ b.read_six-answer.ensures.1.0 _ _ b.in-Read.is _ b.samples_of_six-rebuilt.ensures.1 in (
+      then_decoded a.«data».now a.c.bit_pos a.use_intra_dc_vlc a.reversible_vlc a.ctx a.predictors a.w a.samples.now c.requires.0 a.fields a.next c.requires.1 _ x.context_with-x.ensures _ t.0 refl,
+      then_samples a.«data».now a.c.bit_pos a.use_intra_dc_vlc a.reversible_vlc a.ctx a.predictors a.w a.samples.now c.requires.0 a.fields a.next c.requires.1 _ x.context_with-x.ensures _ t.1,
     )
 
 pub decode_after_spec : {M : Type 1} → statement M
@@ -107,7 +95,6 @@ decode_after_spec =
     read_six-answer-requires
     enum_known-answer
     enum_known-answer-in-Read-1
-    needed-requires
     samples_of_six-rebuilt-requires
     enum_known-rebuilt
     enum_told-1
