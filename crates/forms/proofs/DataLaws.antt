@@ -9,9 +9,10 @@ use lib.Dec.{eqb, leb}
 use lib.ListN.{drop, get_or, length, length-drop, length-take, take}
 use borrow.Author.Tests.{leb-true}
 use Rattle.numbers.specs.Every.{every}
-use Rattle.forms.specs.Forms.{Form, form_by, form_of, given, last, longest, malformed, mb, mb_form, mb_word, next, picture, picture_form, picture_word}
+use Rattle.forms.specs.Forms.{Form, form_by, form_of, given, kind_in, last, longest, malformed, mb, mb_form, mb_word, method_in, next, picture, picture_form, picture_word}
 use Rattle.forms.specs.Reading.{room_for_data}
-use Rattle.forms.specs.Words.{bytes_of, hex_in, is_hex, joined, same, words}
+use Rattle.forms.specs.Words.{bytes_of, hex_in, is_hex, joined, number_in, same, words}
+use Rattle.forms.specs.declared.kind.Kind.{Kind}
 
 -- ---- no word is longer than the bytes that it stands in
 
@@ -71,16 +72,48 @@ hex_fits w b h e = go (leb 2 (length w) && (eqb (length w % 2) 0 && every is_hex
     go true k = let q : bytes_of w ≡ b = cc in let m = bytes-half w in subst (λ (xs : List ℕ). length xs ≤ room_for_data) q (omega arith)
     go false k = absurd (let z : ◌≡◌ {A = ℕ} 0 1 = cc in omega arith)
 
+-- what is left of a form after some of its words
+abbrev mb_5 : ℕ → ℕ → Kind → ℕ → ℕ → List (List ℕ) → Form
+mb_5 q a t y c = next hex_in (λ d. last (mb q a t y c d))
+
+abbrev mb_4 : ℕ → ℕ → Kind → ℕ → List (List ℕ) → Form
+mb_4 q a t y = next (number_in 255) (mb_5 q a t y)
+
+abbrev mb_3 : ℕ → ℕ → Kind → List (List ℕ) → Form
+mb_3 q a t = next (number_in 255) (mb_4 q a t)
+
+abbrev mb_2 : ℕ → ℕ → List (List ℕ) → Form
+mb_2 q a = next kind_in (mb_3 q a)
+
+abbrev mb_1 : ℕ → List (List ℕ) → Form
+mb_1 q = next (number_in 1) (mb_2 q)
+
 mb_fits : (ws : List (List ℕ)) → Short longest ws → Fits (mb_form ws)
 unfolding mb_form
 mb_fits =
-    next_fits _ _ (λ _ q ws _ _. next_fits _ _ (λ _ a ws _ _. next_fits _ _ (λ _ t ws _ _. next_fits _ _ (λ _ y ws _ _. next_fits _ _ (λ _ c ws _ _.
-    next_fits _ _ (λ w d ws h e _. last_fits (mb q a t y c d) (hex_fits w d h e) ws) ws) ws) ws) ws) ws)
+    next_fits (number_in 65535) mb_1
+    (λ _ q ws _ _. next_fits (number_in 1) (mb_2 q)
+    (λ _ a ws _ _. next_fits kind_in (mb_3 q a)
+    (λ _ t ws _ _. next_fits (number_in 255) (mb_4 q a t)
+    (λ _ y ws _ _. next_fits (number_in 255) (mb_5 q a t y)
+    (λ _ c ws _ _. next_fits hex_in (λ d. last (mb q a t y c d)) (λ w d ws h e _. last_fits (mb q a t y c d) (hex_fits w d h e) ws) ws) ws) ws) ws) ws)
+
+abbrev picture_3 : ℕ → ℕ → ℕ → List (List ℕ) → Form
+picture_3 w h d = next method_in (λ m. last (picture w h d m))
+
+abbrev picture_2 : ℕ → ℕ → List (List ℕ) → Form
+picture_2 w h = next (number_in 65535) (picture_3 w h)
+
+abbrev picture_1 : ℕ → List (List ℕ) → Form
+picture_1 w = next (number_in 65535) (picture_2 w)
 
 picture_fits : (ws : List (List ℕ)) → Short longest ws → Fits (picture_form ws)
 unfolding picture_form
 picture_fits =
-    next_fits _ _ (λ _ w ws _ _. next_fits _ _ (λ _ h ws _ _. next_fits _ _ (λ _ d ws _ _. next_fits _ _ (λ _ m ws _ _ _. last_fits (picture w h d m) tt ws) ws) ws) ws)
+    next_fits (number_in 65535) picture_1
+    (λ _ w ws _ _. next_fits (number_in 65535) (picture_2 w)
+    (λ _ h ws _ _. next_fits (number_in 65535) (picture_3 w h)
+    (λ _ d ws _ _. next_fits method_in (λ m. last (picture w h d m)) (λ _ m ws _ _ _. last_fits (picture w h d m) tt ws) ws) ws) ws)
 
 cond_fits : (t : Bool) (f g : Form) → Fits f → Fits g → Fits (cond t f g)
 cond_fits true f g a b = a

@@ -13,26 +13,22 @@ returns-then-data-lt-DATA c =
 
 returns-then-n-gt-LONGEST : tie.Need-returns-then-n-gt-LONGEST
 returns-then-n-gt-LONGEST c =
-    let r = c.before in
-    let a = r.args in
-    answered a.line.now a.«data».now r.if-data-lt-DATA.false (refuses a.«data».now (line-long a.line.now (omega (arith, c.if-n-gt-LONGEST.true))))
+    let a = c.args in
+    answered a.line.now a.«data».now c.if-data-lt-DATA.false (refuses a.«data».now (line-long a.line.now (omega (arith, c.if-n-gt-LONGEST.true))))
 
 returns-then-n-lt2 : tie.Need-returns-then-n-lt2
 returns-then-n-lt2 c =
-    let s = c.before in
-    let a = s.args in
-    answered a.line.now a.«data».now s.if-data-lt-DATA.false (refuses a.«data».now (line_short a.line.now s.if-n-gt-LONGEST.false c.if-n-lt2.true))
+    let a = c.args in
+    answered a.line.now a.«data».now c.if-data-lt-DATA.false (refuses a.«data».now (line_short a.line.now c.if-n-gt-LONGEST.false c.if-n-lt2.true))
 
 bounds-line-0 : tie.Need-bounds-line-0
 bounds-line-0 c = search rules
 
 returns-then-line-ne40 : tie.Need-returns-then-line-ne40
 returns-then-line-ne40 c =
-    let k = c.before.before in
-    let s = k.before in
-    let a = s.args in
-    answered a.line.now a.«data».now s.if-data-lt-DATA.false
-    (refuses a.«data».now (line_open a.line.now s.if-n-gt-LONGEST.false k.if-n-lt2.false c.if-line-ne40.true))
+    let a = c.args in
+    answered a.line.now a.«data».now c.if-data-lt-DATA.false
+    (refuses a.«data».now (line_open a.line.now c.if-n-gt-LONGEST.false c.if-n-lt2.false c.if-line-ne40.true))
 
 overflow_sub-to : tie.Need-overflow_sub-to
 overflow_sub-to c = search rules
@@ -42,12 +38,9 @@ bounds-line-to c = search rules
 
 returns-then-line-to-ne41 : tie.Need-returns-then-line-to-ne41
 returns-then-line-to-ne41 c =
-    let o = c.before.before in
-    let k = o.before.before in
-    let s = k.before in
-    let a = s.args in
-    answered a.line.now a.«data».now s.if-data-lt-DATA.false
-    (refuses a.«data».now (line_close a.line.now s.if-n-gt-LONGEST.false k.if-n-lt2.false o.if-line-ne40.false c.if-line-to-ne41.true))
+    let a = c.args in
+    answered a.line.now a.«data».now c.if-data-lt-DATA.false
+    (refuses a.«data».now (line_close a.line.now c.if-n-gt-LONGEST.false c.if-n-lt2.false c.if-line-ne40.false c.if-line-to-ne41.true))
 
 word_end-e-requires : tie.Need-word_end-e-requires
 word_end-e-requires c κs = search rules
@@ -64,16 +57,10 @@ picture-requires c κs = search rules
 returns-then-is_word : tie.Need-returns-then-is_word
 unfolding picture_word
 returns-then-is_word c =
-    let i = c.before.before in
-    let w = i.before.before in
-    let b = w.before in
-    let o = b.before.before in
-    let k = o.before.before in
-    let s = k.before in
-    let a = s.args in
-    let is = line-picture a.line.now s.if-n-gt-LONGEST.false k.if-n-lt2.false o.if-line-ne40.false b.if-line-to-ne41.false _ w.word_end-e.ensures.0 i.is_IsWord.ensures
+    let a = c.args in
+    let is = line-picture a.line.now c.if-n-gt-LONGEST.false c.if-n-lt2.false c.if-line-ne40.false c.if-line-to-ne41.false _ c.word_end-e.ensures.0 c.is_word.ensures
     c.if-is_word.true in
-    answered a.line.now a.«data».now s.if-data-lt-DATA.false (goes_on a.«data».now is (c.picture.ensures, picture_keeps _ a.«data».now))
+    answered a.line.now a.«data».now c.if-data-lt-DATA.false (goes_on a.«data».now is (c.picture.ensures, picture_keeps _ a.«data».now))
 
 is_word-requires-2 : tie.Need-is_word-requires-2
 is_word-requires-2 c κs = search rules
@@ -90,34 +77,18 @@ shape_of-data-then-is_word-2 c = search rules
 returns-then-is_word-2 : tie.Need-returns-then-is_word-2
 unfolding picture_word mb_word
 returns-then-is_word-2 c =
-    let d = c.before.before in
-    let t = d.before.before in
-    let j = t.before in
-    let i = j.before.before.before in
-    let w = i.before.before in
-    let b = w.before in
-    let o = b.before.before in
-    let k = o.before.before in
-    let s = k.before in
-    let a = s.args in
-    let is = line-mb a.line.now s.if-n-gt-LONGEST.false k.if-n-lt2.false o.if-line-ne40.false b.if-line-to-ne41.false _ w.word_end-e.ensures.0 i.is_IsWord.ensures
-    j.if-is_word.false j.is_word-2.ensures t.if-is_word-2.true in
-    answered a.line.now a.«data».now s.if-data-lt-DATA.false (goes_on a.«data».now is d.macroblock.ensures)
+    let a = c.args in
+    let is = line-mb a.line.now c.if-n-gt-LONGEST.false c.if-n-lt2.false c.if-line-ne40.false c.if-line-to-ne41.false _ c.word_end-e.ensures.0 c.is_word.ensures
+    c.if-is_word.false c.is_word-2.ensures c.if-is_word-2.true in
+    answered a.line.now a.«data».now c.if-data-lt-DATA.false (goes_on a.«data».now is c.macroblock.ensures)
 
 returns : tie.Need-returns
 unfolding picture_word mb_word
 returns c =
-    let j = c.before in
-    let i = j.before.before.before in
-    let w = i.before.before in
-    let b = w.before in
-    let o = b.before.before in
-    let k = o.before.before in
-    let s = k.before in
-    let a = s.args in
-    let is = line_other a.line.now s.if-n-gt-LONGEST.false k.if-n-lt2.false o.if-line-ne40.false b.if-line-to-ne41.false _ w.word_end-e.ensures.0 i.is_IsWord.ensures
-    j.if-is_word.false j.is_word-2.ensures c.if-is_word-2.false in
-    answered a.line.now a.«data».now s.if-data-lt-DATA.false (refuses a.«data».now is)
+    let a = c.args in
+    let is = line_other a.line.now c.if-n-gt-LONGEST.false c.if-n-lt2.false c.if-line-ne40.false c.if-line-to-ne41.false _ c.word_end-e.ensures.0 c.is_word.ensures
+    c.if-is_word.false c.is_word-2.ensures c.if-is_word-2.false in
+    answered a.line.now a.«data».now c.if-data-lt-DATA.false (refuses a.«data».now is)
 
 pub parse_spec : {M : Type 1} → statement M
 parse_spec =
