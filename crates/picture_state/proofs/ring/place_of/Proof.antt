@@ -2,6 +2,7 @@
 use mathlib.Core.Bool.{false, true}
 use mathlib.Core.Path.{refl}
 use borrow.Author.Rules.{rules}
+use borrow.Author.Tests.{le-ltb, lt-ltb}
 use Rattle.picture_state.proofs.RingLaws.{place_by}
 use Rattle.picture_state.proofs.ring.place_of.Statement.{statement}
 use Rattle.picture_state.proofs.ring.place_of.Tie as tie
@@ -25,13 +26,13 @@ returns-then-inside : tie.Need-returns-then-inside
 returns-then-inside c =
     let o = c.before.before.before in
     let a = o.args in
-    place_by a.p a.quantiser_scale _ _ _ true _ o.offset_of-left.ensures.0 c.offset_of-above_left.ensures.0 c.offset_of-above.ensures.0 c.if-inside.true refl
+    place_by a.p a.quantiser_scale _ _ _ true _ o.offset_of-left.ensures.0 c.offset_of-above_left.ensures.0 c.offset_of-above.ensures.0 (lt-ltb _ _ c.if-inside.true) refl
 
 returns-else-inside : tie.Need-returns-else-inside
 returns-else-inside c =
     let o = c.before.before.before in
     let a = o.args in
-    place_by a.p a.quantiser_scale _ _ _ false _ o.offset_of-left.ensures.0 c.offset_of-above_left.ensures.0 c.offset_of-above.ensures.0 c.if-inside.false c.if-inside.false
+    place_by a.p a.quantiser_scale _ _ _ false _ o.offset_of-left.ensures.0 c.offset_of-above_left.ensures.0 c.offset_of-above.ensures.0 (le-ltb _ _ c.if-inside.false) (le-ltb _ _ c.if-inside.false)
 
 pub place_of_spec : {M : Type 1} → statement M
 place_of_spec = tie.close (tie.spec offset_of-left-requires overflow_add-w offset_of-above_left-requires offset_of-above-requires nonzero_rem-inside returns-then-inside returns-else-inside)
