@@ -34,7 +34,7 @@ held β d = (T.the_row β).own_val d (T'.lowered d ∷ [])
 
 -- what its slice owns, as a callee's first parameter
 abbrev pub slice : NamedLft → BitReader → Fml
-slice β d = (ShrSlice (named 0) β.lft u8).own_val d.«data» (slice_val d.«data».ptr (length d.«data».now) ∷ [])
+slice β d = (ShrSlice (named 0) β.lft u8).own_val d.«data» (slice_val d.«data».ref_ptr (length d.«data».now) ∷ [])
 
 module _ {M : Type 1} {𝓤 : Ura M} (𝓛 : Logic 𝓤) (β : NamedLft) (d : BitReader) where
   abbrev D : Declared
