@@ -23,7 +23,6 @@ use Rattle.cosines.specs.Cosines.{cos_f, c_f}
 use Rattle.cosines.proofs.Tables.{c_const, cos_const}
 use Rattle.eights.specs.Eights.{row_in}
 use Rattle.exact_transform.specs.EvenOdd.{cell_f, is_zero}
-use Rattle.exact_transform.specs.Transform.{whole}
 use Rattle.idct.specs.ShortWays.{idct1d, row_at, row_terms, sum_of_rows}
 
 pub series_ext : (t s : ℕ → Float) (n : ℕ) → ((i : ℕ) → i < n → t i ≡ s i) → series_f t n ≡ series_f s n

@@ -1,5 +1,5 @@
 -- The even and the odd halves of a pass, term by term and row by row: the sums, the rows that are kept, and the rows that are done from both ends. Assumes nothing.
-use mathlib.Core.Bool.{cond, true}
+use mathlib.Core.Bool.{true}
 use mathlib.Core.List.{List, []}
 use mathlib.Core.Logic.{◌⊎◌, inl, inr, ⊎_elim}
 use mathlib.Core.Path.{◌≡◌, refl, sym, ap, ◌∙◌, subst}

@@ -1,5 +1,4 @@
 -- `forms::field::value` meets its contract: the bytes before the place reached are digits, and they give the value, or are over the most. Assumes nothing.
-use mathlib.Core.Bool.{false}
 use mathlib.Core.Path.{◌≡◌, ◌∙◌, refl}
 use Prim.Native.Nat.{◌-◌, ◌≤◌}
 use native.Mathlib.Omega.{arith}

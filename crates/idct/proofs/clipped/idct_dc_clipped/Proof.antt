@@ -7,7 +7,6 @@ use mir.Facts.{to_z-of_z}
 use mir.Syntax.{w32}
 use mir.Val.{of_z, to_z}
 use borrow.Author.Rules.{rules}
-use borrow.Author.Tests.{not-false, not-true}
 use Rattle.numbers.proofs.Words.{held}
 use Rattle.numbers.specs.Grid.{build}
 use Rattle.numbers.specs.Limit.{clamp_z}

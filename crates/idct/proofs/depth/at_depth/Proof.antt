@@ -1,15 +1,12 @@
 -- `idct::depth::at_depth` meets its contract, arm by arm. Assumes nothing.
 use mathlib.Core.Bool.{cond, false, true}
-use mathlib.Core.Path.{◌≡◌, ap, refl, ◌∙◌}
-use Prim.Native.Nat.{◌+◌}
+use mathlib.Core.Path.{ap, refl, ◌∙◌}
 use lib.IntN.{ℤ, pos}
 use mir.Syntax.{w32}
 use mir.Val.{of_z, to_z}
 use borrow.Author.Rules.{rules}
-use borrow.Author.Tests.{not-false, not-true}
 use Rattle.numbers.proofs.Words.{held}
 use Rattle.ranges.proofs.DepthLaws.{samples_never}
-use Rattle.ranges.specs.Range.{depth_fine, highest, lowest}
 use Rattle.idct.specs.Limits.{values_fine}
 use Rattle.idct.specs.ShortWays.{samples_in}
 use Rattle.idct.proofs.ClippedArms.{all_taken, bottom_told, depth_lost, left_old, limits_told, modest_taken, no-depth, no_value, taken-samples, top_told, values-told, zero-taken}

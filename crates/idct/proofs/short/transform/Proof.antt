@@ -1,12 +1,8 @@
 -- `idct::short::transform` meets its contract: the samples by near numbers, or by the rule where one is in doubt. Assumes nothing.
-use mathlib.Core.Bool.{true}
-use mathlib.Core.Path.{◌≡◌, refl, sym}
+use mathlib.Core.Path.{refl, sym}
 use mir.Facts.{to_z-of_z}
 use mir.Syntax.{w32}
 use borrow.Author.Rules.{rules}
-use Rattle.numbers.specs.Every.{every}
-use Rattle.ranges.specs.Range.{within}
-use Rattle.exact_transform.specs.EvenOdd.{Half}
 use Rattle.exact_transform.proofs.EvenOddBounds.{both_bounded}
 use Rattle.idct.proofs.EvenOddArms.{all_within, half-kept, half-not, half-within, near-are, ruled_between}
 use Rattle.idct.proofs.short.transform.Statement.{statement}
