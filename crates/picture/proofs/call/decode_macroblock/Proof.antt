@@ -24,7 +24,7 @@ decode_due-requires : tie.Need-decode_due-requires
 decode_due-requires c κs =
     let t = c.before.before in
     let k = t.before in
-    let s = k.before.before.before in
+    let s = k.before.before in
     checked_ready s.args.p (context_here s.args.p (brought s)) (state_here s.args.p (brought s) s.args.store.now) (sym k.check_state-checked.ensures.0 ∙ t.in-Ready.is)
 
 shape_of-store-in-Refused : tie.Need-shape_of-store-in-Refused
@@ -33,7 +33,7 @@ shape_of-store-in-Refused c = search rules
 returns-in-Refused : tie.Need-returns-in-Refused
 returns-in-Refused c =
     let k = c.before in
-    let s = k.before.before.before in
+    let s = k.before.before in
     let x = brought s in
     refused s.args.p x s.args.store.now (checked_refused s.args.p (context_here s.args.p x) (state_here s.args.p x s.args.store.now) (sym k.check_state-checked.ensures.0 ∙ c.in-Refused.is))
 

@@ -16,10 +16,10 @@ use Rattle.picture.proofs.reconstruct.one_block.Tie as tie
 abbrev dc : tie.Start → ℤ
 dc s = let a = s.args in dc_here (component_at a.i) a.ctx (taken_by a.ctx a.place a.store.now a.own.now a.i) a.w a.qfs.now
 
-rebuilt : (r : tie.After-reconstruct_up_to-one) → r.reconstruct_up_to-one.result ≡ Rebuilt (dc r.before.before.before.before.before.before.before)
+rebuilt : (r : tie.After-reconstruct_up_to-one) → r.reconstruct_up_to-one.result ≡ Rebuilt (dc r.before.before.before.before.before.before)
 rebuilt r =
     let b = r.before.before.before.before in
-    let s = b.before.before.before in
+    let s = b.before.before in
     let a = s.args in
     rebuilt_is a.ctx a.w a.place a.store.now a.own.now a.qfs.now a.i a.end (length a.samples.now) s.requires _ _ b.predictors_needed.ensures.0.1 r.reconstruct_up_to-one.ensures.0
 
@@ -30,10 +30,10 @@ reconstruct_up_to-one-requires : tie.Need-reconstruct_up_to-one-requires
 reconstruct_up_to-one-requires c κs = search rules
 
 enum_known-one : tie.Need-enum_known-one
-enum_known-one c = c.in-Rebuilt.keys1
+enum_known-one c = c.in-Rebuilt-1.keys1
 
 enum_told-1 : tie.Need-enum_told-1
-enum_told-1 c = c.in_default.keys2
+enum_told-1 c = c.in_default-1.keys2
 
 shape_of-own-in_default : tie.Need-shape_of-own-in_default
 shape_of-own-in_default c = refl
@@ -56,7 +56,7 @@ returns c =
     let k = v.before.before.before in
     let r = k.before in
     let b = r.before.before.before.before in
-    let s = b.before.before.before in
+    let s = b.before.before in
     let a = s.args in
     let e = b.predictors_needed.ensures.0.1 in (
       record_is a.ctx a.w a.place a.store.now a.own.now a.qfs.now a.i a.end (length a.samples.now) s.requires _ _ e _ (held k.in-Rebuilt.dc k.in-Rebuilt.known_told-1-own.given.0.1 ∙ same-dc (rebuilt r) k.in-Rebuilt.is) r.reconstruct_up_to-one.ensures.1.1.0 v.put.ensures.0,

@@ -18,8 +18,8 @@ new_record-requires c κs = search rules
 
 loop-i-init : tie.Need-loop-i-init invariant-loop-i decreases-loop-i
 loop-i-init c =
-    let s = c.before.before.before.before in
-    let a = s.args in
+    let s = c in
+    let a = c.args in
     none_turned a.due.context a.w a.due.place a.store.now a.rows.now _ a.samples.now s.requires _ c.new_record.ensures.0.1
 
 offset_bounds-rows-i : tie.Need-offset_bounds-rows-i invariant-loop-i decreases-loop-i
@@ -36,19 +36,17 @@ bounds-ends-i c = omega arith
 
 slice_bounds-one_block-end-in-loop-i : tie.Need-slice_bounds-one_block-end-in-loop-i invariant-loop-i decreases-loop-i
 slice_bounds-one_block-end-in-loop-i c =
-    let k = c.before.before.before.before.before in
-    let l = k.loop in
-    let s = k.before.before.before.before.before in
-    let a = s.args in
+    let l = c.loop-i in
+    let s = c in
+    let a = c.args in
     sym (turned_long a.due.context a.w a.due.place a.store.now a.rows.now _ a.samples.now s.requires l.i l.own l.samples l.invariant)
 
 one_block-requires : tie.Need-one_block-requires invariant-loop-i decreases-loop-i
 one_block-requires c κs =
-    let k = c.before.before.before.before.before.before in
-    let l = k.loop in
-    let s = k.before.before.before.before.before in
-    let a = s.args in
-    turn_ready a.due.context a.w a.due.place a.store.now a.rows.now _ a.samples.now s.requires l.i l.own l.samples l.invariant _ c.loop-test.true
+    let l = c.loop-i in
+    let s = c in
+    let a = c.args in
+    turn_ready a.due.context a.w a.due.place a.store.now a.rows.now _ a.samples.now s.requires l.i l.own l.samples l.invariant _ c.loop-i-test.true
 
 overflow_step-i : tie.Need-overflow_step-i invariant-loop-i decreases-loop-i
 overflow_step-i c = omega arith
@@ -58,22 +56,20 @@ loop-i-smaller c = omega arith
 
 loop-i-preserved : tie.Need-loop-i-preserved invariant-loop-i decreases-loop-i
 loop-i-preserved c =
-    let b = c.before.before in
-    let k = b.before.before.before.before.before.before.before in
-    let l = k.loop in
-    let s = k.before.before.before.before.before in
-    let a = s.args in
-    turned a.due.context a.w a.due.place a.store.now a.rows.now _ a.samples.now s.requires l.i l.own l.samples l.invariant b.loop-test.true b.one_block.ensures.0 b.one_block.ensures.1
+    let b = c in
+    let l = c.loop-i in
+    let s = c in
+    let a = c.args in
+    turned a.due.context a.w a.due.place a.store.now a.rows.now _ a.samples.now s.requires l.i l.own l.samples l.invariant b.loop-i-test.true b.one_block.ensures.0 b.one_block.ensures.1
 
 put_record-requires : tie.Need-put_record-requires invariant-loop-i decreases-loop-i
 put_record-requires c κs = search rules
 
 shape_of-samples : tie.Need-shape_of-samples invariant-loop-i decreases-loop-i
 shape_of-samples c =
-    let k = c.before.before.before.before in
-    let l = k.loop-i in
-    let s = k.before.before.before.before.before in
-    let a = s.args in
+    let l = c.loop-i in
+    let s = c in
+    let a = c.args in
     turned_length a.due.context a.w a.due.place a.store.now a.rows.now a.samples.now l.i l.own l.samples l.invariant
 
 shape_of-store : tie.Need-shape_of-store invariant-loop-i decreases-loop-i
@@ -81,10 +77,9 @@ shape_of-store c = search rules
 
 returns : tie.Need-returns invariant-loop-i decreases-loop-i
 returns c =
-    let k = c.before.before.before.before in
-    let l = k.loop-i in
-    let s = k.before.before.before.before.before in
-    let a = s.args in
+    let l = c.loop-i in
+    let s = c in
+    let a = c.args in
     all_turned a.due.context a.w a.due.place a.store.now a.rows.now _ a.samples.now s.requires l.i l.own l.samples l.invariant _ (omega arith) c.put_record.ensures.0.1
 
 pub reconstruct_spec : {M : Type 1} → statement M

@@ -18,19 +18,19 @@ abbrev brought : tie.Start → Bare
 brought s = let a = s.args in bare a.«data».now a.c.bit_pos a.m a.quant_matrix a.samples.now
 
 -- the state is fine, and the macroblock that is due is known
-ready : (k : tie.In-Ready) → let s = k.before.before.before.before.before.before in let a = s.args in
+ready : (k : tie.In-Ready) → let s = k.before.before.before in let a = s.args in
     (state_bare a.p (brought s) a.store.now ≡ Fine) × (k.in-Ready.due ≡ due_of a.p (context_of a.p a.m))
 ready k =
     let t = k.before in
-    let s = t.before.before.before in
+    let s = t.before.before in
     let a = s.args in
     checked_ready a.p (context_of a.p a.m) (state_bare a.p (brought s) a.store.now) (sym t.check_before_header-checked.ensures.0 ∙ k.in-Ready.is)
 
 -- so the header is what the bits say
-read : (r : tie.After-parse_macroblock_header-read) → let a = r.before.before.before.before.before.before.before.args in let d = a.«data».now in
+read : (r : tie.After-parse_macroblock_header-read) → let a = r.args in let d = a.«data».now in
     r.parse_macroblock_header-read.result ≡ header_told d a.m.quantiser_scale (read_header (bits_from d a.c.bit_pos))
 read r =
-    let s = r.before.before.before.before.before.before.before in
+    let s = r.before.before.before.before in
     r.parse_macroblock_header-read.ensures.0 ∙ header_asked s.args.p (brought s) s.args.store.now (ready r.before).0
 
 check_before_header-checked-requires : tie.Need-check_before_header-checked-requires
@@ -63,7 +63,7 @@ shape_of-store-in-Refused c = search rules
 returns-in-Refused : tie.Need-returns-in-Refused
 returns-in-Refused c =
     let t = c.before in
-    let s = t.before.before.before in
+    let s = t.before.before in
     let a = s.args in
     bare-refused a.p (brought s) a.store.now (checked_refused a.p (context_of a.p a.m) (state_bare a.p (brought s) a.store.now) (sym t.check_before_header-checked.ensures.0 ∙ c.in-Refused.is))
 
@@ -73,7 +73,7 @@ shape_of-store-in-Refused-read c = search rules
 returns-in-Refused-read : tie.Need-returns-in-Refused-read
 returns-in-Refused-read c =
     let r = c.before in
-    let s = r.before.before.before.before.before.before.before in
+    let s = r.before.before.before.before in
     header_refused s.args.p (brought s) s.args.store.now (ready r.before).0 _ (read r) c.in-Refused-read.is
 
 shape_of-samples : tie.Need-shape_of-samples
