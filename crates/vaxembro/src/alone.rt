@@ -6,8 +6,7 @@ use bits::Cursor;
 use block::BlockAssemblyError;
 
 // 14 where neighbours, matrix or answer is too short: then nothing is written but the answer.
-#[unsafe(no_mangle)]
-pub extern "C" fn vaxembro_decode_intra_macroblock(
+pub fn vaxembro_decode_intra_macroblock(
     data: &[u8],
     at: usize,
     mb_type: u32,

@@ -117,37 +117,32 @@ fn low_bits(n: usize) -> u32
     (n % 4294967296) as u32
 }
 
-#[unsafe(no_mangle)]
-pub extern "C" fn vaxembro_number(answer: &[usize]) -> u32
+pub fn vaxembro_number(answer: &[usize]) -> u32
     ensures { result ≡ low (told_at answer.now 0) }
 {
     low_bits(told_at(answer, 0))
 }
 
-#[unsafe(no_mangle)]
-pub extern "C" fn vaxembro_figure(answer: &[usize]) -> u32
+pub fn vaxembro_figure(answer: &[usize]) -> u32
     ensures { result ≡ low (told_at answer.now 1) }
 {
     low_bits(told_at(answer, 1))
 }
 
-#[unsafe(no_mangle)]
-pub extern "C" fn vaxembro_bits(answer: &[usize]) -> usize
+pub fn vaxembro_bits(answer: &[usize]) -> usize
     ensures { result ≡ told_at answer.now 2 }
 {
     told_at(answer, 2)
 }
 
-#[unsafe(no_mangle)]
-pub extern "C" fn vaxembro_position(answer: &[usize]) -> usize
+pub fn vaxembro_position(answer: &[usize]) -> usize
     ensures { result ≡ told_at answer.now 3 }
 {
     told_at(answer, 3)
 }
 
 // The number of events of a spelling: 0 is plain, 1 to 3 an escape of that type, 4 a reversible escape; of any other 0.
-#[unsafe(no_mangle)]
-pub extern "C" fn vaxembro_spelling(answer: &[usize], which: u32) -> u32
+pub fn vaxembro_spelling(answer: &[usize], which: u32) -> u32
     ensures { result ≡ spelling_in answer.now which }
 {
     if 4 < which {

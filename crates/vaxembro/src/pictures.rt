@@ -21,8 +21,7 @@ fn opened(state: &mut [u32], o: PictureOpened) -> u32
 }
 
 // Opens a picture. 11 or 12 where there is none, 14 where the state is too short.
-#[unsafe(no_mangle)]
-pub extern "C" fn vaxembro_open(
+pub fn vaxembro_open(
     width: u32,
     height: u32,
     bits_per_pixel: u32,
@@ -51,8 +50,7 @@ fn onward(state: &mut [u32], d: PictureDecoded)
 }
 
 // The macroblock that is due. 14 where state, matrix or answer is too short: then nothing is written but the answer.
-#[unsafe(no_mangle)]
-pub extern "C" fn vaxembro_decode_macroblock(
+pub fn vaxembro_decode_macroblock(
     state: &mut [u32],
     data: &[u8],
     at: usize,

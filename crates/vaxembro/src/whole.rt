@@ -7,8 +7,7 @@ use block::BlockAssemblyError;
 use picture::PictureWholeDecoded;
 
 // Reads a header. 14 where header or answer is too short: then nothing is written but the answer.
-#[unsafe(no_mangle)]
-pub extern "C" fn vaxembro_parse_macroblock_header(
+pub fn vaxembro_parse_macroblock_header(
     data: &[u8],
     at: usize,
     quantiser_scale: u32,
@@ -29,8 +28,7 @@ pub extern "C" fn vaxembro_parse_macroblock_header(
 }
 
 // A whole macroblock read alone. 14 where neighbours, matrix, header or answer is too short: then nothing is written but the answer.
-#[unsafe(no_mangle)]
-pub extern "C" fn vaxembro_decode_intra_macroblock_with_header(
+pub fn vaxembro_decode_intra_macroblock_with_header(
     data: &[u8],
     at: usize,
     quantiser_scale: u32,
@@ -81,8 +79,7 @@ fn onward(state: &mut [u32], d: PictureWholeDecoded)
 
 // The macroblock that is due, with its header. 14 where state, matrix, header or answer is too short: then nothing is written but the
 // answer.
-#[unsafe(no_mangle)]
-pub extern "C" fn vaxembro_decode_macroblock_with_header(
+pub fn vaxembro_decode_macroblock_with_header(
     state: &mut [u32],
     data: &[u8],
     at: usize,
