@@ -17,7 +17,7 @@ use Rattle.still_lines.proofs.steps.finish.Statement.{statement}
 use Rattle.still_lines.proofs.steps.finish.Tie as tie
 
 -- there is room
-room : (k : tie.Else-not-has_room) → let a = k.before.before.before.before.before.before.before.args in roomy a.line.now a.«data».now a.out.now ≡ true
+room : (k : tie.Else-not-has_room) → let a = k.args in roomy a.line.now a.«data».now a.out.now ≡ true
 room k = flag_passes k.has_room.ensures k.if-not-has_room.false
 
 has_room-requires : tie.Need-has_room-requires
@@ -38,10 +38,9 @@ rest-fed-requires c κs = search rules
 
 told-t-requires : tie.Need-told-t-requires
 told-t-requires c κs =
-    let f = c.before.before.before.before in
-    let k = f.before.before in
-    let a = k.before.before.before.before.before.before.before.args in (
-      rest_fits a.line.now a.r.n (room_line a.line.now a.«data».now a.out.now (room k)) f.rest-fed.ensures,
+    let k = c.before.before.before.before.before.before in
+    let a = c.args in (
+      rest_fits a.line.now a.r.n (room_line a.line.now a.«data».now a.out.now (room k)) c.rest-fed.ensures,
       (room_data a.line.now a.«data».now a.out.now (room k), room_text a.line.now a.«data».now a.out.now (room k)),
     )
 
@@ -50,13 +49,12 @@ ended-end-requires c κs = search rules
 
 put-said-requires : tie.Need-put-said-requires
 put-said-requires c κs =
-    let t = c.before.before.before.before.before.before.before.before.before in
-    let k = t.before.before.before.before.before.before.before in
-    let a = k.before.before.before.before.before.before.before.args in
-    let x = t.told-t.ensures in
+    let k = c.before.before.before.before.before.before.before.before.before.before.before.before.before.before.before.before in
+    let a = c.args in
+    let x = c.told-t.ensures in
     let n = c.ended-end.ensures.1 in
     let r = room_text a.line.now a.«data».now a.out.now (room k) in
-    let text = text_fed a.r.still a.line.now a.samples.now a.store.now t.rest-fed.result in
+    let text = text_fed a.r.still a.line.now a.samples.now a.store.now c.rest-fed.result in
     let few : length text ≤ 256 = omega (arith, x.0.1.1) in
     let long = ap length x.1.1.1.1 ∙ said-long text a.out.now (omega arith) in
     (omega arith, omega (arith, long, x.0.1.1.1))
@@ -76,12 +74,10 @@ shape_of-out c = search rules
 returns : tie.Need-returns
 unfolding finish_by
 returns c =
-    let p = c.before.before in
-    let t = p.before.before.before.before.before.before.before.before.before.before in
-    let f = t.before.before.before.before.before in
-    let k = f.before.before in
-    let a = k.before.before.before.before.before.before.before.args in
-    let o = moved a.r.still a.samples.now a.store.now a.«data».now a.out.now (λ i. a.line.now) f.rest-fed.ensures t.told-t.ensures in
+    let p = c in
+    let k = c.before.before.before.before.before.before.before.before.before.before.before.before.before.before.before.before.before.before.before in
+    let a = c.args in
+    let o = moved a.r.still a.samples.now a.store.now a.«data».now a.out.now (λ i. a.line.now) c.rest-fed.ensures c.told-t.ensures in
     let w = o.0 in
     let end = p.ended-end.ensures.0 ∙ ap end_said w.0 in
     let text = text_fed a.r.still a.line.now a.samples.now a.store.now (rest_of a.r.n) in

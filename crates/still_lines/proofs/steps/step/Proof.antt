@@ -11,7 +11,7 @@ use Rattle.still_lines.proofs.steps.step.Statement.{statement}
 use Rattle.still_lines.proofs.steps.step.Tie as tie
 
 -- there is room
-room : (k : tie.Else-not-has_room) → let a = k.before.before.before.before.before.before.before.before.args in roomy a.line.now a.«data».now a.out.now ≡ true
+room : (k : tie.Else-not-has_room) → let a = k.args in roomy a.line.now a.«data».now a.out.now ≡ true
 room k = flag_passes k.has_room.ensures k.if-not-has_room.false
 
 has_room-requires : tie.Need-has_room-requires
@@ -36,17 +36,15 @@ feed-fed-requires c κs = search rules
 keep-requires : tie.Need-keep-requires
 keep-requires c κs =
     let k = c.before.before.before in
-    let a = k.before.before.before.before.before.before.before.before.args in
+    let a = c.args in
     room_line a.line.now a.«data».now a.out.now (room k)
 
 told-t-requires : tie.Need-told-t-requires
 told-t-requires c κs =
-    let w = c.before.before.before.before.before.before.before in
-    let f = w.before.before in
-    let k = f.before.before in
-    let a = k.before.before.before.before.before.before.before.before.args in
+    let k = c.before.before.before.before.before.before.before.before.before.before in
+    let a = c.args in
     let l = room_line a.line.now a.«data».now a.out.now (room k) in (
-      fed_fits a.line.now a.r.n a.b l f.feed.ensures w.keep.ensures,
+      fed_fits a.line.now a.r.n a.b l c.feed-fed.ensures c.keep.ensures,
       (room_data a.line.now a.«data».now a.out.now (room k), room_text a.line.now a.«data».now a.out.now (room k)),
     )
 
@@ -68,15 +66,12 @@ shape_of-out c = search rules
 returns : tie.Need-returns
 unfolding step_by
 returns c =
-    let t = c.before.before.before.before.before.before.before in
-    let y = t.before.before.before.before.before.before.before.before in
-    let f = y.before.before in
-    let k = f.before.before in
-    let a = k.before.before.before.before.before.before.before.before.args in
-    let o = moved a.r.still a.samples.now a.store.now a.«data».now a.out.now y.keep.ensures f.feed.ensures t.told-t.ensures in
+    let k = c.before.before.before.before.before.before.before.before.before.before.before.before.before.before.before.before.before.before in
+    let a = c.args in
+    let o = moved a.r.still a.samples.now a.store.now a.«data».now a.out.now c.keep.ensures c.feed-fed.ensures c.told-t.ensures in
     let w = o.0 in
     done _ _ (room k)
-    (λ i. left (Went (record { still = w.0 i; n = w.1.0 i }) (w.1.1.0 i)) (lent (y.keep.ensures i) (o.1.0 i) (o.1.1.0 i) (o.1.1.1.0 i) (o.1.1.1.1 i)))
+    (λ i. left (Went (record { still = w.0 i; n = w.1.0 i }) (w.1.1.0 i)) (lent (c.keep.ensures i) (o.1.0 i) (o.1.1.0 i) (o.1.1.1.0 i) (o.1.1.1.1 i)))
 
 pub step_spec : {M : Type 1} → statement M
 step_spec =

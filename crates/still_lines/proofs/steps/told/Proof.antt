@@ -18,9 +18,7 @@ enum_known-fed-in-Ended-1 c = search rules
 
 slice_bounds-ended-end : tie.Need-slice_bounds-ended-end
 slice_bounds-ended-end c =
-    let k = c in
-    let s = k.before.before.before.before.before in
-    sym (length-take-le _ s.args.line.now (ended_fits (length s.args.line.now) s.requires.0 k.fed2.given.1))
+    sym (length-take-le _ c.args.line.now (ended_fits (length c.args.line.now) c.requires.0 c.in-Ended.is))
 
 ended-requires : tie.Need-ended-requires
 ended-requires c κs = search rules
@@ -49,10 +47,8 @@ shape_of-out c = search rules
 
 returns-in-Ended : tie.Need-returns-in-Ended
 returns-in-Ended c =
-    let e = c.before.before.before.before.before.before in
-    let k = e.before.before.before.before.before in
-    let a = k.before.before.before.before.before.args in
-    told-ended a.s a.samples.now a.store.now a.«data».now a.out.now a.line.now k.fed2.given.1 e.ended.ensures
+    let a = c.args in
+    told-ended a.s a.samples.now a.store.now a.«data».now a.out.now a.line.now c.in-Ended.is c.ended.ensures
 
 pub told_spec : {M : Type 1} → statement M
 told_spec =

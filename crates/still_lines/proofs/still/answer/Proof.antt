@@ -75,10 +75,8 @@ slice_bounds-decoded-end c =
 slice_bounds-decoded-end-in-Macroblock : tie.Need-slice_bounds-decoded-end-in-Macroblock
 slice_bounds-decoded-end-in-Macroblock c =
     let j = c.before.before in
-    let p = j.before.before.before.before in
-    let s = p.before.before.before.before in
-    let a = s.args in
-    sym (length-take-le _ _ (data_long a.line.now a.«data».now s.requires (formed j) _ p.parse.ensures.1))
+    let a = c.args in
+    sym (length-take-le _ _ (data_long a.line.now a.«data».now c.requires (formed j) _ c.parse-form.ensures.1))
 
 decoded-requires : tie.Need-decoded-requires
 decoded-requires c κs = search rules
@@ -130,18 +128,18 @@ shape_of-store c = search rules
 
 returns-else-not-s : tie.Need-returns-else-not-s
 returns-else-not-s c =
-    let d = c.before.before in
-    let j = d.before.before.before.before.before in
-    let p = j.before.before.before.before in
-    let s = p.before.before.before.before in
-    let a = s.args in
-    let g = j.form2.given.0 in
+    let d = c in
+    let j = c.before.before.before.before.before.before.before in
+    let p = c in
+    let s = c in
+    let a = c.args in
+    let g = c.in-Macroblock in
     let m = formed j in
     let S = a.s in
     let ss = a.samples.now in
     let t = a.store.now in
-    let b = data_is a.line.now a.«data».now s.requires m _ p.parse.ensures.1 in
-    let x = ap (λ (bs : List ℕ). input_of g.0 g.1.0 g.1.1.0 g.1.1.1.0 g.1.1.1.1.0 bs ss) b in
+    let b = data_is a.line.now a.«data».now s.requires m _ p.parse-form.ensures.1 in
+    let x = ap (λ (bs : List ℕ). input_of g.q g.ac_pred g.kind g.cbpy g.cbpc bs ss) b in
     let r = within S ss t a.line.now _ _ _ _ _ m.bytes (left_by S ss t a.line.now _ m.is)
     (not-false S.has_picture d.if-not-s.false) in
     let o = d.decoded.ensures in (
@@ -150,7 +148,7 @@ returns-else-not-s c =
         (o.0.1.0 ∙ ap (λ (y : Input). text_decoded S.picture (samples_out S.picture y t) (answer_out S.picture y t)) x ∙ r.0.1, o.0.1.1),
       ),
       (
-        p.parse.ensures.1,
+        p.parse-form.ensures.1,
         (o.1.0 ∙ ap (λ (y : Input). samples_out S.picture y t) x ∙ r.1.0, o.1.1 ∙ ap (λ (y : Input). store_out S.picture y t) x ∙ r.1.1),
       ),
     )

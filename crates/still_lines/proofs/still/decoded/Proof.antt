@@ -58,26 +58,23 @@ enum_known-answer-in-Decoded-1 c = search rules
 
 span_of-luma-requires : tie.Need-span_of-luma-requires
 span_of-luma-requires c κs =
-    let k = c.before.before.before.before in
-    let a = k.before.before.before.before.before.before.before.before.before.before.args in
-    let d = k.decode_macroblock.ensures in
-    let r = decoded-roomy a.s.picture _ a.store.now (sym d.answer ∙ c.answer2.given.1) in
+    let a = c.args in
+    let d = c.decode_macroblock-answer.ensures in
+    let r = decoded-roomy a.s.picture _ a.store.now (sym d.answer ∙ c.in-Decoded.is) in
     (omega arith, subst (λ (n : ℕ). 256 ≤ n) (sym (ap length d.samples ∙ samples-length a.s.picture _ a.store.now)) (omega (arith, r)))
 
 span_of-cb-requires : tie.Need-span_of-cb-requires
 span_of-cb-requires c κs =
-    let k = c.before.before.before.before.before.before in
-    let a = k.before.before.before.before.before.before.before.before.before.before.args in
-    let d = k.decode_macroblock.ensures in
-    let r = decoded-roomy a.s.picture _ a.store.now (sym d.answer ∙ c.answer2.given.1) in
+    let a = c.args in
+    let d = c.decode_macroblock-answer.ensures in
+    let r = decoded-roomy a.s.picture _ a.store.now (sym d.answer ∙ c.in-Decoded.is) in
     (omega arith, subst (λ (n : ℕ). 320 ≤ n) (sym (ap length d.samples ∙ samples-length a.s.picture _ a.store.now)) (omega (arith, r)))
 
 span_of-cr-requires : tie.Need-span_of-cr-requires
 span_of-cr-requires c κs =
-    let k = c.before.before.before.before.before.before.before.before in
-    let a = k.before.before.before.before.before.before.before.before.before.before.args in
-    let d = k.decode_macroblock.ensures in
-    let r = decoded-roomy a.s.picture _ a.store.now (sym d.answer ∙ c.answer2.given.1) in
+    let a = c.args in
+    let d = c.decode_macroblock-answer.ensures in
+    let r = decoded-roomy a.s.picture _ a.store.now (sym d.answer ∙ c.in-Decoded.is) in
     (omega arith, subst (λ (n : ℕ). 384 ≤ n) (sym (ap length d.samples ∙ samples-length a.s.picture _ a.store.now)) (omega (arith, r)))
 
 mb_line-text-requires : tie.Need-mb_line-text-requires
@@ -120,26 +117,25 @@ shape_of-store-in-Decoded c = search rules
 
 returns-in-Decoded : tie.Need-returns-in-Decoded
 returns-in-Decoded c =
-    let j = c.before.before.before.before.before in
-    let k = j.before.before.before.before.before in
+    let k = c.before.before.before.before.before.before.before in
     let m = k.before.before.before in
     let s = m.before.before.before.before.before.before.before in
     let a = s.args in
     let p = a.s.picture in
     let x = input_is k in
-    let d = k.decode_macroblock.ensures in
+    let d = k.decode_macroblock-answer.ensures in
     let after = d.samples ∙ ap (λ (y : Input). samples_out p y a.store.now) x in
-    let column = m.column_of.ensures in
-    let row = m.row_of.ensures in
-    let luma = c.Span-of.ensures ∙ ap (λ (l : List ℤ). span_of (part l 0 256)) after in
-    let cb = c.span-of2.ensures ∙ ap (λ (l : List ℤ). span_of (part l 256 320)) after in
+    let column = m.column_of-column.ensures in
+    let row = m.row_of-row.ensures in
+    let luma = c.span_of-luma.ensures ∙ ap (λ (l : List ℤ). span_of (part l 0 256)) after in
+    let cb = c.span_of-cb.ensures ∙ ap (λ (l : List ℤ). span_of (part l 256 320)) after in
     let cr = c.span_of-cr.ensures ∙ ap (λ (l : List ℤ). span_of (part l 320 384)) after in
-    let e = sym j.answer2.given.1 ∙ d.answer ∙ ap (λ (y : Input). answer_out p y a.store.now) x in (
+    let e = sym c.in-Decoded.is ∙ d.answer ∙ ap (λ (y : Input). answer_out p y a.store.now) x in (
       (
         ap (still_decoded a.s) e,
         (
           c.mb_line-text.ensures.0
-              ∙ (λ i. mb_text (column i) (row i) j.answer2.given.0.0 (luma i).least (luma i).greatest (cb i).least (cb i).greatest (cr i).least (cr i).greatest)
+              ∙ (λ i. mb_text (column i) (row i) c.in-Decoded.bits (luma i).least (luma i).greatest (cb i).least (cb i).greatest (cr i).least (cr i).greatest)
               ∙ ap (text_decoded p (samples_out p (brought s) a.store.now)) e,
           c.mb_line-text.ensures.1,
         ),

@@ -34,7 +34,7 @@ returns : tie.Need-returns
 returns c =
     let a = c.args in
     let d = c.decimal-k in (
-      c.word.ensures.0 ∙ ap (λ (xs : List ℕ). said a.t ++ xs) (decimal_is a.n d.result _ d.ensures.1.0 d.ensures.1.1),
+      c.word.ensures.0 ∙ ap (λ (xs : List ℕ). said a.t ++ xs) (decimal_is a.n d.result _ d.ensures.1.0 d.ensures.1.1.0),
       (let f = few c.before in let e : c.word.result.len ≡ a.t.len + length (take d.result d.new.out) = c.word.ensures.1 in omega arith),
     )
 
