@@ -108,7 +108,7 @@ module _ (depth : ℕ) (l : List (List ℤ)) (fine : depth_fine depth ≡ true) 
       near_farther near =
           reduce d (2 ^ 190) (nat_abs (n *ℤ pos (2 ^ 222) -ℤ z)) (nat_abs (w *ℤ pos (2 ^ 220) -ℤ z *ℤ pos (fourth d))) n w (lit< tt) (by_whole n z w (fourth d) (2 ^ 220))
           (whole-within l small y x ly lx m)
-          (sum_moved near l small y x ly lx (3 * 2 ^ 190) (lit≤ tt))
+          (sum_moved near l small y x ly lx (3 * 2 ^ 190) (omega arith))
 
       -- within 1/2 ^ 47
       pub near-moved : Constants (2 ^ 8) d c k → WithinOf d n w
