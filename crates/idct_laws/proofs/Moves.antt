@@ -22,7 +22,7 @@ use Rattle.rounding.specs.declared.HalfIntegerRounding.{HalfIntegerRounding}
 use Rattle.idct_laws.specs.Moved.{Constants, fourth, NearOf, WithinOf, HalfWayOf}
 use Rattle.idct_laws.proofs.Distances.{abs_swap}
 use Rattle.idct_laws.proofs.Halves.{halves}
-use Rattle.idct_laws.proofs.MovedSums.{sum_moved}
+use Rattle.idct_laws.proofs.MovedSums.{Small, sum_moved}
 
 -- farther is weaker
 pub wider : {e f d : ℕ} {c : ℕ → ℤ} {k : ℕ → ℕ → ℤ} → Constants e d c k → e ≤ f → Constants f d c k
@@ -103,16 +103,20 @@ module _ (depth : ℕ) (l : List (List ℤ)) (fine : depth_fine depth ≡ true) 
       abbrev n : ℤ
       n = whole m l y x
 
-      -- within 1/2 ^ 46
-      pub near_farther : Constants (2 ^ 9) d c k → WithinOf d n w
-      near_farther near =
+      -- constants whose terms are no more than this apart
+      within_by : {e : ℕ} → Constants e d c k → Small e (3 * 2 ^ 190) → WithinOf d n w
+      within_by near small_terms =
           reduce d (2 ^ 190) (nat_abs (n *ℤ pos (2 ^ 222) -ℤ z)) (nat_abs (w *ℤ pos (2 ^ 220) -ℤ z *ℤ pos (fourth d))) n w (lit< tt) (by_whole n z w (fourth d) (2 ^ 220))
           (whole-within l small y x ly lx m)
-          (sum_moved near l small y x ly lx (3 * 2 ^ 190) (lit≤ tt))
+          (sum_moved near l small y x ly lx (3 * 2 ^ 190) small_terms)
+
+      -- within 1/2 ^ 46
+      pub near_farther : Constants (2 ^ 9) d c k → WithinOf d n w
+      near_farther near = within_by near (lit≤ tt)
 
       -- within 1/2 ^ 47
       pub near-moved : Constants (2 ^ 8) d c k → WithinOf d n w
-      near-moved near = near_farther (wider near (lit≤ tt))
+      near-moved near = within_by near (lit≤ tt)
 
       -- within 1/2 ^ 53, near a half of the transform worked with them
       pub moved-half : Constants (2 ^ 2) d c k → (j : ℤ) → HalfWayOf d j w → n ≡ tied m j
