@@ -56,7 +56,7 @@ returns-then-not-long_enough c =
     (l.tell.ensures.1 ∙ ap (λ (y : Told). answer_after y a.answer.now) told)
 
 picture_of-p-requires : tie.Need-picture_of-p-requires
-picture_of-p-requires c κs = let g = c.before in first_long 5 _ _ _ (flag_passes g.long_enough.ensures g.if1.false)
+picture_of-p-requires c κs = first_long 5 _ _ _ (flag_passes c.long_enough.ensures c.if-not-long_enough.false)
 
 header_of-header-requires : tie.Need-header_of-header-requires
 header_of-header-requires c κs = search rules
@@ -65,15 +65,13 @@ context_of-m-requires : tie.Need-context_of-m-requires
 context_of-m-requires c κs = search rules
 
 matrix_of-w-requires : tie.Need-matrix_of-w-requires
-matrix_of-w-requires c κs = let g = c.before.before.before.before in matrix-long 5 _ _ _ (flag_passes g.long_enough.ensures g.if1.false)
+matrix_of-w-requires c κs = matrix-long 5 _ _ _ (flag_passes c.long_enough.ensures c.if-not-long_enough.false)
 
 decode_macroblock-d-requires : tie.Need-decode_macroblock-d-requires
 decode_macroblock-d-requires c κs = search rules
 
 onward-requires : tie.Need-onward-requires
-onward-requires c κs =
-    let g = c.before.before.before.before.before.before.before.before.before.before.before in
-    first_long 5 _ _ _ (flag_passes g.long_enough.ensures g.if1.false)
+onward-requires c κs = first_long 5 _ _ _ (flag_passes c.long_enough.ensures c.if-not-long_enough.false)
 
 told_in_picture-t-requires : tie.Need-told_in_picture-t-requires
 told_in_picture-t-requires c κs = search rules
@@ -96,30 +94,20 @@ shape_of-answer c = search rules
 returns : tie.Need-returns
 unfolding left_in
 returns c =
-    let l = c.before.before in
-    let t = l.before.before in
-    let o = t.before.before.before in
-    let d = o.before.before.before.before in
-    let w = d.before.before.before in
-    let m = w.before in
-    let h = m.before in
-    let p = h.before in
-    let g = p.before.before in
-    let k = g.before in
-    let a = k.before.before.before.before.before.args in
+    let a = c.args in
     let store = a.store.now in
-    let x = given_is a.«data».now a.at a.samples.now h.header_of-header.ensures m.context_of-m.ensures w.matrix_of-w.ensures in
-    let q = p.picture_of-p.ensures in
-    let e = flag_passes k.long_enough.ensures g.if1.false in
-    let r = d.decode_macroblock-d.ensures in
+    let x = given_is a.«data».now a.at a.samples.now c.header_of-header.ensures c.context_of-m.ensures c.matrix_of-w.ensures in
+    let q = c.picture_of-p.ensures in
+    let e = flag_passes c.long_enough.ensures c.if-not-long_enough.false in
+    let r = c.decode_macroblock-d.ensures in
     let decoded = long-is _ e (r.answer ∙ ap₂ (λ (u : Picture) (y : Input). answer_out u y store) q x) in
-    let told = t.told_in_picture-t.ensures ∙ ap (λ (y : PictureDecoded). told_of y a.at) decoded in
+    let told = c.told_in_picture-t.ensures ∙ ap (λ (y : PictureDecoded). told_of y a.at) decoded in
     left_is
-    (l.tell-2.ensures.0 ∙ ap (λ (y : Told). y.number) told)
-    (o.onward.ensures ∙ ap (λ (y : PictureDecoded). state_out y a.state.now) decoded)
+    (c.tell-2.ensures.0 ∙ ap (λ (y : Told). y.number) told)
+    (c.onward.ensures ∙ ap (λ (y : PictureDecoded). state_out y a.state.now) decoded)
     (long-is _ e (r.samples ∙ ap₂ (λ (u : Picture) (y : Input). samples_out u y store) q x))
     (long-is _ e (r.store ∙ ap₂ (λ (u : Picture) (y : Input). store_out u y store) q x))
-    (l.tell-2.ensures.1 ∙ ap (λ (y : Told). answer_after y a.answer.now) told)
+    (c.tell-2.ensures.1 ∙ ap (λ (y : Told). answer_after y a.answer.now) told)
 
 pub vaxembro_decode_macroblock_spec : {M : Type 1} → statement M
 vaxembro_decode_macroblock_spec =

@@ -87,21 +87,19 @@ returns-then-header-lt-HEADER c =
     (l.tell-then-header-lt-HEADER.ensures.1 ∙ ap (λ (y : Told). answer_after y a.answer.now) told)
 
 picture_of-p-requires : tie.Need-picture_of-p-requires
-picture_of-p-requires c κs = let g = c.before.before in first_long 5 _ _ _ (flag_passes g.long_enough.ensures g.if1.false)
+picture_of-p-requires c κs = first_long 5 _ _ _ (flag_passes c.long_enough.ensures c.if-not-long_enough.false)
 
 context_of-m-requires : tie.Need-context_of-m-requires
 context_of-m-requires c κs = search rules
 
 matrix_of-w-requires : tie.Need-matrix_of-w-requires
-matrix_of-w-requires c κs = let g = c.before.before.before.before in matrix-long 5 _ _ _ (flag_passes g.long_enough.ensures g.if1.false)
+matrix_of-w-requires c κs = matrix-long 5 _ _ _ (flag_passes c.long_enough.ensures c.if-not-long_enough.false)
 
 decode_macroblock_with_header-d-requires : tie.Need-decode_macroblock_with_header-d-requires
 decode_macroblock_with_header-d-requires c κs = search rules
 
 onward-requires : tie.Need-onward-requires
-onward-requires c κs =
-    let g = c.before.before.before.before.before.before.before.before.before.before.before in
-    first_long 5 _ _ _ (flag_passes g.long_enough.ensures g.if1.false)
+onward-requires c κs = first_long 5 _ _ _ (flag_passes c.long_enough.ensures c.if-not-long_enough.false)
 
 put_whole_in-requires : tie.Need-put_whole_in-requires
 put_whole_in-requires c κs = search rules
@@ -130,32 +128,21 @@ shape_of-answer c = search rules
 returns : tie.Need-returns
 unfolding left_whole_in
 returns c =
-    let l = c.before.before in
-    let t = l.before.before in
-    let h = t.before.before in
-    let o = h.before.before.before.before in
-    let d = o.before.before.before.before in
-    let w = d.before.before.before in
-    let m = w.before in
-    let p = m.before in
-    let f = p.before.before in
-    let g = f.before in
-    let k = g.before in
-    let a = k.before.before.before.before.before.args in
+    let a = c.args in
     let store = a.store.now in
-    let x = bare-is a.«data».now a.at a.samples.now m.context_of-m.ensures w.matrix_of-w.ensures in
-    let q = p.picture_of-p.ensures in
-    let e = true_both (flag_passes k.long_enough.ensures g.if1.false) (le-leb header_length (length a.header.now) f.if2.false) in
-    let r = d.decode_macroblock_with_header-d.ensures in
+    let x = bare-is a.«data».now a.at a.samples.now c.context_of-m.ensures c.matrix_of-w.ensures in
+    let q = c.picture_of-p.ensures in
+    let e = true_both (flag_passes c.long_enough.ensures c.if-not-long_enough.false) (le-leb header_length (length a.header.now) c.if-header-lt-HEADER.false) in
+    let r = c.decode_macroblock_with_header-d.ensures in
     let decoded = long-is _ e (r.answer ∙ ap₂ (λ (u : Picture) (y : Bare). answer_out u y store) q x) in
-    let told = t.told_whole_in-t.ensures ∙ ap (λ (y : PictureWholeDecoded). told_whole_in y a.at) decoded in
+    let told = c.told_whole_in-t.ensures ∙ ap (λ (y : PictureWholeDecoded). told_whole_in y a.at) decoded in
     left_is
-    (l.tell-2.ensures.0 ∙ ap (λ (y : Told). y.number) told)
-    (o.onward.ensures ∙ ap (λ (y : PictureWholeDecoded). whole_state_out y a.state.now) decoded)
+    (c.tell-2.ensures.0 ∙ ap (λ (y : Told). y.number) told)
+    (c.onward.ensures ∙ ap (λ (y : PictureWholeDecoded). whole_state_out y a.state.now) decoded)
     (long-is _ e (r.samples ∙ ap₂ (λ (u : Picture) (y : Bare). samples_out u y store) q x))
     (long-is _ e (r.store ∙ ap₂ (λ (u : Picture) (y : Bare). store_out u y store) q x))
-    (h.put_whole_in.ensures ∙ ap (λ (y : PictureWholeDecoded). whole_header_out_in y a.header.now) decoded)
-    (l.tell-2.ensures.1 ∙ ap (λ (y : Told). answer_after y a.answer.now) told)
+    (c.put_whole_in.ensures ∙ ap (λ (y : PictureWholeDecoded). whole_header_out_in y a.header.now) decoded)
+    (c.tell-2.ensures.1 ∙ ap (λ (y : Told). answer_after y a.answer.now) told)
 
 pub vaxembro_decode_macroblock_with_header_spec : {M : Type 1} → statement M
 vaxembro_decode_macroblock_with_header_spec =
