@@ -2,7 +2,7 @@
 # Puts the library in place under a folder, which is made if it is not there:
 #     bindings/install.sh PREFIX
 # lib/libvaxembro.a; lib/libvaxembro.so, a link to the shared library, which is linked here from the archive; include/vaxembro.h; and
-# lib/pkgconfig/vaxembro.pc. The archive is that of `rt staticlib vaxembro`, or of the folder that VAXEMBRO_LIB_DIR names. Needs a C
+# lib/pkgconfig/vaxembro.pc. The archive is that of bindings/archive.sh, or of the folder that VAXEMBRO_LIB_DIR names. Needs a C
 # compiler, on x86-64. Where something fails it says so, ends with status 1 and leaves PREFIX as it was.
 set -eu
 here=$(cd "$(dirname "$0")" && pwd)
@@ -19,7 +19,7 @@ case $1 in
 *) prefix=$(pwd)/$1 ;;
 esac
 archive=${VAXEMBRO_LIB_DIR:-$top/target/staticlib}/libvaxembro.a
-[ -f "$archive" ] || fail "there is no $archive: make it by 'rt staticlib vaxembro'"
+[ -f "$archive" ] || fail "there is no $archive: make it by bindings/archive.sh"
 version=$(sed -n 's/^version = "\(.*\)"$/\1/p' "$here/rust/Cargo.toml")
 [ -n "$version" ] || fail "no version in $here/rust/Cargo.toml"
 shared=libvaxembro.so.${version%.*}

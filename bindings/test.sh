@@ -60,7 +60,7 @@ installed() {
 
 # Where something is missing or in the way, nothing is left.
 not_installed() {
-    refused 'rt staticlib vaxembro' env VAXEMBRO_LIB_DIR="$work/nowhere" "$here/install.sh" "$work/none/of/it"
+    refused 'bindings/archive.sh' env VAXEMBRO_LIB_DIR="$work/nowhere" "$here/install.sh" "$work/none/of/it"
     refused 'cannot link' env CC=false "$here/install.sh" "$work/none/of/it"
     refused 'usage' "$here/install.sh"
     [ ! -e "$work/none" ] || fail 'a folder was left'
@@ -119,8 +119,8 @@ rust_elsewhere() {
     printf '[package]\nname = "program"\nedition = "2021"\n[dependencies]\nvaxembro = { path = "../vaxembro" }\n' >Cargo.toml
     quietly env VAXEMBRO_LIB_DIR="$prefix/lib" cargo build --offline
     prints "$work/cargo/debug/program" "$worked"
-    refused 'rt staticlib vaxembro' env VAXEMBRO_LIB_DIR="$work/nowhere" cargo build --offline
-    refused 'rt staticlib vaxembro' env PKG_CONFIG_PATH= PKG_CONFIG_LIBDIR="$work/nowhere" cargo build --offline
+    refused 'bindings/archive.sh' env VAXEMBRO_LIB_DIR="$work/nowhere" cargo build --offline
+    refused 'bindings/archive.sh' env PKG_CONFIG_PATH= PKG_CONFIG_LIBDIR="$work/nowhere" cargo build --offline
     [ -z "$told" ] || quietly cargo build --offline
     cd "$top"
 }
@@ -132,28 +132,24 @@ shown() {
     diff "$work/due" "$work/printed"
 }
 
-# The Rattle listings of the README, each a module of a crate over those that are proved already.
+# The Rattle listings of the README, each a module of a crate over copies of those below the library.
 rattle() {
     below=$(sed -n 's/^vaxembro: *//p' "$top/crates.txt")
-    mkdir -p "$work/crates/listing/src" "$work/target/rlib" "$work/target/stamp"
-    for crate in $below; do
-        ln -s "$top/crates/$crate" "$work/crates/$crate"
-        ln -s "$top/target/rlib/$crate.rlib" "$work/target/rlib/$crate.rlib"
-        cp "$top/target/stamp/$crate" "$work/target/stamp/$crate"
-        grep "^$crate:" "$top/crates.txt"
-    done >"$work/crates.txt"
+    tar -C "$top" --exclude out -cf - crates crates.txt | tar -C "$work" -xf -
+    mkdir -p "$work/crates/listing/src"
     echo "listing: $below" >>"$work/crates.txt"
     cd "$work/crates/listing/src"
+    echo '#![tactic(auto)]' >lib.rt
     awk '
         /^## / { on = $0 == "## How a service calls it" }
-        on && /^    / && !within { within = 1; n++; print "mod listing" n ";" >"lib.rt" }
+        on && /^    / && !within { within = 1; n++; print "mod listing" n ";" >>"lib.rt" }
         on && within && /^(    |$)/ { print substr($0, 5) >("listing" n ".rt") }
         /^[^ ]/ { within = 0 }
     ' "$top/README.md"
     [ "$(grep -c '^mod ' lib.rt)" -eq 3 ] || fail 'three listings in Rattle'
-    cd "$work"
-    quietly rt check listing
-    grep 'listing proved' "$work/say"
+    cd "$work/crates/listing"
+    quietly rt check
+    sed -n 's/^logic=proved functions=\([0-9]*\) .*/Rattle: \1 functions proved/p' "$work/say" | tail -n 1
     cd "$top"
 }
 

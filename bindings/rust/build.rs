@@ -2,8 +2,8 @@
 use std::path::{Path, PathBuf};
 use std::process::Command;
 
-const HOW: &str = "`rt staticlib vaxembro` makes it in target/staticlib of the repository; bindings/install.sh puts it where pkg-config finds \
-                   it; or VAXEMBRO_LIB_DIR names its folder, by its whole path";
+const HOW: &str = "bindings/archive.sh makes it in target/staticlib of the repository; bindings/install.sh puts it where pkg-config finds it; \
+                   or VAXEMBRO_LIB_DIR names its folder, by its whole path";
 
 fn main() {
     for name in ["VAXEMBRO_LIB_DIR", "PKG_CONFIG_PATH", "PKG_CONFIG_LIBDIR"] {

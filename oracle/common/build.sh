@@ -22,20 +22,21 @@ quietly() {
 }
 
 # Rattle's side: lib.rt.txt, a crate of C functions over the named crate that needs no proof files, with the parts of common/ that it
-# names, proved and made into a static library.
+# names, proved and made into a static library. What rt keeps in out/ stays in $work.
 offered() {
     crate=$1_offered
-    rm -rf "$work/crates"
-    cp -r "$top/crates" "$work/crates"
     mkdir -p "$work/crates/$crate/src"
+    find "$work/crates" -mindepth 2 -maxdepth 2 ! -name out -exec rm -rf {} +
+    tar -C "$top" --exclude out -cf - crates | tar -C "$work" -xf -
+    mkdir "$work/crates/$crate/src"
     cp "$here/lib.rt.txt" "$work/crates/$crate/src/lib.rt"
     for part in $(sed -n 's/^mod \(.*\);/\1/p' "$here/lib.rt.txt"); do
         cp "$common/$part.rt.txt" "$work/crates/$crate/src/$part.rt"
     done
     below=$(sed -n "s/^$1: *//p" "$top/crates.txt")
-    { cat "$top/crates.txt"; echo "$crate: $below $1"; } >"$work/crates.txt"
-    (cd "$work" && quietly rt staticlib "$crate")
-    library=$work/target/staticlib/lib$crate.a
+    { cat "$top/crates.txt"; echo "$crate staticlib: $below $1"; } >"$work/crates.txt"
+    (cd "$work/crates/$crate" && quietly rt lib)
+    library=$work/crates/$crate/out/lib$crate.a
 }
 
 # The driver (main.rs, or the file named) over that library, if there is one, and the original, as $work/NAME. The original's modules

@@ -1,4 +1,4 @@
-// The decoder for callers in C and Rust: numbers and lent slices only.
+// The decoder for callers in C and Rust: numbers and lent slices only. `vaxembro_c` exports it.
 //
 // A slice is a pointer and a length there. Each function ends, allocates nothing and asks nothing of its caller.
 #![tactic(auto)]
