@@ -165,7 +165,7 @@ nearest_near x v i =
     let w = nearest_within x (nearest_z x) (nearest_of x v i) in
     record { v = w.v; is = w.is; over = omega (arith, w.over, one-is); under = omega (arith, w.under, one-is) }
 
--- where x is within 10992344133 grain of k and a half, which is more than 2 ^ -27 and 3 * 2 ^ -31, its floor is k, and it counts as half_way
+-- where x is within 10992344133 grain of k and a half, which is more than 2 ^ -27 and 3 * 2 ^ -31, its floor is k, and it counts as half-way
 pub tie_at : (x : Float) (v k : ℤ) → Is x v → up v + dn v ≤ 1048576 * one → up v + dn k * one ≤ dn v + up k * one + 2 ^ 59 * grain + 10992344133 * grain → dn v + up k * one + 2 ^ 59 * grain ≤ up v + dn k * one + 10992344133 * grain
     → (k ≡ floor_z x) × (at_half x k ≡ true)
 tie_at x v k i s a b =

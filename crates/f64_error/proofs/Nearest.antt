@@ -149,7 +149,7 @@ nearest_within x r f = record { v = sgn f.negative f.n; is = f.is; over = (go f.
         subst (λ (z : ℤ). (2 * (up z * one + dn (sgn f.negative f.n)) ≤ 2 * (dn z * one + up (sgn f.negative f.n)) + one) × (2 * (dn z * one + up (sgn f.negative f.n)) ≤ 2 * (up z * one + dn (sgn f.negative f.n)) + one))
         (sym f.result) (signed f.negative f.n f.q f.low f.high)
 
--- where x is not half_way, there is one nearest only
+-- where x is not half-way, there is one nearest only
 pub nearest_is : (x : Float) (v r : ℤ) → Is x v → 2 * (up r * one + dn v) < 2 * (dn r * one + up v) + one → 2 * (dn r * one + up v) < 2 * (up r * one + dn v) + one → r ≡ nearest_z x
 nearest_is x v r i a b =
     let w = nearest_within x (nearest_z x) (nearest_of x v i) in

@@ -1,4 +1,4 @@
--- The whole numbers at, below and nearest to an f64, and when it counts as half_way between two. Definitions only.
+-- The whole numbers at, below and nearest to an f64, and when it counts as half-way between two. Definitions only.
 use Rattle.std.specs.Prelude.{Bool, false, cond, ◌+◌, ◌-◌, ◌*◌, ◌/◌, Float, ℤ, pos, neg_ℤ}
 use Rattle.std.specs.Float.Ieee.{of_bits, up as numer, down as denom, neg, lt, sub, of_int}
 use Rattle.std.specs.Float.{nan, inf, fin, binary64}
@@ -11,7 +11,7 @@ floor_z nan = pos 0
 floor_z (inf s) = pos 0
 floor_z (fin s m e) = cond s (neg_ℤ (pos ((m * numer e + (denom e - 1)) / denom e))) (pos (m * numer e / denom e))
 
--- the whole number nearest to x, half_way away from zero (Rust's `round`); 0 where x is not finite
+-- the whole number nearest to x, half-way away from zero (Rust's `round`); 0 where x is not finite
 unfoldable pub nearest_z : Float → ℤ
 nearest_z nan = pos 0
 nearest_z (inf s) = pos 0
@@ -29,6 +29,6 @@ gap_of x r = sub binary64 (sub binary64 x (of_int binary64 r)) half
 abbrev pub tolerance : Float
 tolerance = of_bits binary64 0x3e45798ee2308c3a
 
--- x counts as half_way above r: the f64 |x - r - 0.5| is below the tolerance
+-- x counts as half-way above r: the f64 |x - r - 0.5| is below the tolerance
 abbrev pub at_half : Float → ℤ → Bool
 at_half x r = lt (mag_f (gap_of x r)) tolerance

@@ -50,6 +50,13 @@ module _ (d : List ℕ) (at q : ℕ) where
   unfolding header_answer header_state
   header-out e = sym (ap (λ (s : Bool). answer_by (stated s (quantiser_fine q)) (header_told d q (read_header b))) e)
 
+  -- once the tests pass: what the parts say, or the refusal
+  pub refused_told : {x : TextureParseError} → read_header b ≡ no x → Refused (Texture x) ≡ header_told d q (read_header b)
+  refused_told k = sym (ap (header_told d q) k)
+
+  pub given_told : (p : HeaderParts) (next : Cursor) → next.bit_pos ≤ 8 * length d → Told b p (bits_from d next.bit_pos) → (fs : HeaderFields) → fs ≡ fields_by p q → Read fs next ≡ header_told d q (read_header b)
+  given_told p next l t fs g = ap₂ Read (g ∙ ap (λ (y : HeaderParts). fields_by y q) (sym t.are)) (place_is d next l) ∙ sym (ap (header_told d q) t.read)
+
   module _ (e : in_data (length d) at ≡ true) where
     pub header-context : quantiser_fine q ≡ false → Refused Context ≡ header_answer d at q
     unfolding header_answer header_state
@@ -61,12 +68,11 @@ module _ (d : List ℕ) (at q : ℕ) where
       unfolding header_answer header_state
       header_read = ap₂ (λ (s t : Bool). answer_by (stated s t) (header_told d q (read_header b))) e f
 
-  -- once they pass: what the parts say, or the refusal
-  pub header_refused : {x : TextureParseError} → read_header b ≡ no x → Refused (Texture x) ≡ header_told d q (read_header b)
-  header_refused k = sym (ap (header_told d q) k)
+      pub header_refused : {x : TextureParseError} → read_header b ≡ no x → Refused (Texture x) ≡ header_answer d at q
+      header_refused k = refused_told k ∙ sym header_read
 
-  pub header-given : (p : HeaderParts) (next : Cursor) → next.bit_pos ≤ 8 * length d → Told b p (bits_from d next.bit_pos) → (fs : HeaderFields) → fs ≡ fields_by p q → Read fs next ≡ header_told d q (read_header b)
-  header-given p next l t fs g = ap₂ Read (g ∙ ap (λ (y : HeaderParts). fields_by y q) (sym t.are)) (place_is d next l) ∙ sym (ap (header_told d q) t.read)
+      pub header-given : (p : HeaderParts) (next : Cursor) → next.bit_pos ≤ 8 * length d → Told b p (bits_from d next.bit_pos) → (fs : HeaderFields) → fs ≡ fields_by p q → Read fs next ≡ header_answer d at q
+      header-given p next l t fs g = given_told p next l t fs g ∙ sym header_read
 
 -- ---- an answered header
 

@@ -1,35 +1,83 @@
--- The parts of a header, as the code goes through them one after the other, and the fields that they say. Assumes nothing.
-use mathlib.Core.Bool.{Bool, cond, false, true}
-use mathlib.Core.List.{List}
+-- The parts of a header, as the code goes through them: codes by six bits, one part after the other, and the fields that they say. Assumes nothing.
+use mathlib.Core.Bool.{Bool, cond, false, true, ◌&&◌}
+use mathlib.Core.List.{List, ◌++◌}
 use mathlib.Core.Option.{Option, none, some}
-use mathlib.Core.Path.{◌≡◌, ap, refl, subst, subst⁻¹, sym, ◌∙◌}
-use Prim.Native.Nat.{ℕ, ◌%◌, ◌*◌, ◌+◌, ◌<◌, ◌≤◌}
+use mathlib.Core.Path.{◌≡◌, ap, ap₂, refl, subst, subst⁻¹, sym, ◌∙◌}
+use Prim.Native.Nat.{ℕ, suc, zero, ◌%◌, ◌*◌, ◌+◌, ◌/◌, ◌<◌, ◌≤◌}
+use native.Mathlib.Nat.{mod-lt}
 use native.Mathlib.Omega.{arith}
-use lib.Dec.{eqb}
+use lib.Dec.{T, eqb}
 use lib.IntN.{nat_abs, negsuc, pos, ℤ, ◌+ℤ◌}
-use lib.ListN.{length}
+use lib.ListN.{length, take}
 use borrow.Author.Tests.{eq-eqb, ne_eqb}
-use Rattle.bits.specs.Bits.{Bits, bits_from}
+use Rattle.bits.proofs.AheadLaws.{field-bits, window-begins, window-length}
+use Rattle.bits.proofs.BitLaws.{length-bits_from}
+use Rattle.bits.proofs.CursorLaws.{in_data_yes}
+use Rattle.bits.specs.Ahead.{ahead_of, window}
+use Rattle.bits.specs.Bits.{Bits, bin, bits_from}
+use Rattle.bits.specs.Cursor.{cursor_at, in_data}
 use Rattle.bits.specs.declared.cursor.Cursor.{Cursor}
-use Rattle.codes.proofs.HeaderLaws.{cbpc_is, cbpy_is, type_is}
-use Rattle.codes.specs.Header.{cbpc_at, cbpy_at, cbpy_codes, cbpy_lens, type_at}
-use Rattle.fields.proofs.ReadLaws.{bind_by}
+use Rattle.codes.proofs.HeaderLaws.{ShortOf, cbpc_is, cbpy_is, short_row_lem, type_is}
+use Rattle.codes.specs.Header.{cbpc_at, cbpy_at, cbpy_codes, cbpy_lens, short_row, type_at}
+use Rattle.codes.specs.Table.{code_bits, prefix_free}
+use Rattle.fields.proofs.ChainLaws.{place_is}
+use Rattle.fields.proofs.ReadLaws.{bind_by, code-complete, field-complete}
+use Rattle.fields.proofs.TakeLaws.{field_stops}
+use Rattle.fields.specs.Answer.{code_answer, field_answer, got_told}
 use Rattle.fields.specs.Inside.{invalid}
 use Rattle.fields.specs.Reader.{Res, bind, code, field, mapped, no, ok}
 use Rattle.fields.specs.declared.code.CodeKind.TheVariants.{Header as HeaderCode}
 use Rattle.fields.specs.declared.error.TextureParseError.{TextureParseError}
+use Rattle.fields.specs.declared.error.TextureParseError.TheVariants.{OutOfRange, Truncated}
+use Rattle.fields.specs.declared.field.Got.{Got}
+use Rattle.fields.specs.declared.field.Got.TheVariants.{Number, Refused as NumberRefused}
 use Rattle.sentences.specs.ComposeReader.{read_opt}
 use Rattle.headers.proofs.HeaderLaws.{header_reads}
 use Rattle.headers.proofs.McbpcLaws.{mapped-ok, mcbpc_reads, row_read}
 use Rattle.ranges.specs.Range.{limited_quantiser}
 use Rattle.headers.specs.Fields.{delta_of, type_by}
-use Rattle.headers.specs.Header.{GoodHeader, Header, Mcbpc, changes_at, row_of}
+use Rattle.headers.specs.Header.{GoodHeader, Header, Mcbpc, Rest, changes_at, row_of}
 use Rattle.headers.specs.HeaderReader.{read_header, read_mcbpc, read_rest}
 use Rattle.headers.specs.Inside.{PartsFine, SaysParts, fields_by, parts_by, parts_of, with_rest}
 use Rattle.headers.specs.declared.header.DerivedMbType.{DerivedMbType}
+use Rattle.headers.specs.declared.parse.HeaderFields.{HeaderFields}
 use Rattle.headers.specs.declared.parts.HeaderParts.{HeaderParts}
 use Rattle.headers.specs.declared.parts.PartsRead.{PartsRead}
 use Rattle.headers.specs.declared.parts.PartsRead.TheVariants.{Parts, Refused}
+
+-- ---- a code by six bits
+
+module _ (d : List ℕ) (at : ℕ) (cs ls : List ℕ) (width rows few : ℕ) (err : ℕ → TextureParseError) (free : T (prefix_free width cs ls)) (within : rows ≤ length cs) (less : few ≤ rows)
+    (e : ℕ) (is : e ≡ short_row cs ls few (ahead_of d at / 67108864)) (nz : e ≡ 0 → ⊥) where
+  found : ShortOf cs ls few (window d at) e
+  found = short_row_lem cs ls few (window d at) (window-length d at) e is nz
+
+  pub short_code : in_data (length d) at ≡ true → at + e % 16 ≤ 8 * length d → Number (e / 16) (cursor_at (at + e % 16)) ≡ code_answer d at cs ls width rows err
+  short_code h l =
+      let next : ℕ = at + e % 16 in
+      let b : bits_from d at ≡ code_bits cs ls (e / 16) ++ bits_from d next =
+      window-begins d at (e % 16) (let k = found.short in omega arith) l ∙ ap (λ (x : Bits). x ++ bits_from d next) found.front in
+      let c : code cs ls width rows err (bits_from d at) ≡ ok (e / 16) (bits_from d next) =
+      ap (code cs ls width rows err) b ∙ code-complete cs ls width rows err free within (e / 16) (bits_from d next) (let k = found.below in omega arith) in
+      ap (Number (e / 16)) (place_is d (cursor_at next) l) ∙ sym (ap (got_told d) c)
+      ∙ sym (ap (λ (t : Bool). cond t (got_told d (code cs ls width rows err (bits_from d at))) (NumberRefused OutOfRange)) h)
+
+-- ---- one bit
+
+module _ (d : List ℕ) (at : ℕ) (h : in_data (length d) at ≡ true) where
+  flag_answer : field_answer d at 1 ≡ got_told d (field 1 (bits_from d at))
+  flag_answer = ap (λ (t : Bool). cond (t && true) (got_told d (field 1 (bits_from d at))) (NumberRefused OutOfRange)) h
+
+  pub no_bit : 8 * length d ≤ at → NumberRefused Truncated ≡ field_answer d at 1
+  no_bit l = sym (flag_answer ∙ ap (got_told d) (field_stops 1 (bits_from d at) (let n = length-bits_from d at in omega arith)))
+
+  pub one_bit : at < 8 * length d → Number (ahead_of d at / 2147483648 % 2) (cursor_at (at + 1)) ≡ field_answer d at 1
+  one_bit l =
+      let v : ℕ = ahead_of d at / 2147483648 % 2 in
+      let b : bits_from d at ≡ bin 1 v ++ bits_from d (at + 1) =
+      window-begins d at 1 (omega arith) (omega arith) ∙ ap (λ (x : Bits). x ++ bits_from d (at + 1)) (field-bits (window d at) 0 1 31 (window-length d at)) in
+      let f : field 1 (bits_from d at) ≡ ok v (bits_from d (at + 1)) = ap (field 1) b ∙ field-complete 1 v (bits_from d (at + 1)) (mod-lt _ (omega arith)) in
+      ap (Number v) (place_is d (cursor_at (at + 1)) (omega arith)) ∙ sym (flag_answer ∙ ap (got_told d) f)
 
 -- ---- rows 0 to 3 have no dquant, 4 to 7 have one
 

@@ -2,7 +2,7 @@
 ghost use Rattle.std.specs.Prelude.{◌≡◌, ◌<◌};
 ghost use Rattle.bits.specs.Bits.{bits_from};
 ghost use Rattle.codes.specs.Header.{cbpy_codes, cbpy_lens, mcbpc_codes, mcbpc_lens};
-ghost use Rattle.fields.specs.Answer.{code_answer};
+ghost use Rattle.fields.specs.Answer.{code_answer, field_answer};
 ghost use Rattle.fields.specs.Inside.{Readable, SaysNumber, invalid};
 ghost use Rattle.fields.specs.Reader.{field, mapped};
 ghost use Rattle.fields.specs.declared.code.CodeKind.TheVariants.{Header};
@@ -32,7 +32,7 @@ pub enum PartsRead {
 }
 
 // A code of mcbpc or stuffing: its row.
-fn read_mcbpc(data: &[u8], c: Cursor) -> Got
+fn mcbpc_plainly(data: &[u8], c: Cursor) -> Got
     ensures { result ≡ code_answer «data».now c.bit_pos mcbpc_codes mcbpc_lens 9 9 (invalid Header) }
 {
     let codes = codes::mcbpc_codes();
@@ -40,13 +40,51 @@ fn read_mcbpc(data: &[u8], c: Cursor) -> Got
     fields::read_code(data, c, &codes, &lens, 9, 9, CodeKind::Header)
 }
 
+// The same by six bits, where they tell it.
+fn read_mcbpc(data: &[u8], c: Cursor) -> Got
+    ensures { result ≡ code_answer «data».now c.bit_pos mcbpc_codes mcbpc_lens 9 9 (invalid Header) }
+{
+    if !fields::readable(data, c) {
+        return Got::Refused(TextureParseError::OutOfRange);
+    }
+    let at = c.bit_pos;
+    let e = codes::mcbpc_short(bits::ahead(data, at));
+    let next = at + (e % 16) as usize;
+    if e == 0 {
+        return mcbpc_plainly(data, c);
+    }
+    if 8 * data.len() < next {
+        return mcbpc_plainly(data, c);
+    }
+    Got::Number(e / 16, Cursor { bit_pos: next })
+}
+
 // A code of cbpy: its row.
-fn read_cbpy(data: &[u8], c: Cursor) -> Got
+fn cbpy_plainly(data: &[u8], c: Cursor) -> Got
     ensures { result ≡ code_answer «data».now c.bit_pos cbpy_codes cbpy_lens 6 16 (invalid Header) }
 {
     let codes = codes::cbpy_codes();
     let lens = codes::cbpy_lens();
     fields::read_code(data, c, &codes, &lens, 6, 16, CodeKind::Header)
+}
+
+// The same by six bits, where they tell it.
+fn read_cbpy(data: &[u8], c: Cursor) -> Got
+    ensures { result ≡ code_answer «data».now c.bit_pos cbpy_codes cbpy_lens 6 16 (invalid Header) }
+{
+    if !fields::readable(data, c) {
+        return Got::Refused(TextureParseError::OutOfRange);
+    }
+    let at = c.bit_pos;
+    let e = codes::cbpy_short(bits::ahead(data, at));
+    let next = at + (e % 16) as usize;
+    if e == 0 {
+        return cbpy_plainly(data, c);
+    }
+    if 8 * data.len() < next {
+        return cbpy_plainly(data, c);
+    }
+    Got::Number(e / 16, Cursor { bit_pos: next })
 }
 
 // The row of mcbpc after any number of stuffing codes, each of nine bits.
@@ -69,6 +107,21 @@ fn read_type(data: &[u8], c: Cursor) -> Got
             }
         }
     }
+}
+
+// ac_pred_flag: the next bit.
+fn read_flag(data: &[u8], c: Cursor) -> Got
+    ensures { result ≡ field_answer «data».now c.bit_pos 1 }
+{
+    if !fields::readable(data, c) {
+        return Got::Refused(TextureParseError::OutOfRange);
+    }
+    let at = c.bit_pos;
+    if 8 * data.len() <= at {
+        return Got::Refused(TextureParseError::Truncated);
+    }
+    let flag = bits::ahead(data, at) / 2147483648 % 2;
+    Got::Number(flag, Cursor { bit_pos: at + 1 })
 }
 
 // Table 6-32: what two bits of dquant change the quantiser by.
@@ -127,7 +180,7 @@ fn read_rest(data: &[u8], c: Cursor, mcbpc: u32) -> PartsRead
     requires { Readable «data».now c × (mcbpc < 8) }
     ensures { SaysParts «data».now result (mapped (with_rest mcbpc) (read_rest (changes_at mcbpc) (bits_from «data».now c.bit_pos))) }
 {
-    let g = fields::read_field(data, c, 1);
+    let g = read_flag(data, c);
     match g {
         Got::Refused(e) => PartsRead::Refused(e),
         Got::Number(ac_pred_flag, next) => {

@@ -15,7 +15,7 @@ pub is_nearest : (m : HalfIntegerRounding) (x : Float) → at_half x (floor_z x)
 unfolding whole_of
 is_nearest m x t = ap (λ (b : Bool). cond b (tied m (floor_z x)) (nearest_z x)) t
 
--- which is what Rust's `round` gives: half_way away from zero
+-- which is what Rust's `round` gives: half-way away from zero
 pub round_agrees : (m : HalfIntegerRounding) (x : Float) (v : ℤ) → Is x v → at_half x (floor_z x) ≡ false → NearestOf x (whole_of m x)
 round_agrees m x v i t = subst (λ (z : ℤ). NearestOf x z) (sym (is_nearest m x t)) (nearest_of x v i)
 

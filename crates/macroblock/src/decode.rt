@@ -61,7 +61,7 @@ fn check_state(
 }
 
 // Once the state is checked: all bits first, then the samples.
-fn decode_checked(
+pub(crate) fn decode_checked(
     data: &[u8],
     c: Cursor,
     header: MacroblockHeader,

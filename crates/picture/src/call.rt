@@ -21,7 +21,7 @@ pub enum PictureDecoded {
 }
 
 // Once the state is checked: all bits first, then the samples, then the record.
-fn decode_due(
+pub(crate) fn decode_due(
     p: Picture,
     data: &[u8],
     c: Cursor,

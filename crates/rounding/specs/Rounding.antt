@@ -1,4 +1,4 @@
--- How an f64 becomes a whole number: nearest, and by the chosen rule where it counts as half_way. Definitions only.
+-- How an f64 becomes a whole number: nearest, and by the chosen rule where it counts as half-way. Definitions only.
 use Rattle.std.specs.Prelude.{cond, ◌%◌, eqb, Float, ℤ, pos, nat_abs, ◌+ℤ◌}
 use Rattle.std.specs.Int.Signed.{lt_z}
 use Rattle.numbers.specs.Outcome.{Outcome, accepted, refused}
@@ -13,7 +13,7 @@ abbrev pub tied : HalfIntegerRounding → ℤ → ℤ
 tied AwayFromZero b = cond (lt_z b (pos 0)) b (b +ℤ pos 1)
 tied ToEven b = cond (eqb (nat_abs b % 2) 0) b (b +ℤ pos 1)
 
--- by the rule where x is half_way above its floor, within the tolerance; elsewhere the nearest
+-- by the rule where x is half-way above its floor, within the tolerance; elsewhere the nearest
 unfoldable pub whole_of : HalfIntegerRounding → Float → ℤ
 whole_of m x = cond (at_half x (floor_z x)) (tied m (floor_z x)) (nearest_z x)
 

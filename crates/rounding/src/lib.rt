@@ -1,4 +1,4 @@
-// How an f64 becomes a whole number: the nearest, or by a chosen rule where it counts as half_way.
+// How an f64 becomes a whole number: the nearest, or by a chosen rule where it counts as half-way.
 //
 // No public function has a `requires`: each answers every input.
 #![tactic(auto)]
@@ -9,7 +9,7 @@ ghost use Rattle.f64_error.specs.Wholes.{floor_z, mag_f};
 ghost use Rattle.rounding.specs.Near.{Roundable, roundable};
 ghost use Rattle.rounding.specs.Rounding.{rounded_outcome, tied, whole_of};
 
-// How a value half_way between two whole numbers is rounded.
+// How a value half-way between two whole numbers is rounded.
 #[derive(Clone, Copy)]
 pub enum HalfIntegerRounding {
     AwayFromZero,
@@ -31,7 +31,7 @@ pub enum Rounded {
     OutOfLimits,
 }
 
-// The distance from one half below which a value counts as half_way.
+// The distance from one half below which a value counts as half-way.
 const HALF_INTEGER_TOLERANCE: f64 = 1e-8;
 
 // 2^20.
@@ -69,7 +69,7 @@ fn tie(below: i32, rounding: HalfIntegerRounding) -> i32
     }
 }
 
-// The whole number nearest to `value`, or 13. One that is half_way, within the tolerance, goes by `rounding`.
+// The whole number nearest to `value`, or 13. One that is half-way, within the tolerance, goes by `rounding`.
 pub fn round_to_integer(value: f64, rounding: HalfIntegerRounding) -> Rounded
     ensures { rounded_outcome result ≡ checked ((roundable value, 13) ∷ []) (accepted (whole_of rounding value)) }
 {

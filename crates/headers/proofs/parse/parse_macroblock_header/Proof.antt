@@ -12,7 +12,7 @@ use Rattle.numbers.proofs.OutcomeLaws.{both}
 use Rattle.numbers.proofs.Tests.{flag_passes, flag_refuses}
 use Rattle.ranges.proofs.RangeLaws.{quantiser_range}
 use Rattle.ranges.specs.Range.{quantiser_fine}
-use Rattle.headers.proofs.AnswerLaws.{header-context, header-given, header-out, header_read, header_read_due_lem}
+use Rattle.headers.proofs.AnswerLaws.{header-context, given_told, header-out, header_read, header_read_due_lem}
 use Rattle.headers.proofs.PartLaws.{Told, told}
 use Rattle.headers.specs.Outcomes.{header_read_outcome}
 use Rattle.headers.proofs.parse.parse_macroblock_header.Statement.{statement}
@@ -87,7 +87,7 @@ returns c =
     let a = k.args in
     let d = a.«data».now in
     both header_read_outcome
-    (header-given d a.c.bit_pos a.quantiser_scale _ _ (t.parts_at-one.ensures t.if-one-eq0.false).inside (parts t.before) _ c.fields_of-fields.ensures
+    (given_told d a.c.bit_pos a.quantiser_scale _ _ (t.parts_at-one.ensures t.if-one-eq0.false).inside (parts t.before) _ c.fields_of-fields.ensures
     ∙ sym (header_read d a.c.bit_pos a.quantiser_scale (inside k) (fine e)))
     (header_read_due_lem d a.c.bit_pos a.quantiser_scale)
 

@@ -2,7 +2,7 @@
 use mathlib.Core.Path.{ap, subst, sym, ◌∙◌}
 use borrow.Author.Rules.{rules}
 use Rattle.bits.specs.Bits.{bits_from}
-use Rattle.headers.proofs.AnswerLaws.{header-given, header_refused}
+use Rattle.headers.proofs.AnswerLaws.{given_told, refused_told}
 use Rattle.headers.proofs.McbpcLaws.{mapped-no}
 use Rattle.headers.proofs.PartLaws.{Told, told}
 use Rattle.headers.specs.HeaderReader.{read_header}
@@ -37,7 +37,7 @@ returns-in-Refused c =
     let r = c.before in
     let a = r.args in
     let d = a.«data».now in
-    header_refused d a.c.bit_pos a.quantiser_scale (mapped-no parts_of (read_header (bits_from d a.c.bit_pos)) (sym r.read_parts-read.ensures.is ∙ ap (said_parts d) c.in-Refused.is))
+    refused_told d a.c.bit_pos a.quantiser_scale (mapped-no parts_of (read_header (bits_from d a.c.bit_pos)) (sym r.read_parts-read.ensures.is ∙ ap (said_parts d) c.in-Refused.is))
 
 returns-in-Parts : tie.Need-returns-in-Parts
 returns-in-Parts c =
@@ -45,7 +45,7 @@ returns-in-Parts c =
     let r = t.before in
     let a = r.args in
     let d = a.«data».now in
-    header-given d a.c.bit_pos a.quantiser_scale _ _ (subst (InsideParts d) t.in-Parts.is r.read_parts-read.ensures.inside) (parts t) _ c.fields_of-fields.ensures
+    given_told d a.c.bit_pos a.quantiser_scale _ _ (subst (InsideParts d) t.in-Parts.is r.read_parts-read.ensures.inside) (parts t) _ c.fields_of-fields.ensures
 
 pub parse_plainly_spec : {M : Type 1} → statement M
 parse_plainly_spec =

@@ -1,29 +1,91 @@
--- `headers::parts::read_cbpy` meets its contract: the lent table is Annex B's. Assumes nothing.
+-- `headers::parts::read_cbpy` meets its contract: a row that six bits tell is the row. Assumes nothing.
+use mathlib.Core.Bool.{Bool, cond, true}
+use mathlib.Core.Path.{◌≡◌, ap, sym, ◌∙◌}
+use Prim.Native.Nat.{◌*◌, ◌≤◌}
+use native.Mathlib.Omega.{arith}
+use lib.ListN.{length}
 use borrow.Author.Rules.{rules}
-use Rattle.fields.proofs.TableLaws.{cbpy_code_lem}
+use Rattle.bits.proofs.CursorLaws.{in_data_yes}
+use Rattle.bits.specs.Bits.{bits_from}
+use Rattle.bits.specs.Cursor.{in_data}
+use Rattle.codes.proofs.PrefixFree.{cbpy_prefix_free, cbpy_rows}
+use Rattle.codes.specs.Header.{cbpy_codes, cbpy_lens, cbpy_short}
+use Rattle.fields.specs.Answer.{got_told}
+use Rattle.fields.specs.Inside.{invalid}
+use Rattle.fields.specs.Reader.{code}
+use Rattle.fields.specs.declared.code.CodeKind.TheVariants.{Header}
+use Rattle.fields.specs.declared.error.TextureParseError.TheVariants.{OutOfRange}
+use Rattle.fields.specs.declared.field.Got.TheVariants.{Refused}
+use Rattle.numbers.proofs.Tests.{flag_passes, flag_refuses}
+use Rattle.headers.proofs.PartLaws.{short_code}
 use Rattle.headers.proofs.parts.read_cbpy.Statement.{statement}
 use Rattle.headers.proofs.parts.read_cbpy.Tie as tie
 
-cbpy_codes-codes-requires : tie.Need-cbpy_codes-codes-requires
-cbpy_codes-codes-requires c κs = search rules
+-- data that may be read
+inside : (k : tie.Else-not-readable) → let a = k.args in in_data (length a.«data».now) a.c.bit_pos ≡ true
+inside k = flag_passes k.readable.ensures k.if-not-readable.false
 
-cbpy_lens-lens-requires : tie.Need-cbpy_lens-lens-requires
-cbpy_lens-lens-requires c κs = search rules
+small : (k : tie.Else-not-readable) → let a = k.args in (length a.«data».now ≤ 1048576) × (a.c.bit_pos ≤ 8 * length a.«data».now)
+small k = let a = k.args in in_data_yes (length a.«data».now) a.c.bit_pos (inside k)
 
-slice_bounds-read_code-end : tie.Need-slice_bounds-read_code-end
-slice_bounds-read_code-end c = search rules
+readable-requires : tie.Need-readable-requires
+readable-requires c κs = search rules
 
-slice_bounds-read_code-end-2 : tie.Need-slice_bounds-read_code-end-2
-slice_bounds-read_code-end-2 c = search rules
+returns-then-not-readable : tie.Need-returns-then-not-readable
+returns-then-not-readable c =
+    let a = c.args in
+    sym (ap (λ (t : Bool). cond t (got_told a.«data».now (code cbpy_codes cbpy_lens 6 16 (invalid Header) (bits_from a.«data».now a.c.bit_pos))) (Refused OutOfRange)) (flag_refuses c.readable.ensures c.if-not-readable.true))
 
-read_code-requires : tie.Need-read_code-requires
-read_code-requires c κs = search rules
+ahead-requires : tie.Need-ahead-requires
+ahead-requires c κs = search rules
+
+cbpy_short-e-requires : tie.Need-cbpy_short-e-requires
+cbpy_short-e-requires c κs = search rules
+
+overflow_cast-next : tie.Need-overflow_cast-next
+overflow_cast-next c = search rules
+
+overflow_add-next : tie.Need-overflow_add-next
+overflow_add-next c = omega (arith, small c.before.before)
+
+cbpy_plainly-requires : tie.Need-cbpy_plainly-requires
+cbpy_plainly-requires c κs = search rules
+
+returns-then-e-eq0 : tie.Need-returns-then-e-eq0
+returns-then-e-eq0 c = search rules
+
+overflow_mul-data : tie.Need-overflow_mul-data
+overflow_mul-data c = omega (arith, small c.before.before.before)
+
+cbpy_plainly-requires-then-data-next : tie.Need-cbpy_plainly-requires-then-data-next
+cbpy_plainly-requires-then-data-next c κs = search rules
+
+returns-then-data-next : tie.Need-returns-then-data-next
+returns-then-data-next c = search rules
 
 returns : tie.Need-returns
+unfolding cbpy_short
 returns c =
-    let l = c.before.before.before in
-    let a = l.args in
-    cbpy_code_lem a.«data».now a.c.bit_pos _ l.cbpy_codes-codes.ensures l.cbpy_lens-lens.ensures c.read_code.ensures.0
+    let s = c.before.before in
+    let k = s.before.before in
+    let a = k.args in
+    let n = cbpy_rows.0 in
+    short_code a.«data».now a.c.bit_pos cbpy_codes cbpy_lens 6 16 16 (invalid Header) cbpy_prefix_free (omega arith) (omega arith)
+    s.cbpy_short-e.result (s.cbpy_short-e.ensures ∙ ap cbpy_short s.ahead.ensures) c.if-e-eq0.false (inside k) c.if-data-next.false
 
 pub read_cbpy_spec : {M : Type 1} → statement M
-read_cbpy_spec = tie.close (tie.spec cbpy_codes-codes-requires cbpy_lens-lens-requires slice_bounds-read_code-end slice_bounds-read_code-end-2 read_code-requires returns)
+read_cbpy_spec =
+    tie.close
+    (tie.spec
+    readable-requires
+    returns-then-not-readable
+    ahead-requires
+    cbpy_short-e-requires
+    overflow_cast-next
+    overflow_add-next
+    cbpy_plainly-requires
+    returns-then-e-eq0
+    overflow_mul-data
+    cbpy_plainly-requires-then-data-next
+    returns-then-data-next
+    returns)

@@ -1,4 +1,5 @@
 -- `headers::parts::read_rest` meets its contract: ac_pred_flag, cbpy, dquant. Assumes nothing.
+use mathlib.Core.Path.{◌≡◌}
 use native.Mathlib.Omega.{arith}
 use borrow.Author.Rules.{rules}
 use Rattle.bits.specs.Bits.{bits_from}
@@ -13,10 +14,10 @@ use Rattle.headers.proofs.parts.read_rest.Statement.{statement}
 use Rattle.headers.proofs.parts.read_rest.Tie as tie
 
 -- the flag
-flag : (r : tie.After-read_field-g) → let a = r.args in SaysNumber a.«data».now r.read_field-g.result (field 1 (bits_from a.«data».now a.c.bit_pos))
+flag : (r : tie.After-read_flag-g) → let a = r.args in SaysNumber a.«data».now r.read_flag-g.result (field 1 (bits_from a.«data».now a.c.bit_pos))
 flag r =
     let s = r.before.before in
-    field-says s.args.«data».now s.args.c s.requires.0 _ 1 (omega arith) r.read_field-g.ensures.0
+    field-says s.args.«data».now s.args.c s.requires.0 _ 1 (omega arith) r.read_flag-g.ensures
 
 readable : (k : tie.In-Number) → let r = k.before in Readable r.args.«data».now k.in-Number.next
 readable k =
@@ -32,8 +33,8 @@ cbpy h =
     let r = k.before in
     code-says r.args.«data».now k.in-Number.next (readable k) _ cbpy_codes cbpy_lens 6 16 (invalid Header) h.read_cbpy-h.ensures
 
-read_field-g-requires : tie.Need-read_field-g-requires
-read_field-g-requires c κs = search rules
+read_flag-g-requires : tie.Need-read_flag-g-requires
+read_flag-g-requires c κs = search rules
 
 enum_known-g : tie.Need-enum_known-g
 enum_known-g c = search rules
@@ -85,7 +86,7 @@ pub read_rest_spec : {M : Type 1} → statement M
 read_rest_spec =
     tie.close
     (tie.spec
-    read_field-g-requires
+    read_flag-g-requires
     enum_known-g
     enum_known-g-in-Number-1
     read_cbpy-h-requires
