@@ -18,8 +18,7 @@ use Rattle.assembly.specs.Outcomes.{checked_outcome}
 use Rattle.assembly.specs.declared.context.MacroblockTextureContext.{MacroblockTextureContext}
 use Rattle.assembly.specs.declared.error.BlockAssemblyError.{BlockAssemblyError}
 use Rattle.assembly.specs.declared.error.BlockAssemblyError.TheVariants.{Complete, Context, NotCoded, NotIntra, OutOfRange, Predictor, Texture, TooShort}
-use Rattle.assembly.specs.declared.error.Checked.{Checked}
-use Rattle.assembly.specs.declared.error.Checked.TheVariants.{Bad, Fine}
+use Rattle.std.specs.Prelude.{Err, Ok, Result, ⊤}
 
 -- ---- refusals
 
@@ -93,23 +92,23 @@ abbrev pub Arise : List (Bool × BlockAssemblyError) → Type 0
 Arise [] = Unit {0}
 Arise (t ∷ ts) = Arises t.1 × Arise ts
 
-abbrev pub fine : Unit {0} → Checked
-fine a = Fine
+abbrev pub fine : Unit {0} → Result ⊤ BlockAssemblyError
+fine a = Ok tt
 
-pub first_told : (ts : List (Bool × BlockAssemblyError)) → Arise ts → Told fine Bad (first_bad ts)
+pub first_told : (ts : List (Bool × BlockAssemblyError)) → Arise ts → Told fine Err (first_bad ts)
 first_told [] a = taken tt refl
 first_told (t ∷ ts) a = go t.0 (first_told ts a.1)
   where
-    go : (b : Bool) → Told fine Bad (first_bad ts) → Told fine Bad (cond b (first_bad ts) (Bad t.1))
+    go : (b : Bool) → Told fine Err (first_bad ts) → Told fine Err (cond b (first_bad ts) (Err t.1))
     go true rest = rest
     go false rest = failed t.1 a.0 refl
 
 -- an answer that hangs on the state
-pub after-told : {A R : Type 0} (took : A → R) (fails : BlockAssemblyError → R) (by : Checked → R) → ((e : BlockAssemblyError) → by (Bad e) ≡ fails e) → Told took fails (by Fine)
-    → (k : Checked) → Told fine Bad k → Told took fails (by k)
-after-told took fails by h f Fine t = f
-after-told took fails by h f (Bad e) (taken a q) = let z : ◌≡◌ {A = ℕ} 0 1 = cc in absurd (omega arith)
-after-told took fails by h f (Bad e) (failed x a q) = failed x a (ap by q ∙ h x)
+pub after-told : {A R : Type 0} (took : A → R) (fails : BlockAssemblyError → R) (by : Result ⊤ BlockAssemblyError → R) → ((e : BlockAssemblyError) → by (Err e) ≡ fails e) → Told took fails (by (Ok tt))
+    → (k : Result ⊤ BlockAssemblyError) → Told fine Err k → Told took fails (by k)
+after-told took fails by h f (Ok tt) t = f
+after-told took fails by h f (Err e) (taken a q) = let z : ◌≡◌ {A = ℕ} 0 1 = cc in absurd (omega arith)
+after-told took fails by h f (Err e) (failed x a q) = failed x a (ap by q ∙ h x)
 
 -- an answer that hangs on what was read
 pub read_told : {A B R : Type 0} (took : A → R) (fails : BlockAssemblyError → R) (of : Res B → R) → ((b : B) (r : Bits) → Told took fails (of (ok b r)))
@@ -119,8 +118,8 @@ read_told took fails of h g (no e) t = failed (Texture e) t (g e)
 
 -- ---- the check
 
-pub checked-apart : (r s : Checked) → Told fine Bad r → Told fine Bad s → checked_outcome r ≡ checked_outcome s → r ≡ s
-checked-apart = answers-apart fine Bad checked_outcome (λ a. refl) (λ e. refl)
+pub checked-apart : (r s : Result ⊤ BlockAssemblyError) → Told fine Err r → Told fine Err s → checked_outcome r ≡ checked_outcome s → r ≡ s
+checked-apart = answers-apart fine Err checked_outcome (λ a. refl) (λ e. refl)
 
-pub check_told : (d : List ℕ) (at : ℕ) (x : MacroblockTextureContext) (p : BlockPredictors) (w : List (List ℕ)) → Told fine Bad (check_of d at x p w)
+pub check_told : (d : List ℕ) (at : ℕ) (x : MacroblockTextureContext) (p : BlockPredictors) (w : List (List ℕ)) → Told fine Err (check_of d at x p w)
 check_told d at x p w = first_told (tests_of d at x p w) (tt, (tt, (tt, tt)))

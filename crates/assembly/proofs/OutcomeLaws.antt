@@ -16,16 +16,15 @@ use Rattle.assembly.specs.Answer.{check_of, figure_of, first_bad, number_of, tes
 use Rattle.assembly.specs.Outcomes.{check_due, checked_outcome}
 use Rattle.assembly.specs.declared.context.MacroblockTextureContext.{MacroblockTextureContext}
 use Rattle.assembly.specs.declared.error.BlockAssemblyError.{BlockAssemblyError}
-use Rattle.assembly.specs.declared.error.Checked.{Checked}
-use Rattle.assembly.specs.declared.error.Checked.TheVariants.{Bad, Fine}
+use Rattle.std.specs.Prelude.{Err, Ok, Result, ⊤}
 
 -- the first test that fails gives its number; else what follows
-pub answered : {A R : Type 0} (told : R → Outcome A) (by : Checked → R) → ((e : BlockAssemblyError) → told (by (Bad e)) ≡ refused (number_of e) (figure_of e))
-    → (ts : List (Bool × BlockAssemblyError)) → Figureless figure_of ts → told (by (first_bad ts)) ≡ checked (numbered number_of ts) (told (by Fine))
-answered told by h = by_numbers (λ (k : Checked). told (by k)) Bad Fine number_of figure_of h
+pub answered : {A R : Type 0} (told : R → Outcome A) (by : Result ⊤ BlockAssemblyError → R) → ((e : BlockAssemblyError) → told (by (Err e)) ≡ refused (number_of e) (figure_of e))
+    → (ts : List (Bool × BlockAssemblyError)) → Figureless figure_of ts → told (by (first_bad ts)) ≡ checked (numbered number_of ts) (told (by (Ok tt)))
+answered told by h = by_numbers (λ (k : Result ⊤ BlockAssemblyError). told (by k)) Err (Ok tt) number_of figure_of h
 
 pub check_due_lem : (d : List ℕ) (at : ℕ) (x : MacroblockTextureContext) (p : BlockPredictors) (w : List (List ℕ)) → checked_outcome (check_of d at x p w) ≡ check_due d at x p w
-check_due_lem d at x p w = answered checked_outcome (λ (k : Checked). k) (λ e. refl) (tests_of d at x p w) (refl, (refl, (refl, tt)))
+check_due_lem d at x p w = answered checked_outcome (λ (k : Result ⊤ BlockAssemblyError). k) (λ e. refl) (tests_of d at x p w) (refl, (refl, (refl, tt)))
 
 -- what was read, by number
 pub read_by : {R A B : Type 0} (told : R → Outcome B) (of : Res A → R) (f : A → ℕ → B) (d : List ℕ) → ((a : A) (r : Bits) → told (of (ok a r)) ≡ accepted (f a (after d r).bit_pos))

@@ -15,8 +15,8 @@ use Rattle.assembly.specs.Answer.{check_of, tests_of}
 use Rattle.assembly.specs.Values.{context_fine}
 use Rattle.assembly.specs.declared.context.MacroblockTextureContext.{MacroblockTextureContext}
 use Rattle.assembly.specs.declared.error.BlockAssemblyError.TheVariants.{Context, OutOfRange, Predictor}
-use Rattle.assembly.specs.declared.error.Checked.{Checked}
-use Rattle.assembly.specs.declared.error.Checked.TheVariants.{Bad, Fine}
+use Rattle.std.specs.Prelude.{Err, Ok, Result, ⊤}
+use Rattle.assembly.specs.declared.error.BlockAssemblyError.{BlockAssemblyError}
 
 module _ (x : MacroblockTextureContext) (w : List (List ℕ)) where
   pub context_by_lem : (a b t : Bool) → quantiser_fine x.quantiser_scale ≡ a → depth_fine x.bits_per_pixel ≡ b → x.quant_type ≡ t
@@ -25,12 +25,12 @@ module _ (x : MacroblockTextureContext) (w : List (List ℕ)) where
       ap₂ (λ (y z : Bool). y && z) e (ap₂ (λ (y z : Bool). y && cond z (every (every non_zero) w) true) f g)
 
 module _ (d : List ℕ) (at : ℕ) (x : MacroblockTextureContext) (p : BlockPredictors) (w : List (List ℕ)) where
-  abbrev answered : Bool → Bool → Bool → Checked
-  answered a b t = cond a (cond b (cond t Fine (Bad Predictor)) (Bad Context)) (Bad OutOfRange)
+  abbrev answered : Bool → Bool → Bool → Result ⊤ BlockAssemblyError
+  answered a b t = cond a (cond b (cond t (Ok tt) (Err Predictor)) (Err Context)) (Err OutOfRange)
 
   pub check_by : (a b t : Bool) → in_data (length d) at ≡ a → context_fine x w ≡ b → predictors_fine p ≡ t → check_of d at x p w ≡ answered a b t
   check_by a b t e f g = ap (λ (y : Bool). answered y (context_fine x w) (predictors_fine p)) e ∙ ap₂ (λ (y z : Bool). answered a y z) f g
 
   -- a state that passes
-  pub all_fine : check_of d at x p w ≡ Fine → (in_data (length d) at ≡ true) × (context_fine x w ≡ true) × (predictors_fine p ≡ true)
+  pub all_fine : check_of d at x p w ≡ Ok tt → (in_data (length d) at ≡ true) × (context_fine x w ≡ true) × (predictors_fine p ≡ true)
   all_fine q = let t = all_pass (tests_of d at x p w) q in (t.0, t.1.0, t.1.1.0)

@@ -3,9 +3,10 @@ ghost use Rattle.std.specs.Prelude.{◌≡◌};
 ghost use Rattle.assembly.specs.Answer.{check_of, figure_of, number_of};
 ghost use Rattle.assembly.specs.Outcomes.{check_due, checked_outcome};
 ghost use Rattle.assembly.specs.Values.{context_fine};
+ghost use Rattle.assembly.specs.declared.error.BlockAssemblyError.TheVariants.{Texture};
 
 use crate::context::MacroblockTextureContext;
-use bits::{BitCount, Cursor};
+use bits::Cursor;
 use fields::TextureParseError;
 use prediction::BlockPredictors;
 
@@ -63,11 +64,13 @@ impl BlockAssemblyError {
     }
 }
 
-// Whether the state is fine.
-#[derive(Clone, Copy)]
-pub enum Checked {
-    Fine,
-    Bad(BlockAssemblyError),
+// A refusal of what the bits hold.
+impl From<TextureParseError> for BlockAssemblyError {
+    ghost from_gives = { λ e r. r ≡ Texture e };
+
+    fn from(e: TextureParseError) -> BlockAssemblyError {
+        BlockAssemblyError::Texture(e)
+    }
 }
 
 // What 12 asks of the context.
@@ -93,21 +96,18 @@ pub fn check(
     ctx: MacroblockTextureContext,
     predictors: BlockPredictors,
     w: [[u8; 8]; 8],
-) -> Checked
+) -> Result<(), BlockAssemblyError>
     ensures value { result ≡ check_of «data».now c.bit_pos ctx predictors w }
     ensures outcome { checked_outcome result ≡ check_due «data».now c.bit_pos ctx predictors w }
 {
-    let left = c.remaining_bits(data);
-    match left {
-        BitCount::Refused(_) => Checked::Bad(BlockAssemblyError::OutOfRange),
-        BitCount::Bits(_) => {
-            if !context_fine(ctx, w) {
-                return Checked::Bad(BlockAssemblyError::Context);
-            }
-            if !coefficients::predictors_fine(predictors) {
-                return Checked::Bad(BlockAssemblyError::Predictor);
-            }
-            Checked::Fine
-        }
+    let Ok(_) = c.remaining_bits(data) else {
+        return Err(BlockAssemblyError::OutOfRange);
+    };
+    if !context_fine(ctx, w) {
+        return Err(BlockAssemblyError::Context);
     }
+    if !coefficients::predictors_fine(predictors) {
+        return Err(BlockAssemblyError::Predictor);
+    }
+    Ok(())
 }

@@ -9,6 +9,6 @@ mod matrix;
 mod pattern;
 
 pub use context::MacroblockTextureContext;
-pub use error::{BlockAssemblyError, Checked, check, context_fine};
+pub use error::{BlockAssemblyError, check, context_fine};
 pub use matrix::default_intra_quant_matrix;
 pub use pattern::pattern_code;

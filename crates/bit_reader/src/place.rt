@@ -3,24 +3,24 @@ ghost use Rattle.std.specs.Prelude.{◌≡◌};
 ghost use Rattle.bits.specs.Cursor.{remaining, skipped, read_bits, next_bits};
 ghost use Rattle.bit_reader.specs.BitReader.{position_after, moved_to};
 
-use bits::{BitCount, BitsPeeked, BitsRead, Cursor, Moved};
+use bits::{BitReaderError, Cursor};
 
 // What was read, and the position after it.
 #[derive(Clone, Copy)]
 pub struct ReadAt {
-    pub answer: BitsPeeked,
+    pub answer: Result<u32, BitReaderError>,
     pub bit_pos: usize,
 }
 
 // Whether bits were skipped, and the position after them.
 #[derive(Clone, Copy)]
 pub struct SkippedAt {
-    pub answer: Moved,
+    pub answer: Result<Cursor, BitReaderError>,
     pub bit_pos: usize,
 }
 
 // How many bits are left.
-pub(crate) fn remaining_at(data: &[u8], at: usize) -> BitCount
+pub(crate) fn remaining_at(data: &[u8], at: usize) -> Result<usize, BitReaderError>
     ensures { result ≡ remaining «data».now at }
 {
     let c = Cursor { bit_pos: at };
@@ -28,7 +28,7 @@ pub(crate) fn remaining_at(data: &[u8], at: usize) -> BitCount
 }
 
 // The next n bits as a number.
-pub(crate) fn next_at(data: &[u8], at: usize, n: usize) -> BitsPeeked
+pub(crate) fn next_at(data: &[u8], at: usize, n: usize) -> Result<u32, BitReaderError>
     ensures { result ≡ next_bits «data».now at n }
 {
     let c = Cursor { bit_pos: at };
@@ -41,24 +41,24 @@ pub(crate) fn read_at(data: &[u8], at: usize, n: usize) -> ReadAt
 {
     let c = Cursor { bit_pos: at };
     match c.read_bits(data, n) {
-        BitsRead::Refused(e) => ReadAt {
-            answer: BitsPeeked::Refused(e),
+        Err(e) => ReadAt {
+            answer: Err(e),
             bit_pos: at,
         },
-        BitsRead::Read(v, next) => ReadAt {
-            answer: BitsPeeked::Bits(v),
+        Ok((v, next)) => ReadAt {
+            answer: Ok(v),
             bit_pos: next.bit_pos,
         },
     }
 }
 
 // Where a skip that began at a position ends.
-fn moved_to(m: Moved, at: usize) -> usize
+fn moved_to(m: Result<Cursor, BitReaderError>, at: usize) -> usize
     ensures { result ≡ moved_to m at }
 {
     match m {
-        Moved::Refused(_) => at,
-        Moved::To(next) => next.bit_pos,
+        Err(_) => at,
+        Ok(next) => next.bit_pos,
     }
 }
 

@@ -12,11 +12,10 @@ use mir.Facts.{and_yes}
 use borrow.Author.Tests.{le-leb}
 use Rattle.bits.specs.Bits.{Bits, bits_from}
 use Rattle.bits.specs.Cursor.{in_data, remaining}
-use Rattle.bits.specs.declared.cursor.BitCount.{BitCount}
-use Rattle.bits.specs.declared.cursor.BitCount.TheVariants.{Bits as CountIs, Refused as CountRefused}
 use Rattle.bits.specs.declared.error.BitReaderError.{BitReaderError}
 use Rattle.bits.specs.declared.error.BitReaderError.TheVariants.{OutOfRange}
 use Rattle.numbers.proofs.Fill.{lt-or-le}
+use Rattle.std.specs.Prelude.{Err, Ok, Result}
 
 -- data that may be read
 pub in_data_yes : (len at : ℕ) → in_data len at ≡ true → (len ≤ 1048576) × (at ≤ 8 * len)
@@ -27,17 +26,17 @@ in_data_by len at h l = simp (le-leb len 1048576 h, le-leb at (8 * len) l)
 
 -- bits are counted exactly inside the data
 module _ (d : List ℕ) (at : ℕ) where
-  pub counted : (n : ℕ) (r : BitCount) → r ≡ remaining d at → r ≡ CountIs n → in_data (length d) at ≡ true
+  pub counted : (n : ℕ) (r : Result ℕ BitReaderError) → r ≡ remaining d at → r ≡ Ok n → in_data (length d) at ≡ true
   counted n r e f = go (in_data (length d) at) (sym f ∙ e)
     where
-      go : (t : Bool) → CountIs n ≡ cond t (CountIs (length (bits_from d at))) (CountRefused OutOfRange) → t ≡ true
+      go : (t : Bool) → Ok n ≡ cond t (Ok (length (bits_from d at))) (Err OutOfRange) → t ≡ true
       go true q = refl
       go false q = absurd (let z : ◌≡◌ {A = ℕ} 0 1 = cc in omega arith)
 
-  pub not-counted : (n : BitReaderError) (r : BitCount) → r ≡ remaining d at → r ≡ CountRefused n → in_data (length d) at ≡ false
+  pub not-counted : (n : BitReaderError) (r : Result ℕ BitReaderError) → r ≡ remaining d at → r ≡ Err n → in_data (length d) at ≡ false
   not-counted n r e f = go (in_data (length d) at) (sym f ∙ e)
     where
-      go : (t : Bool) → CountRefused n ≡ cond t (CountIs (length (bits_from d at))) (CountRefused OutOfRange) → t ≡ false
+      go : (t : Bool) → Err n ≡ cond t (Ok (length (bits_from d at))) (Err OutOfRange) → t ≡ false
       go true q = absurd (let z : ◌≡◌ {A = ℕ} 0 1 = cc in omega arith)
       go false q = refl
 

@@ -1,47 +1,37 @@
 -- What each of the cursor's answers says in document 01's numbers, and what is due. Definitions only.
-use Rattle.std.specs.Prelude.{Bool, not, List, [], ◌∷◌, ℕ, ◌*◌, ◌+◌, ◌/◌, eqb, leb, length, take}
+use Rattle.std.specs.Prelude.{Bool, not, List, [], ◌∷◌, ℕ, ◌*◌, ◌+◌, ◌/◌, eqb, leb, length, take, Err, Ok, Result}
 use Rattle.numbers.specs.Outcome.{Outcome, accepted, checked, refused}
 use Rattle.bits.specs.Bits.{bits_from, val}
 use Rattle.bits.specs.Cursor.{in_data, number_of}
-use Rattle.bits.specs.declared.cursor.BitCount.{BitCount}
-use Rattle.bits.specs.declared.cursor.BitCount.TheVariants.{Bits as CountIs, Refused as CountRefused}
-use Rattle.bits.specs.declared.cursor.BitsPeeked.{BitsPeeked}
-use Rattle.bits.specs.declared.cursor.BitsPeeked.TheVariants.{Bits as PeekedAre, Refused as PeekedRefused}
-use Rattle.bits.specs.declared.cursor.BitsRead.{BitsRead}
-use Rattle.bits.specs.declared.cursor.BitsRead.TheVariants.{Read as BitsAre, Refused as BitsRefused}
-use Rattle.bits.specs.declared.cursor.BoolRead.{BoolRead}
-use Rattle.bits.specs.declared.cursor.BoolRead.TheVariants.{Read as BoolIs, Refused as BoolRefused}
-use Rattle.bits.specs.declared.cursor.Moved.{Moved}
-use Rattle.bits.specs.declared.cursor.Moved.TheVariants.{To, Refused as MovedRefused}
-use Rattle.bits.specs.declared.cursor.WindowPeeked.{WindowPeeked}
-use Rattle.bits.specs.declared.cursor.WindowPeeked.TheVariants.{Window, Refused as WindowRefused}
+use Rattle.bits.specs.declared.error.BitReaderError.{BitReaderError}
+use Rattle.bits.specs.declared.cursor.Cursor.{Cursor}
 
 -- ---- the answers: values, with the position after them where the cursor moves
 
-abbrev pub bits_outcome : BitsRead → Outcome (ℕ × ℕ)
-bits_outcome (BitsAre v c) = accepted (v, c.bit_pos)
-bits_outcome (BitsRefused e) = refused (number_of e) 0
+abbrev pub bits_outcome : Result (ℕ × Cursor) BitReaderError → Outcome (ℕ × ℕ)
+bits_outcome (Ok (v, c)) = accepted (v, c.bit_pos)
+bits_outcome (Err e) = refused (number_of e) 0
 
-abbrev pub bool_outcome : BoolRead → Outcome (Bool × ℕ)
-bool_outcome (BoolIs b c) = accepted (b, c.bit_pos)
-bool_outcome (BoolRefused e) = refused (number_of e) 0
+abbrev pub bool_outcome : Result (Bool × Cursor) BitReaderError → Outcome (Bool × ℕ)
+bool_outcome (Ok (b, c)) = accepted (b, c.bit_pos)
+bool_outcome (Err e) = refused (number_of e) 0
 
-abbrev pub peeked_outcome : BitsPeeked → Outcome ℕ
-peeked_outcome (PeekedAre v) = accepted v
-peeked_outcome (PeekedRefused e) = refused (number_of e) 0
+abbrev pub peeked_outcome : Result ℕ BitReaderError → Outcome ℕ
+peeked_outcome (Ok v) = accepted v
+peeked_outcome (Err e) = refused (number_of e) 0
 
 -- the number of a window's bits, and how many they are
-abbrev pub window_outcome : WindowPeeked → Outcome (ℕ × ℕ)
-window_outcome (Window v n) = accepted (v, n)
-window_outcome (WindowRefused e) = refused (number_of e) 0
+abbrev pub window_outcome : Result (ℕ × ℕ) BitReaderError → Outcome (ℕ × ℕ)
+window_outcome (Ok (v, n)) = accepted (v, n)
+window_outcome (Err e) = refused (number_of e) 0
 
-abbrev pub moved_outcome : Moved → Outcome ℕ
-moved_outcome (To c) = accepted c.bit_pos
-moved_outcome (MovedRefused e) = refused (number_of e) 0
+abbrev pub moved_outcome : Result Cursor BitReaderError → Outcome ℕ
+moved_outcome (Ok c) = accepted c.bit_pos
+moved_outcome (Err e) = refused (number_of e) 0
 
-abbrev pub count_outcome : BitCount → Outcome ℕ
-count_outcome (CountIs n) = accepted n
-count_outcome (CountRefused e) = refused (number_of e) 0
+abbrev pub count_outcome : Result ℕ BitReaderError → Outcome ℕ
+count_outcome (Ok n) = accepted n
+count_outcome (Err e) = refused (number_of e) 0
 
 -- ---- what is due, of data d at a position
 

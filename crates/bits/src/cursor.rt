@@ -13,58 +13,14 @@ pub struct Cursor {
     pub bit_pos: usize,
 }
 
-// The number of n bits, first bit highest, and the cursor after them.
-#[derive(Clone, Copy)]
-pub enum BitsRead {
-    Read(u32, Cursor),
-    Refused(BitReaderError),
-}
-
-// One bit, and the cursor after it.
-#[derive(Clone, Copy)]
-pub enum BoolRead {
-    Read(bool, Cursor),
-    Refused(BitReaderError),
-}
-
-// The number of n bits that were not passed.
-#[derive(Clone, Copy)]
-pub enum BitsPeeked {
-    Bits(u32),
-    Refused(BitReaderError),
-}
-
-// The number of the next bits, at most as many as asked for, and how many they are.
-#[derive(Clone, Copy)]
-pub enum WindowPeeked {
-    Window(u32, u32),
-    Refused(BitReaderError),
-}
-
-// The moved cursor.
-#[derive(Clone, Copy)]
-pub enum Moved {
-    To(Cursor),
-    Refused(BitReaderError),
-}
-
-// A number of bits.
-#[derive(Clone, Copy)]
-pub enum BitCount {
-    Bits(usize),
-    Refused(BitReaderError),
-}
-
 // The number that `count` bytes from `first` on write.
 pub(crate) fn gather(data: &[u8], first: usize, count: usize) -> u64
     requires { (count ≤ 8) × (first + count ≤ length «data».now) }
     ensures { result ≡ val (take (8 * count) (bits_from «data».now (8 * first))) }
 {
-    let mut v: u64 = 0;
-    let mut k: usize = 0;
-    while k < count {
-        v = v * 256 + data[first + k] as u64;
-        k += 1;
+    let mut v = 0;
+    for &b in &data[first..first + count] {
+        v = v * 256 + u64::from(b);
     }
     v
 }
@@ -98,10 +54,7 @@ fn peek(data: &[u8], at: usize, n: usize) -> u32
 fn in_data(len: usize, at: usize) -> bool
     ensures { result ≡ in_data len at }
 {
-    if Cursor::MOST_BYTES < len {
-        return false;
-    }
-    at <= 8 * len
+    len <= Cursor::MOST_BYTES && at <= 8 * len
 }
 
 impl Cursor {
@@ -131,103 +84,99 @@ impl Cursor {
     }
 
     // How many bits are left.
-    pub fn remaining_bits(self, data: &[u8]) -> BitCount
+    pub fn remaining_bits(self, data: &[u8]) -> Result<usize, BitReaderError>
         ensures value { result ≡ remaining «data».now self.bit_pos }
         ensures outcome { count_outcome result ≡ remaining_due «data».now self.bit_pos }
     {
         let at = self.bit_pos;
         if !in_data(data.len(), at) {
-            return BitCount::Refused(BitReaderError::OutOfRange);
+            return Err(BitReaderError::OutOfRange);
         }
-        BitCount::Bits(8 * data.len() - at)
+        Ok(8 * data.len() - at)
     }
 
     // Past n bits.
-    pub fn skip_bits(self, data: &[u8], n: usize) -> Moved
+    pub fn skip_bits(self, data: &[u8], n: usize) -> Result<Cursor, BitReaderError>
         ensures value { result ≡ skipped «data».now self.bit_pos n }
         ensures outcome { moved_outcome result ≡ skip_due «data».now self.bit_pos n }
     {
         let at = self.bit_pos;
         if !in_data(data.len(), at) {
-            return Moved::Refused(BitReaderError::OutOfRange);
+            return Err(BitReaderError::OutOfRange);
         }
         if 8 * data.len() - at < n {
-            return Moved::Refused(BitReaderError::EndOfStream);
+            return Err(BitReaderError::EndOfStream);
         }
-        Moved::To(Cursor { bit_pos: at + n })
+        Ok(Cursor { bit_pos: at + n })
     }
 
     // To the next first bit of a byte, or where it is if it stands at one.
-    pub fn align_to_byte(self, data: &[u8]) -> Moved
+    pub fn align_to_byte(self, data: &[u8]) -> Result<Cursor, BitReaderError>
         ensures value { result ≡ aligned «data».now self.bit_pos }
         ensures outcome { moved_outcome result ≡ align_due «data».now self.bit_pos }
     {
         let at = self.bit_pos;
         if !in_data(data.len(), at) {
-            return Moved::Refused(BitReaderError::OutOfRange);
+            return Err(BitReaderError::OutOfRange);
         }
-        Moved::To(Cursor {
+        Ok(Cursor {
             bit_pos: (at + 7) / 8 * 8,
         })
     }
 
     // The next n bits as a number, first bit highest, and the cursor after them.
-    pub fn read_bits(self, data: &[u8], n: usize) -> BitsRead
+    pub fn read_bits(self, data: &[u8], n: usize) -> Result<(u32, Cursor), BitReaderError>
         ensures value { result ≡ read_bits «data».now self.bit_pos n }
         ensures outcome { bits_outcome result ≡ read_due «data».now self.bit_pos n }
     {
         let at = self.bit_pos;
         if !in_data(data.len(), at) {
-            return BitsRead::Refused(BitReaderError::OutOfRange);
+            return Err(BitReaderError::OutOfRange);
         }
         if Cursor::MOST_BITS < n {
-            return BitsRead::Refused(BitReaderError::OutOfRange);
+            return Err(BitReaderError::OutOfRange);
         }
         if 8 * data.len() - at < n {
-            return BitsRead::Refused(BitReaderError::EndOfStream);
+            return Err(BitReaderError::EndOfStream);
         }
-        BitsRead::Read(peek(data, at, n), Cursor { bit_pos: at + n })
+        Ok((peek(data, at, n), Cursor { bit_pos: at + n }))
     }
 
     // The next bit, and the cursor after it.
-    pub fn read_bool(self, data: &[u8]) -> BoolRead
+    pub fn read_bool(self, data: &[u8]) -> Result<(bool, Cursor), BitReaderError>
         ensures value { result ≡ read_bool «data».now self.bit_pos }
         ensures outcome { bool_outcome result ≡ bool_due «data».now self.bit_pos }
     {
-        match self.read_bits(data, 1) {
-            BitsRead::Refused(e) => BoolRead::Refused(e),
-            BitsRead::Read(v, next) => BoolRead::Read(v == 1, next),
-        }
+        let (v, next) = self.read_bits(data, 1)?;
+        Ok((v == 1, next))
     }
 
     // The next n bits as a number, first bit highest; the cursor stays.
-    pub fn next_bits(self, data: &[u8], n: usize) -> BitsPeeked
+    pub fn next_bits(self, data: &[u8], n: usize) -> Result<u32, BitReaderError>
         ensures value { result ≡ next_bits «data».now self.bit_pos n }
         ensures outcome { peeked_outcome result ≡ peek_due «data».now self.bit_pos n }
     {
-        match self.read_bits(data, n) {
-            BitsRead::Refused(e) => BitsPeeked::Refused(e),
-            BitsRead::Read(v, _) => BitsPeeked::Bits(v),
-        }
+        let (v, _) = self.read_bits(data, n)?;
+        Ok(v)
     }
 
     // The next `most` bits, or fewer if fewer remain, as a number, and how many they are.
-    pub fn next_window(self, data: &[u8], most: usize) -> WindowPeeked
+    pub fn next_window(self, data: &[u8], most: usize) -> Result<(u32, u32), BitReaderError>
         ensures value { result ≡ next_window «data».now self.bit_pos most }
         ensures outcome { window_outcome result ≡ window_due «data».now self.bit_pos most }
     {
         let at = self.bit_pos;
         if !in_data(data.len(), at) {
-            return WindowPeeked::Refused(BitReaderError::OutOfRange);
+            return Err(BitReaderError::OutOfRange);
         }
         if Cursor::MOST_BITS < most {
-            return WindowPeeked::Refused(BitReaderError::OutOfRange);
+            return Err(BitReaderError::OutOfRange);
         }
         let left = 8 * data.len() - at;
         if left == 0 {
-            return WindowPeeked::Refused(BitReaderError::EndOfStream);
+            return Err(BitReaderError::EndOfStream);
         }
-        let n = numbers::least(most, left);
-        WindowPeeked::Window(peek(data, at, n), n as u32)
+        let n = most.min(left);
+        Ok((peek(data, at, n), n as u32))
     }
 }

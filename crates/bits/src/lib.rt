@@ -8,6 +8,6 @@ mod cursor;
 mod error;
 mod window;
 
-pub use cursor::{BitCount, BitsPeeked, BitsRead, BoolRead, Cursor, Moved, WindowPeeked};
+pub use cursor::Cursor;
 pub use error::BitReaderError;
 pub use window::ahead;

@@ -6,10 +6,7 @@ ghost use Rattle.bits.specs.Ahead.{ahead_of};
 fn byte_at(data: &[u8], at: usize) -> u64
     ensures { (result ≡ get_or «data».now at 0) × (result < 256) }
 {
-    if at < data.len() {
-        return data[at] as u64;
-    }
-    0
+    u64::from(data.get(at).copied().unwrap_or(0))
 }
 
 // The 32 bits from a position on as a number, first bit highest; zeros past the end of the data. Eight bytes are read

@@ -7,8 +7,6 @@ use lib.IntN.{ℤ}
 use Rattle.bits.specs.Bits.{bits_from}
 use Rattle.bits.specs.Cursor.{cursor_at}
 use Rattle.codes.specs.Component.{component_at, component_of}
-use Rattle.codes.specs.declared.dc_size.BlockComponent.{BlockComponent}
-use Rattle.codes.specs.declared.dc_size.BlockComponent.TheVariants.{Component, OutOfRange as NoComponent}
 use Rattle.prediction.specs.declared.predictor.BlockPredictors.{BlockPredictors}
 use Rattle.events.specs.declared.spelling.Spellings.{Spellings}
 use Rattle.sentences.proofs.ByBits.{block_by_bits}
@@ -20,33 +18,32 @@ use Rattle.block.specs.Outcomes.{block_outcome}
 use Rattle.block.specs.Rebuilt.{dc_here, rebuild_tests, rebuilt_answer, rebuilt_by, rebuilt_outcome}
 use Rattle.assembly.specs.declared.context.MacroblockTextureContext.{MacroblockTextureContext}
 use Rattle.assembly.specs.declared.error.BlockAssemblyError.TheVariants.{OutOfRange}
-use Rattle.assembly.specs.declared.error.Checked.{Checked}
+use Rattle.std.specs.Prelude.{Err, None, Ok, Option, Result, Some, ⊤}
+use Rattle.codes.specs.declared.dc_size.DcComponent.{DcComponent}
+use Rattle.assembly.specs.declared.error.BlockAssemblyError.{BlockAssemblyError}
 use Rattle.block.specs.declared.intra.BlockDecoded.{BlockDecoded}
-use Rattle.block.specs.declared.intra.BlockDecoded.TheVariants.{Decoded, Refused}
-use Rattle.block.specs.declared.reconstruct.BlockRebuilt.{BlockRebuilt}
-use Rattle.block.specs.declared.reconstruct.BlockRebuilt.TheVariants.{Rebuilt, Refused as NotRebuilt}
 
-abbrev pub decoded : ℤ × (ℕ × Spellings) → BlockDecoded
-decoded a = Decoded a.0 (cursor_at a.1.0) a.1.1
+abbrev pub decoded : ℤ × (ℕ × Spellings) → Result BlockDecoded BlockAssemblyError
+decoded a = Ok (record { dc = a.0; next = cursor_at a.1.0; spellings = a.1.1 })
 
-pub block_apart : (r s : BlockDecoded) → Told decoded Refused r → Told decoded Refused s → block_outcome r ≡ block_outcome s → r ≡ s
-block_apart = answers-apart decoded Refused block_outcome (λ a. refl) (λ e. refl)
+pub block_apart : (r s : Result BlockDecoded BlockAssemblyError) → Told decoded Err r → Told decoded Err s → block_outcome r ≡ block_outcome s → r ≡ s
+block_apart = answers-apart decoded Err block_outcome (λ a. refl) (λ e. refl)
 
 pub block-told : (d : List ℕ) (at : ℕ) (coded dc_coded rev : Bool) (x : MacroblockTextureContext) (p : BlockPredictors) (w : List (List ℕ)) (i : ℕ)
-    → Told decoded Refused (block_answer d at coded dc_coded rev x p w i)
+    → Told decoded Err (block_answer d at coded dc_coded rev x p w i)
 block-told d at coded dc_coded rev x p w i = go (component_of i)
   where
-    go : (m : BlockComponent) → Told decoded Refused (answer_of d at coded dc_coded rev x p w m (check_of d at x p w))
-    go NoComponent = failed OutOfRange tt refl
-    go (Component c) =
-        after-told decoded Refused (answer_of d at coded dc_coded rev x p w (Component c)) (λ e. refl)
-        (read_told decoded Refused (told d c dc_coded x p w) (λ s r. taken (_, (_, _)) refl) (λ e. refl) (read_block dc_coded rev (c, coded) (bits_from d at)) (block_by_bits dc_coded rev (c, coded) (bits_from d at)))
+    go : (m : Option DcComponent) → Told decoded Err (answer_of d at coded dc_coded rev x p w m (check_of d at x p w))
+    go None = failed OutOfRange tt refl
+    go (Some c) =
+        after-told decoded Err (answer_of d at coded dc_coded rev x p w (Some c)) (λ e. refl)
+        (read_told decoded Err (told d c dc_coded x p w) (λ s r. taken (_, (_, _)) refl) (λ e. refl) (read_block dc_coded rev (c, coded) (bits_from d at)) (block_by_bits dc_coded rev (c, coded) (bits_from d at)))
         (check_of d at x p w) (check_told d at x p w)
 
-pub rebuilt_apart : (r s : BlockRebuilt) → Told Rebuilt NotRebuilt r → Told Rebuilt NotRebuilt s → rebuilt_outcome r ≡ rebuilt_outcome s → r ≡ s
-rebuilt_apart = answers-apart Rebuilt NotRebuilt rebuilt_outcome (λ a. refl) (λ e. refl)
+pub rebuilt_apart : (r s : Result ℤ BlockAssemblyError) → Told Ok Err r → Told Ok Err s → rebuilt_outcome r ≡ rebuilt_outcome s → r ≡ s
+rebuilt_apart = answers-apart Ok Err rebuilt_outcome (λ a. refl) (λ e. refl)
 
-pub rebuilt_told : (i : ℕ) (x : MacroblockTextureContext) (p : BlockPredictors) (w : List (List ℕ)) (qfs : List ℤ) → Told Rebuilt NotRebuilt (rebuilt_answer i x p w qfs)
+pub rebuilt_told : (i : ℕ) (x : MacroblockTextureContext) (p : BlockPredictors) (w : List (List ℕ)) (qfs : List ℤ) → Told Ok Err (rebuilt_answer i x p w qfs)
 rebuilt_told i x p w qfs =
     let dc = dc_here (component_at i) x p w qfs in
-    after-told Rebuilt NotRebuilt (λ (k : Checked). rebuilt_by k dc) (λ e. refl) (taken dc refl) (first_bad (rebuild_tests i x p w qfs)) (first_told (rebuild_tests i x p w qfs) (tt, (tt, (tt, tt))))
+    after-told Ok Err (λ (k : Result ⊤ BlockAssemblyError). rebuilt_by k dc) (λ e. refl) (taken dc refl) (first_bad (rebuild_tests i x p w qfs)) (first_told (rebuild_tests i x p w qfs) (tt, (tt, (tt, tt))))

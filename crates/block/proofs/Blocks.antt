@@ -24,17 +24,17 @@ use Rattle.assembly.proofs.ContextLaws.{depth-fine}
 use Rattle.block.specs.Decoded.{levels_in, told, values_in}
 use Rattle.assembly.specs.Values.{context_fine}
 use Rattle.assembly.specs.declared.context.MacroblockTextureContext.{MacroblockTextureContext}
-use Rattle.block.specs.declared.intra.BlockDecoded.TheVariants.{Decoded}
+use Rattle.std.specs.Prelude.{Ok}
 
 module _ (d : List ℕ) (at : ℕ) (c : DcComponent) (coded dc_coded rev : Bool) (x : MacroblockTextureContext) (p : BlockPredictors) (w : List (List ℕ)) where
   abbrev read : Res Parts
   read = read_block dc_coded rev (c, coded) (bits_from d at)
 
-  decoded-read : (y : Res Parts) (z : ℤ) (n : Cursor) (k : Spellings) → told d c dc_coded x p w y ≡ Decoded z n k → (s : Parts) × ((r : Bits) × (y ≡ ok s r))
+  decoded-read : (y : Res Parts) (z : ℤ) (n : Cursor) (k : Spellings) → told d c dc_coded x p w y ≡ Ok (record { dc = z; next = n; spellings = k }) → (s : Parts) × ((r : Bits) × (y ≡ ok s r))
   decoded-read (ok s r) z n k q = (s, (r, refl))
   decoded-read (no e) z n k q = absurd (let z : ◌≡◌ {A = ℕ} 0 1 = cc in omega arith)
 
-  pub accepted : ((z : ℤ) × ((n : Cursor) × ((k : Spellings) × (told d c dc_coded x p w read ≡ Decoded z n k))))
+  pub accepted : ((z : ℤ) × ((n : Cursor) × ((k : Spellings) × (told d c dc_coded x p w read ≡ Ok (record { dc = z; next = n; spellings = k })))))
       ↔ ((s : Parts) × (GoodBlock dc_coded rev (c, coded) s × ((r : Bits) × (bits_from d at ≡ block_bits (c, coded) s ▸ r))))
   accepted = (
     λ q. ((block_sentences dc_coded rev (c, coded)).accepted (bits_from d at)).0 (decoded-read read q.0 q.1.0 q.1.1.0 q.1.1.1),

@@ -24,13 +24,11 @@ use Rattle.assembly.specs.Answer.{first_bad}
 use Rattle.assembly.specs.Values.{context_fine, levels_of, samples_of, values_of}
 use Rattle.assembly.specs.declared.context.MacroblockTextureContext.{MacroblockTextureContext}
 use Rattle.assembly.specs.declared.error.BlockAssemblyError.TheVariants.{Context, OutOfRange, Predictor}
-use Rattle.assembly.specs.declared.error.Checked.{Checked}
-use Rattle.assembly.specs.declared.error.Checked.TheVariants.{Bad, Fine}
 use Rattle.block.proofs.RebuildLaws.{Given, Meets, by_number}
 use Rattle.block.specs.Rebuilt.{dc_here, kept_by, levels_here, rebuild_tests, rebuilt_by, values_here}
 use Rattle.block.specs.Short.{handed_of}
-use Rattle.block.specs.declared.reconstruct.BlockRebuilt.{BlockRebuilt}
-use Rattle.block.specs.declared.reconstruct.BlockRebuilt.TheVariants.{Rebuilt}
+use Rattle.std.specs.Prelude.{Err, Ok, Result, ⊤}
+use Rattle.assembly.specs.declared.error.BlockAssemblyError.{BlockAssemblyError}
 
 pub all_places : (qfs : List ℤ) → length qfs ≡ 64 → up_to 64 qfs ≡ qfs
 all_places qfs long = up_to_all 64 qfs long (λ k a b. absurd (omega arith))
@@ -48,23 +46,23 @@ module _ (x : MacroblockTextureContext) (p : BlockPredictors) (good : predictors
         ∙ needed_levels c x.quantiser_scale x.ac_pred_flag x.alternate_vertical_scan p qfs good
 
     -- and its places too
-    pub given-same : (r : BlockRebuilt) (samples oldSamples levels oldLevels : List (List ℤ)) → Given c x (numbered n) w (up_to 64 qfs) Fine r samples oldSamples levels oldLevels
-        → Given c x p w qfs Fine r samples oldSamples levels oldLevels
+    pub given-same : (r : Result ℤ BlockAssemblyError) (samples oldSamples levels oldLevels : List (List ℤ)) → Given c x (numbered n) w (up_to 64 qfs) (Ok tt) r samples oldSamples levels oldLevels
+        → Given c x p w qfs (Ok tt) r samples oldSamples levels oldLevels
     given-same r samples a levels b g = (
-      g.0 ∙ ap (λ (f : List (List ℤ)). Rebuilt (cell (values_of c x w f) 0 0)) levels-same,
+      g.0 ∙ ap (λ (f : List (List ℤ)). Ok (cell (values_of c x w f) 0 0)) levels-same,
       (g.1.0 ∙ ap (λ (f : List (List ℤ)). samples_of x (values_of c x w f)) levels-same, g.1.1 ∙ levels-same),
     )
 
 -- ---- predictors of any kind
 
 -- what a state gives hangs on what it keeps where it is fine
-rebuilt_same : (k : Checked) {y z : ℤ} → (k ≡ Fine → y ≡ z) → rebuilt_by k y ≡ rebuilt_by k z
-rebuilt_same Fine h = ap Rebuilt (h refl)
-rebuilt_same (Bad e) h = refl
+rebuilt_same : (k : Result ⊤ BlockAssemblyError) {y z : ℤ} → (k ≡ Ok tt → y ≡ z) → rebuilt_by k y ≡ rebuilt_by k z
+rebuilt_same (Ok tt) h = ap Ok (h refl)
+rebuilt_same (Err e) h = refl
 
-kept_same : {A : Type 0} (k : Checked) (old : A) {new other : A} → (k ≡ Fine → new ≡ other) → kept_by k new old ≡ kept_by k other old
-kept_same Fine old h = h refl
-kept_same (Bad e) old h = refl
+kept_same : {A : Type 0} (k : Result ⊤ BlockAssemblyError) (old : A) {new other : A} → (k ≡ Ok tt → new ≡ other) → kept_by k new old ≡ kept_by k other old
+kept_same (Ok tt) old h = h refl
+kept_same (Err e) old h = refl
 
 module _ (i : ℕ) (x : MacroblockTextureContext) (p : BlockPredictors) (w : List (List ℕ)) (qfs : List ℤ) (long : length qfs ≡ 64) (n : List ℤ) (is : n ≡ handed_of x p) where
   -- what is handed over of predictors that are fine, and of others
@@ -79,8 +77,8 @@ module _ (i : ℕ) (x : MacroblockTextureContext) (p : BlockPredictors) (w : Lis
       go true e = numbers_fine x p e n (handed_by true e) (quantiser-fine x w h)
       go false e = ap (λ (ns : List ℤ). predictors_fine (numbered ns)) (handed_by false e)
 
-  abbrev state : Bool → Bool → Checked
-  state t s = cond (ltb i 6) (cond t (cond s Fine (Bad Predictor)) (Bad Context)) (Bad OutOfRange)
+  abbrev state : Bool → Bool → Result ⊤ BlockAssemblyError
+  state t s = cond (ltb i 6) (cond t (cond s (Ok tt) (Err Predictor)) (Err Context)) (Err OutOfRange)
 
   tests_same : first_bad (rebuild_tests i x (numbered n) w (up_to 64 qfs)) ≡ first_bad (rebuild_tests i x p w qfs)
   tests_same = go (context_fine x w) refl
@@ -89,20 +87,20 @@ module _ (i : ℕ) (x : MacroblockTextureContext) (p : BlockPredictors) (w : Lis
       go true h = ap₂ (λ (s t : Bool). state true (s && t)) (predictors-same h) (ap places_fine (all_places qfs long))
       go false h = refl
 
-  same : first_bad (rebuild_tests i x p w qfs) ≡ Fine → levels_here (component_at i) x (numbered n) w (up_to 64 qfs) ≡ levels_here (component_at i) x p w qfs
+  same : first_bad (rebuild_tests i x p w qfs) ≡ Ok tt → levels_here (component_at i) x (numbered n) w (up_to 64 qfs) ≡ levels_here (component_at i) x p w qfs
   same f =
       let good = (both_true (predictors_fine p) (places_fine qfs) (all_pass (rebuild_tests i x p w qfs) f).1.1.0).0 in
       levels-same x p good n (handed_by true good) (component_at i) w qfs long
 
-  pub whole : (r : BlockRebuilt) (samples oldSamples levels oldLevels : List (List ℤ)) → Meets i x (numbered n) w (up_to 64 qfs) r samples oldSamples levels oldLevels
+  pub whole : (r : Result ℤ BlockAssemblyError) (samples oldSamples levels oldLevels : List (List ℤ)) → Meets i x (numbered n) w (up_to 64 qfs) r samples oldSamples levels oldLevels
       → Meets i x p w qfs r samples oldSamples levels oldLevels
   whole r samples a levels b g =
       let k = first_bad (rebuild_tests i x p w qfs) in
       let m = component_at i in
-      let answer = g.0 ∙ ap (λ (s : Checked). rebuilt_by s (dc_here m x (numbered n) w (up_to 64 qfs))) tests_same ∙ rebuilt_same k (λ f. ap (λ (l : List (List ℤ)). cell (values_of m x w l) 0 0) (same f)) in (
+      let answer = g.0 ∙ ap (λ (s : Result ⊤ BlockAssemblyError). rebuilt_by s (dc_here m x (numbered n) w (up_to 64 qfs))) tests_same ∙ rebuilt_same k (λ f. ap (λ (l : List (List ℤ)). cell (values_of m x w l) 0 0) (same f)) in (
         answer,
         (
-          g.1.0 ∙ ap (λ (s : Checked). kept_by s (samples_of x (values_here m x (numbered n) w (up_to 64 qfs))) a) tests_same ∙ kept_same k a (λ f. ap (λ (l : List (List ℤ)). samples_of x (values_of m x w l)) (same f)),
-          (g.1.1.0 ∙ ap (λ (s : Checked). kept_by s (levels_here m x (numbered n) w (up_to 64 qfs)) b) tests_same ∙ kept_same k b same, by_number i x p w qfs answer),
+          g.1.0 ∙ ap (λ (s : Result ⊤ BlockAssemblyError). kept_by s (samples_of x (values_here m x (numbered n) w (up_to 64 qfs))) a) tests_same ∙ kept_same k a (λ f. ap (λ (l : List (List ℤ)). samples_of x (values_of m x w l)) (same f)),
+          (g.1.1.0 ∙ ap (λ (s : Result ⊤ BlockAssemblyError). kept_by s (levels_here m x (numbered n) w (up_to 64 qfs)) b) tests_same ∙ kept_same k b same, by_number i x p w qfs answer),
         ),
       )

@@ -15,8 +15,6 @@ use Rattle.numbers.specs.Outcome.{Outcome, checked, refused}
 use Rattle.bits.specs.Bits.{bits_from}
 use Rattle.bits.specs.Cursor.{in_data}
 use Rattle.codes.specs.Component.{component_at, component_of}
-use Rattle.codes.specs.declared.dc_size.BlockComponent.{BlockComponent}
-use Rattle.codes.specs.declared.dc_size.BlockComponent.TheVariants.{Component, OutOfRange as NoComponent}
 use Rattle.codes.specs.declared.dc_size.DcComponent.{DcComponent}
 use Rattle.codes.specs.declared.dc_size.DcComponent.TheVariants.{Chrominance, Luminance}
 use Rattle.coefficients.specs.Level.{predictors_fine}
@@ -31,19 +29,21 @@ use Rattle.block.specs.Decoded.{answer_of, block_answer, told, values_in}
 use Rattle.block.specs.Outcomes.{block_due, block_outcome}
 use Rattle.assembly.specs.Values.{context_fine}
 use Rattle.assembly.specs.declared.context.MacroblockTextureContext.{MacroblockTextureContext}
+use Rattle.std.specs.Prelude.{None, Option, Result, Some}
 use Rattle.block.specs.declared.intra.BlockDecoded.{BlockDecoded}
+use Rattle.assembly.specs.declared.error.BlockAssemblyError.{BlockAssemblyError}
 
 module _ (d : List ℕ) (at : ℕ) (coded dc_coded rev : Bool) (x : MacroblockTextureContext) (p : BlockPredictors) (w : List (List ℕ)) where
   -- of a component
-  component_due_lem : (c : DcComponent) → block_outcome (answer_of d at coded dc_coded rev x p w (Component c) (check_of d at x p w))
+  component_due_lem : (c : DcComponent) → block_outcome (answer_of d at coded dc_coded rev x p w (Some c) (check_of d at x p w))
       ≡ checked ((in_data (length d) at, 11) ∷ (context_fine x w, 12) ∷ (predictors_fine p, 13) ∷ [])
       (read_as (λ s position. (cell (values_in d c dc_coded x p w s) 0 0, (position, counts_of s))) d (read_block dc_coded rev (c, coded) (bits_from d at)))
   component_due_lem c =
-      answered block_outcome (answer_of d at coded dc_coded rev x p w (Component c)) (λ e. refl) (tests_of d at x p w) (refl, (refl, (refl, tt)))
+      answered block_outcome (answer_of d at coded dc_coded rev x p w (Some c)) (λ e. refl) (tests_of d at x p w) (refl, (refl, (refl, tt)))
       ∙ ap (checked ((in_data (length d) at, 11) ∷ (context_fine x w, 12) ∷ (predictors_fine p, 13) ∷ []))
       (read_by block_outcome (told d c dc_coded x p w) (λ s position. (cell (values_in d c dc_coded x p w s) 0 0, (position, counts_of s))) d (λ a r. refl) (λ e. refl) (read_block dc_coded rev (c, coded) (bits_from d at)))
 
-  abbrev answer : BlockComponent → BlockDecoded
+  abbrev answer : Option DcComponent → Result BlockDecoded BlockAssemblyError
   answer m = answer_of d at coded dc_coded rev x p w m (check_of d at x p w)
 
   abbrev due_of : Bool → DcComponent → Outcome (ℤ × (ℕ × Spellings))
@@ -51,8 +51,8 @@ module _ (d : List ℕ) (at : ℕ) (coded dc_coded rev : Bool) (x : MacroblockTe
       cond t (checked ((in_data (length d) at, 11) ∷ (context_fine x w, 12) ∷ (predictors_fine p, 13) ∷ [])
       (read_as (λ s position. (cell (values_in d c dc_coded x p w s) 0 0, (position, counts_of s))) d (read_block dc_coded rev (c, coded) (bits_from d at)))) (refused 11 0)
 
-  abbrev component_by : Bool → Bool → BlockComponent
-  component_by s t = cond s (Component Luminance) (cond t (Component Chrominance) NoComponent)
+  abbrev component_by : Bool → Bool → Option DcComponent
+  component_by s t = cond s (Some Luminance) (cond t (Some Chrominance) None)
 
   pub block_due_lem : (i : ℕ) → block_outcome (block_answer d at coded dc_coded rev x p w i) ≡ block_due d at x p w i coded dc_coded rev
   block_due_lem i = ⊎_elim four (λ (l : 4 ≤ i). ⊎_elim (six l) none (lt-or-le i 6)) (lt-or-le i 4)

@@ -10,15 +10,11 @@ use borrow.Author.Tests.{lt-ltb}
 use Rattle.numbers.proofs.Tests.{true_both}
 use Rattle.numbers.specs.Outcome.{accepted, checked, refused}
 use Rattle.codes.specs.Component.{component_at, component_outcome}
-use Rattle.codes.specs.declared.dc_size.BlockComponent.{BlockComponent}
-use Rattle.codes.specs.declared.dc_size.BlockComponent.TheVariants.{Component, OutOfRange as NoComponent}
 use Rattle.codes.specs.declared.dc_size.DcComponent.{DcComponent}
 use Rattle.coefficients.specs.Level.{levels_answer, places_fine, predictors_fine}
 use Rattle.prediction.specs.Refusal.{first_bad as firstStage}
 use Rattle.prediction.specs.declared.predictor.BlockPredictors.{BlockPredictors}
 use Rattle.prediction.specs.declared.refusal.CoefficientError.{CoefficientError}
-use Rattle.prediction.specs.declared.refusal.Stage.{Stage}
-use Rattle.prediction.specs.declared.refusal.Stage.TheVariants.{Done, Refused as StageRefused}
 use Rattle.assembly.proofs.ContextLaws.{quantiser-fine}
 use Rattle.assembly.proofs.OutcomeLaws.{answered}
 use Rattle.assembly.specs.Answer.{first_bad}
@@ -26,72 +22,70 @@ use Rattle.block.specs.Rebuilt.{dc_here, handed_tests, kept_by, levels_here, reb
 use Rattle.assembly.specs.Values.{context_fine, samples_of}
 use Rattle.assembly.specs.declared.context.MacroblockTextureContext.{MacroblockTextureContext}
 use Rattle.assembly.specs.declared.error.BlockAssemblyError.TheVariants.{Context, OutOfRange, Predictor}
-use Rattle.assembly.specs.declared.error.Checked.{Checked}
-use Rattle.assembly.specs.declared.error.Checked.TheVariants.{Bad, Fine}
-use Rattle.block.specs.declared.reconstruct.BlockRebuilt.{BlockRebuilt}
-use Rattle.block.specs.declared.reconstruct.BlockRebuilt.TheVariants.{Rebuilt, Refused}
+use Rattle.std.specs.Prelude.{Err, None, Ok, Option, Result, Some, ⊤}
+use Rattle.assembly.specs.declared.error.BlockAssemblyError.{BlockAssemblyError}
 
 -- what a state that is fine leaves
-pub kept_fine : {A : Type 0} (new old : A) {k : Checked} → k ≡ Fine → kept_by k new old ≡ new
-kept_fine new old e = ap (λ (k : Checked). kept_by k new old) e
+pub kept_fine : {A : Type 0} (new old : A) {k : Result ⊤ BlockAssemblyError} → k ≡ Ok tt → kept_by k new old ≡ new
+kept_fine new old e = ap (λ (k : Result ⊤ BlockAssemblyError). kept_by k new old) e
 
 module _ (c : DcComponent) (x : MacroblockTextureContext) (p : BlockPredictors) (w : List (List ℕ)) (qfs : List ℤ) where
   abbrev handed : Bool
   handed = predictors_fine p && places_fine qfs
 
   -- the answer, the samples and the levels that a state of 13 gives
-  abbrev pub Given : Checked → BlockRebuilt → List (List ℤ) → List (List ℤ) → List (List ℤ) → List (List ℤ) → Type 0
+  abbrev pub Given : Result ⊤ BlockAssemblyError → Result ℤ BlockAssemblyError → List (List ℤ) → List (List ℤ) → List (List ℤ) → List (List ℤ) → Type 0
   Given k r samples oldSamples levels oldLevels =
       (r ≡ rebuilt_by k (dc_here c x p w qfs))
       × ((samples ≡ kept_by k (samples_of x (values_here c x p w qfs)) oldSamples) × (levels ≡ kept_by k (levels_here c x p w qfs) oldLevels))
 
-  module _ (h : context_fine x w ≡ true) (s : Stage) (e : s ≡ levels_answer x.quantiser_scale p qfs) where
+  module _ (h : context_fine x w ≡ true) (s : Result ⊤ CoefficientError) (e : s ≡ levels_answer x.quantiser_scale p qfs) where
     answer-is : s ≡ firstStage true handed
     answer-is = e ∙ ap (λ (t : Bool). firstStage t handed) (quantiser-fine x w h)
 
-    pub handed-not : {n : CoefficientError} → s ≡ StageRefused n → handed ≡ false
+    pub handed-not : {n : CoefficientError} → s ≡ Err n → handed ≡ false
     handed-not {n} f = go handed (sym f ∙ answer-is)
       where
-        go : (t : Bool) → StageRefused n ≡ firstStage true t → t ≡ false
+        go : (t : Bool) → Err n ≡ firstStage true t → t ≡ false
         go true q = absurd (let z : ◌≡◌ {A = ℕ} 0 1 = cc in omega arith)
         go false q = refl
 
-    pub handed-fine : s ≡ Done → handed ≡ true
+    pub handed-fine : s ≡ Ok tt → handed ≡ true
     handed-fine f = go handed (sym f ∙ answer-is)
       where
-        go : (t : Bool) → Done ≡ firstStage true t → t ≡ true
+        go : (t : Bool) → (Ok tt) ≡ firstStage true t → t ≡ true
         go true q = refl
         go false q = absurd (let z : ◌≡◌ {A = ℕ} 0 1 = cc in omega arith)
 
-  state : (t : Bool) → handed ≡ t → first_bad (handed_tests c x p w qfs) ≡ cond t Fine (Bad Predictor)
-  state t e = ap (λ (y : Bool). cond y Fine (Bad Predictor)) e
+  state : (t : Bool) → handed ≡ t → first_bad (handed_tests c x p w qfs) ≡ cond t (Ok tt) (Err Predictor)
+  state t e = ap (λ (y : Bool). cond y (Ok tt) (Err Predictor)) e
 
-  pub thirteen : (oldSamples oldLevels : List (List ℤ)) → handed ≡ false → Given (first_bad (handed_tests c x p w qfs)) (Refused Predictor) oldSamples oldSamples oldLevels oldLevels
+  pub thirteen : (oldSamples oldLevels : List (List ℤ)) → handed ≡ false → Given (first_bad (handed_tests c x p w qfs)) (Err Predictor) oldSamples oldSamples oldLevels oldLevels
   thirteen a b e = let s = state false e in
-      (sym (ap (λ (k : Checked). rebuilt_by k (dc_here c x p w qfs)) s), (sym (ap (λ (k : Checked). kept_by k (samples_of x (values_here c x p w qfs)) a) s), sym (ap (λ (k : Checked). kept_by k (levels_here c x p w qfs) b) s)))
+      (sym (ap (λ (k : Result ⊤ BlockAssemblyError). rebuilt_by k (dc_here c x p w qfs)) s), (sym (ap (λ (k : Result ⊤ BlockAssemblyError). kept_by k (samples_of x (values_here c x p w qfs)) a) s), sym (ap (λ (k : Result ⊤ BlockAssemblyError). kept_by k (levels_here c x p w qfs) b) s)))
 
-  pub rebuilt : (oldSamples oldLevels samples levels : List (List ℤ)) (r : BlockRebuilt) → handed ≡ true → r ≡ Rebuilt (dc_here c x p w qfs) → samples ≡ samples_of x (values_here c x p w qfs) → levels ≡ levels_here c x p w qfs
+  pub rebuilt : (oldSamples oldLevels samples levels : List (List ℤ)) (r : Result ℤ BlockAssemblyError) → handed ≡ true → r ≡ Ok (dc_here c x p w qfs) → samples ≡ samples_of x (values_here c x p w qfs) → levels ≡ levels_here c x p w qfs
       → Given (first_bad (handed_tests c x p w qfs)) r samples oldSamples levels oldLevels
   rebuilt a b samples levels r e d f l = let s = state true e in (
-    d ∙ sym (ap (λ (k : Checked). rebuilt_by k (dc_here c x p w qfs)) s),
-    (f ∙ sym (ap (λ (k : Checked). kept_by k (samples_of x (values_here c x p w qfs)) a) s), l ∙ sym (ap (λ (k : Checked). kept_by k (levels_here c x p w qfs) b) s)),
+    d ∙ sym (ap (λ (k : Result ⊤ BlockAssemblyError). rebuilt_by k (dc_here c x p w qfs)) s),
+    (f ∙ sym (ap (λ (k : Result ⊤ BlockAssemblyError). kept_by k (samples_of x (values_here c x p w qfs)) a) s), l ∙ sym (ap (λ (k : Result ⊤ BlockAssemblyError). kept_by k (levels_here c x p w qfs) b) s)),
   )
 
   -- where 13 does not arise
-  pub handed_over : (r : BlockRebuilt) (samples oldSamples levels oldLevels : List (List ℤ)) → predictors_fine p ≡ true → places_fine qfs ≡ true
-      → Given (first_bad (handed_tests c x p w qfs)) r samples oldSamples levels oldLevels → Given Fine r samples oldSamples levels oldLevels
-  handed_over r samples a levels b e f g = subst (λ (k : Checked). Given k r samples a levels b) (state true (true_both e f)) g
+  pub handed_over : (r : Result ℤ BlockAssemblyError) (samples oldSamples levels oldLevels : List (List ℤ)) → predictors_fine p ≡ true → places_fine qfs ≡ true
+      → Given (first_bad (handed_tests c x p w qfs)) r samples oldSamples levels oldLevels → Given (Ok tt) r samples oldSamples levels oldLevels
+  handed_over r samples a levels b e f g = subst (λ (k : Result ⊤ BlockAssemblyError). Given k r samples a levels b) (state true (true_both e f)) g
 
 -- ---- block i: its index, the context, then the above
 
-index-none : (i : ℕ) (r : BlockComponent) → component_outcome r ≡ checked ((ltb i 6, 11) ∷ []) (accepted (component_at i)) → r ≡ NoComponent → ltb i 6 ≡ false
+index-none : (i : ℕ) (r : Option DcComponent) → component_outcome r ≡ checked ((ltb i 6, 11) ∷ []) (accepted (component_at i)) → r ≡ None → ltb i 6 ≡ false
 index-none i r e f = go (ltb i 6) (sym (ap component_outcome f) ∙ e)
   where
     go : (t : Bool) → refused 11 0 ≡ cond t (accepted (component_at i)) (refused 11 0) → t ≡ false
     go true q = absurd (let z : ◌≡◌ {A = ℕ} 0 1 = cc in omega arith)
     go false q = refl
 
-index-some : (i : ℕ) (m : DcComponent) (r : BlockComponent) → component_outcome r ≡ checked ((ltb i 6, 11) ∷ []) (accepted (component_at i)) → r ≡ Component m → (ltb i 6 ≡ true) × (m ≡ component_at i)
+index-some : (i : ℕ) (m : DcComponent) (r : Option DcComponent) → component_outcome r ≡ checked ((ltb i 6, 11) ∷ []) (accepted (component_at i)) → r ≡ Some m → (ltb i 6 ≡ true) × (m ≡ component_at i)
 index-some i m r e f = go (ltb i 6) (sym (ap component_outcome f) ∙ e)
   where
     go : (t : Bool) → accepted m ≡ cond t (accepted (component_at i)) (refused 11 0) → (t ≡ true) × (m ≡ component_at i)
@@ -100,42 +94,42 @@ index-some i m r e f = go (ltb i 6) (sym (ap component_outcome f) ∙ e)
 
 module _ (i : ℕ) (x : MacroblockTextureContext) (p : BlockPredictors) (w : List (List ℕ)) (qfs : List ℤ) where
   -- where nothing is refused
-  pub tests_pass : i < 6 → context_fine x w ≡ true → predictors_fine p ≡ true → places_fine qfs ≡ true → first_bad (rebuild_tests i x p w qfs) ≡ Fine
+  pub tests_pass : i < 6 → context_fine x w ≡ true → predictors_fine p ≡ true → places_fine qfs ≡ true → first_bad (rebuild_tests i x p w qfs) ≡ Ok tt
   tests_pass l h g f = simp (lt-ltb i 6 l, h, true_both g f)
 
   -- what the contract of `reconstruct_block` says
-  abbrev pub Meets : BlockRebuilt → List (List ℤ) → List (List ℤ) → List (List ℤ) → List (List ℤ) → Type 0
+  abbrev pub Meets : Result ℤ BlockAssemblyError → List (List ℤ) → List (List ℤ) → List (List ℤ) → List (List ℤ) → Type 0
   Meets r samples oldSamples levels oldLevels =
       (r ≡ rebuilt_answer i x p w qfs)
       × ((samples ≡ rebuilt_samples i x p w qfs oldSamples) × ((levels ≡ rebuilt_levels i x p w qfs oldLevels) × (rebuilt_outcome r ≡ rebuilt_due i x p w qfs)))
 
-  pub by_number : {r : BlockRebuilt} → r ≡ rebuilt_answer i x p w qfs → rebuilt_outcome r ≡ rebuilt_due i x p w qfs
-  by_number e = ap rebuilt_outcome e ∙ answered rebuilt_outcome (λ (k : Checked). rebuilt_by k (dc_here (component_at i) x p w qfs)) (λ e. refl) (rebuild_tests i x p w qfs) (refl, (refl, (refl, tt)))
+  pub by_number : {r : Result ℤ BlockAssemblyError} → r ≡ rebuilt_answer i x p w qfs → rebuilt_outcome r ≡ rebuilt_due i x p w qfs
+  by_number e = ap rebuilt_outcome e ∙ answered rebuilt_outcome (λ (k : Result ⊤ BlockAssemblyError). rebuilt_by k (dc_here (component_at i) x p w qfs)) (λ e. refl) (rebuild_tests i x p w qfs) (refl, (refl, (refl, tt)))
 
-  met : (k : Checked) {r : BlockRebuilt} {samples levels : List (List ℤ)} (oldSamples oldLevels : List (List ℤ)) → first_bad (rebuild_tests i x p w qfs) ≡ k
+  met : (k : Result ⊤ BlockAssemblyError) {r : Result ℤ BlockAssemblyError} {samples levels : List (List ℤ)} (oldSamples oldLevels : List (List ℤ)) → first_bad (rebuild_tests i x p w qfs) ≡ k
       → Given (component_at i) x p w qfs k r samples oldSamples levels oldLevels → Meets r samples oldSamples levels oldLevels
   met k a b e g =
-      let r = g.0 ∙ sym (ap (λ (y : Checked). rebuilt_by y (dc_here (component_at i) x p w qfs)) e) in (
+      let r = g.0 ∙ sym (ap (λ (y : Result ⊤ BlockAssemblyError). rebuilt_by y (dc_here (component_at i) x p w qfs)) e) in (
         r,
         (
-          g.1.0 ∙ sym (ap (λ (y : Checked). kept_by y (samples_of x (values_here (component_at i) x p w qfs)) a) e),
-          (g.1.1 ∙ sym (ap (λ (y : Checked). kept_by y (levels_here (component_at i) x p w qfs) b) e), by_number r),
+          g.1.0 ∙ sym (ap (λ (y : Result ⊤ BlockAssemblyError). kept_by y (samples_of x (values_here (component_at i) x p w qfs)) a) e),
+          (g.1.1 ∙ sym (ap (λ (y : Result ⊤ BlockAssemblyError). kept_by y (levels_here (component_at i) x p w qfs) b) e), by_number r),
         ),
       )
 
-  tests : Bool → Bool → Checked
-  tests s t = cond s (cond t (first_bad (handed_tests (component_at i) x p w qfs)) (Bad Context)) (Bad OutOfRange)
+  tests : Bool → Bool → Result ⊤ BlockAssemblyError
+  tests s t = cond s (cond t (first_bad (handed_tests (component_at i) x p w qfs)) (Err Context)) (Err OutOfRange)
 
-  pub no_block : (r : BlockComponent) (a b : List (List ℤ)) → component_outcome r ≡ checked ((ltb i 6, 11) ∷ []) (accepted (component_at i)) → r ≡ NoComponent → Meets (Refused OutOfRange) a a b b
+  pub no_block : (r : Option DcComponent) (a b : List (List ℤ)) → component_outcome r ≡ checked ((ltb i 6, 11) ∷ []) (accepted (component_at i)) → r ≡ None → Meets (Err OutOfRange) a a b b
   unfolding tests
-  no_block r a b e f = met (Bad OutOfRange) a b (ap (λ (s : Bool). tests s (context_fine x w)) (index-none i r e f)) (refl, (refl, refl))
+  no_block r a b e f = met (Err OutOfRange) a b (ap (λ (s : Bool). tests s (context_fine x w)) (index-none i r e f)) (refl, (refl, refl))
 
-  pub no-context : (m : DcComponent) (r : BlockComponent) (a b : List (List ℤ)) → component_outcome r ≡ checked ((ltb i 6, 11) ∷ []) (accepted (component_at i)) → r ≡ Component m
-      → context_fine x w ≡ false → Meets (Refused Context) a a b b
+  pub no-context : (m : DcComponent) (r : Option DcComponent) (a b : List (List ℤ)) → component_outcome r ≡ checked ((ltb i 6, 11) ∷ []) (accepted (component_at i)) → r ≡ Some m
+      → context_fine x w ≡ false → Meets (Err Context) a a b b
   unfolding tests
-  no-context m r a b e f h = met (Bad Context) a b (ap₂ tests (index-some i m r e f).0 h) (refl, (refl, refl))
+  no-context m r a b e f h = met (Err Context) a b (ap₂ tests (index-some i m r e f).0 h) (refl, (refl, refl))
 
-  pub whole-block : (m : DcComponent) (r : BlockComponent) {o : BlockRebuilt} {samples levels : List (List ℤ)} (a b : List (List ℤ)) → component_outcome r ≡ checked ((ltb i 6, 11) ∷ []) (accepted (component_at i)) → r ≡ Component m
+  pub whole-block : (m : DcComponent) (r : Option DcComponent) {o : Result ℤ BlockAssemblyError} {samples levels : List (List ℤ)} (a b : List (List ℤ)) → component_outcome r ≡ checked ((ltb i 6, 11) ∷ []) (accepted (component_at i)) → r ≡ Some m
       → context_fine x w ≡ true → Given m x p w qfs (first_bad (handed_tests m x p w qfs)) o samples a levels b → Meets o samples a levels b
   unfolding tests
   whole-block m r {o} {samples} {levels} a b e f h g =

@@ -11,22 +11,21 @@ use Rattle.dequantise.specs.declared.context.InverseQuantContext.{InverseQuantCo
 use Rattle.coefficients.specs.Level.{block_fine}
 use Rattle.prediction.specs.Refusal.{after, first_bad}
 use Rattle.prediction.specs.declared.refusal.CoefficientError.{CoefficientError}
-use Rattle.prediction.specs.declared.refusal.Stage.{Stage}
-use Rattle.prediction.specs.declared.refusal.Stage.TheVariants.{Done, Refused}
 use Rattle.numbers.proofs.Tests.{true_both}
 use Rattle.numbers.specs.Every.{every}
 use Rattle.ranges.specs.Range.{depth_fine, quantiser_fine}
 use Rattle.assembly.proofs.ContextLaws.{depth-fine, matrix-fine, quantiser-fine}
 use Rattle.assembly.specs.Values.{context_fine, quant_of, values_of}
 use Rattle.assembly.specs.declared.context.MacroblockTextureContext.{MacroblockTextureContext}
+use Rattle.std.specs.Prelude.{Err, Ok, Result, ⊤}
 
 -- a stage that is done leaves its block
-pub done_leaves : {A : Type 0} (s : Stage) (new old : A) → s ≡ Done → after s new old ≡ new
-done_leaves s new old e = ap (λ (x : Stage). after x new old) e
+pub done_leaves : {A : Type 0} (s : Result ⊤ CoefficientError) (new old : A) → s ≡ Ok tt → after s new old ≡ new
+done_leaves s new old e = ap (λ (x : Result ⊤ CoefficientError). after x new old) e
 
 -- and one that is refused the block as it was
-pub refused_leaves : {A : Type 0} (s : Stage) (n : CoefficientError) (new old : A) → s ≡ Refused n → after s new old ≡ old
-refused_leaves s n new old e = ap (λ (x : Stage). after x new old) e
+pub refused_leaves : {A : Type 0} (s : Result ⊤ CoefficientError) (n : CoefficientError) (new old : A) → s ≡ Err n → after s new old ≡ old
+refused_leaves s n new old e = ap (λ (x : Result ⊤ CoefficientError). after x new old) e
 
 module _ (x : MacroblockTextureContext) (w : List (List ℕ)) (h : context_fine x w ≡ true) where
   both : (quantiser_fine x.quantiser_scale && depth_fine x.bits_per_pixel) ≡ true
@@ -39,14 +38,14 @@ module _ (x : MacroblockTextureContext) (w : List (List ℕ)) (h : context_fine 
 
     module _ (k : InverseQuantContext) (is : k ≡ quant_of c x) where
       -- by either method it is done
-      pub rows-done : (s : Stage) → s ≡ answer_by x.quant_type k w qf → s ≡ Done
+      pub rows-done : (s : Result ⊤ CoefficientError) → s ≡ answer_by x.quant_type k w qf → s ≡ Ok tt
       rows-done s e = e ∙ ap (λ (y : InverseQuantContext). answer_by x.quant_type y w qf) is ∙ go x.quant_type refl
         where
-          go : (t : Bool) → x.quant_type ≡ t → answer_by t (quant_of c x) w qf ≡ Done
+          go : (t : Bool) → x.quant_type ≡ t → answer_by t (quant_of c x) w qf ≡ Ok tt
           go true f = ap₂ first_bad (true_both both (matrix_by true f)) g
           go false f = ap₂ first_bad both g
 
-      pub by_rows : (s : Stage) (r old : List (List ℤ)) → s ≡ answer_by x.quant_type k w qf
+      pub by_rows : (s : Result ⊤ CoefficientError) (r old : List (List ℤ)) → s ≡ answer_by x.quant_type k w qf
           → r ≡ after (answer_by x.quant_type k w qf) (dequantised_by x.quant_type (not x.intra_mismatch_exempt) k w qf) old → r ≡ values_of c x w qf
       by_rows s r old e q =
           q ∙ done_leaves (answer_by x.quant_type k w qf) _ old (sym e ∙ rows-done s e)

@@ -1,10 +1,8 @@
 -- What is answered of one block, and what its lent samples and levels hold afterwards, refusals included. Definitions only.
-use Rattle.std.specs.Prelude.{Bool, List, ℕ, ℤ}
+use Rattle.std.specs.Prelude.{Bool, List, ℕ, ℤ, Err, None, Ok, Option, Result, Some, ⊤}
 use Rattle.bits.specs.Bits.{bits_from}
 use Rattle.bits.specs.declared.cursor.Cursor.{Cursor}
 use Rattle.codes.specs.Component.{component_of}
-use Rattle.codes.specs.declared.dc_size.BlockComponent.{BlockComponent}
-use Rattle.codes.specs.declared.dc_size.BlockComponent.TheVariants.{Component, OutOfRange as NoComponent}
 use Rattle.codes.specs.declared.dc_size.DcComponent.{DcComponent}
 use Rattle.prediction.specs.declared.predictor.BlockPredictors.{BlockPredictors}
 use Rattle.numbers.specs.Grid.{cell}
@@ -19,17 +17,13 @@ use Rattle.assembly.specs.Answer.{check_of}
 use Rattle.assembly.specs.Values.{levels_of, samples_of, values_of}
 use Rattle.assembly.specs.declared.context.MacroblockTextureContext.{MacroblockTextureContext}
 use Rattle.assembly.specs.declared.error.BlockAssemblyError.TheVariants.{OutOfRange, Texture}
-use Rattle.assembly.specs.declared.error.Checked.{Checked}
-use Rattle.assembly.specs.declared.error.Checked.TheVariants.{Fine, Bad}
+use Rattle.assembly.specs.declared.error.BlockAssemblyError.{BlockAssemblyError}
 use Rattle.block.specs.declared.intra.BlockDecoded.{BlockDecoded}
-use Rattle.block.specs.declared.intra.BlockDecoded.TheVariants.{Decoded, Refused}
-use Rattle.block.specs.declared.reconstruct.BlockRebuilt.{BlockRebuilt}
-use Rattle.block.specs.declared.reconstruct.BlockRebuilt.TheVariants.{Rebuilt, Refused as NotRebuilt}
 
 -- a block that was rebuilt, with the cursor after it and the number of its events of each spelling
-abbrev pub decoded_by : BlockRebuilt → Cursor → Spellings → BlockDecoded
-decoded_by (Rebuilt dc) next n = Decoded dc next n
-decoded_by (NotRebuilt e) next n = Refused e
+abbrev pub decoded_by : Result ℤ BlockAssemblyError → Cursor → Spellings → Result BlockDecoded BlockAssemblyError
+decoded_by (Ok dc) next n = Ok (record { dc = dc; next = next; spellings = n })
+decoded_by (Err e) next n = Err e
 
 -- ---- a block of a component, whose bits were read
 
@@ -42,9 +36,9 @@ module _ (d : List ℕ) (c : DcComponent) (dc_coded : Bool) (x : MacroblockTextu
   values_in s = values_of c x w (levels_in s)
 
   -- the dequantised DC, the position after the block and the number of its events of each spelling
-  abbrev pub told : Res Parts → BlockDecoded
-  told (ok s r) = Decoded (cell (values_in s) 0 0) (after d r) (spellings_of (events_of s.1))
-  told (no e) = Refused (Texture e)
+  abbrev pub told : Res Parts → Result BlockDecoded BlockAssemblyError
+  told (ok s r) = Ok (record { dc = cell (values_in s) 0 0; next = after d r; spellings = spellings_of (events_of s.1) })
+  told (no e) = Err (Texture e)
 
   abbrev pub samples_told : Res Parts → List (List ℤ) → List (List ℤ)
   samples_told (ok s r) old = samples_of x (values_in s)
@@ -60,23 +54,23 @@ module _ (d : List ℕ) (at : ℕ) (coded dc_coded rev : Bool) (x : MacroblockTe
   abbrev pub sentence_of : DcComponent → Res Parts
   sentence_of c = read_block dc_coded rev (c, coded) (bits_from d at)
 
-  abbrev pub answer_of : BlockComponent → Checked → BlockDecoded
-  answer_of NoComponent k = Refused OutOfRange
-  answer_of (Component c) (Bad e) = Refused e
-  answer_of (Component c) Fine = told d c dc_coded x p w (sentence_of c)
+  abbrev pub answer_of : Option DcComponent → Result ⊤ BlockAssemblyError → Result BlockDecoded BlockAssemblyError
+  answer_of None k = Err OutOfRange
+  answer_of (Some c) (Err e) = Err e
+  answer_of (Some c) (Ok tt) = told d c dc_coded x p w (sentence_of c)
 
-  abbrev pub samples_out : BlockComponent → Checked → List (List ℤ) → List (List ℤ)
-  samples_out NoComponent k old = old
-  samples_out (Component c) (Bad e) old = old
-  samples_out (Component c) Fine old = samples_told d c dc_coded x p w (sentence_of c) old
+  abbrev pub samples_out : Option DcComponent → Result ⊤ BlockAssemblyError → List (List ℤ) → List (List ℤ)
+  samples_out None k old = old
+  samples_out (Some c) (Err e) old = old
+  samples_out (Some c) (Ok tt) old = samples_told d c dc_coded x p w (sentence_of c) old
 
-  abbrev pub levels_out : BlockComponent → Checked → List (List ℤ) → List (List ℤ)
-  levels_out NoComponent k old = old
-  levels_out (Component c) (Bad e) old = old
-  levels_out (Component c) Fine old = levels_told d c dc_coded x p w (sentence_of c) old
+  abbrev pub levels_out : Option DcComponent → Result ⊤ BlockAssemblyError → List (List ℤ) → List (List ℤ)
+  levels_out None k old = old
+  levels_out (Some c) (Err e) old = old
+  levels_out (Some c) (Ok tt) old = levels_told d c dc_coded x p w (sentence_of c) old
 
   -- for block i
-  abbrev pub block_answer : ℕ → BlockDecoded
+  abbrev pub block_answer : ℕ → Result BlockDecoded BlockAssemblyError
   block_answer i = answer_of (component_of i) (check_of d at x p w)
 
   abbrev pub samples_after : ℕ → List (List ℤ) → List (List ℤ)

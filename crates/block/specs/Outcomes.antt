@@ -1,5 +1,5 @@
 -- What the answers of a block say in document 01's numbers, and what is due. Definitions only.
-use Rattle.std.specs.Prelude.{Bool, List, [], ◌∷◌, ℕ, ltb, ℤ, length}
+use Rattle.std.specs.Prelude.{Bool, List, [], ◌∷◌, ℕ, ltb, ℤ, length, Err, Ok, Result}
 use Rattle.numbers.specs.Grid.{cell}
 use Rattle.numbers.specs.Outcome.{Outcome, accepted, checked, refused}
 use Rattle.bits.specs.Bits.{bits_from}
@@ -17,12 +17,12 @@ use Rattle.block.specs.Decoded.{values_in}
 use Rattle.assembly.specs.Values.{context_fine}
 use Rattle.assembly.specs.declared.context.MacroblockTextureContext.{MacroblockTextureContext}
 use Rattle.block.specs.declared.intra.BlockDecoded.{BlockDecoded}
-use Rattle.block.specs.declared.intra.BlockDecoded.TheVariants.{Decoded, Refused}
+use Rattle.assembly.specs.declared.error.BlockAssemblyError.{BlockAssemblyError}
 
 -- the dequantised DC, the position after the block and the number of its events of each spelling
-abbrev pub block_outcome : BlockDecoded → Outcome (ℤ × (ℕ × Spellings))
-block_outcome (Decoded dc c n) = accepted (dc, (c.bit_pos, n))
-block_outcome (Refused e) = refused (number_of e) (figure_of e)
+abbrev pub block_outcome : Result BlockDecoded BlockAssemblyError → Outcome (ℤ × (ℕ × Spellings))
+block_outcome (Ok d) = accepted (d.dc, (d.next.bit_pos, d.spellings))
+block_outcome (Err e) = refused (number_of e) (figure_of e)
 
 module _ (d : List ℕ) (at : ℕ) (x : MacroblockTextureContext) (p : BlockPredictors) (w : List (List ℕ)) where
   -- block i: 11 for its index too, then what is read

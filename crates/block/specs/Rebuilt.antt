@@ -1,5 +1,5 @@
 -- A block out of its 64 places: what is answered, and what its lent samples and levels hold afterwards, refusals included. Definitions only.
-use Rattle.std.specs.Prelude.{Bool, ◌&&◌, List, [], ◌∷◌, ℕ, ltb, ℤ}
+use Rattle.std.specs.Prelude.{Bool, ◌&&◌, List, [], ◌∷◌, ℕ, ltb, ℤ, Err, Ok, Result, ⊤}
 use Rattle.numbers.specs.Grid.{cell}
 use Rattle.numbers.specs.Outcome.{Outcome, accepted, checked, refused}
 use Rattle.codes.specs.Component.{component_at}
@@ -11,22 +11,18 @@ use Rattle.assembly.specs.Values.{context_fine, levels_of, samples_of, values_of
 use Rattle.assembly.specs.declared.context.MacroblockTextureContext.{MacroblockTextureContext}
 use Rattle.assembly.specs.declared.error.BlockAssemblyError.{BlockAssemblyError}
 use Rattle.assembly.specs.declared.error.BlockAssemblyError.TheVariants.{Context, OutOfRange, Predictor}
-use Rattle.assembly.specs.declared.error.Checked.{Checked}
-use Rattle.assembly.specs.declared.error.Checked.TheVariants.{Bad, Fine}
-use Rattle.block.specs.declared.reconstruct.BlockRebuilt.{BlockRebuilt}
-use Rattle.block.specs.declared.reconstruct.BlockRebuilt.TheVariants.{Rebuilt, Refused}
 
-abbrev pub rebuilt_by : Checked → ℤ → BlockRebuilt
-rebuilt_by Fine dc = Rebuilt dc
-rebuilt_by (Bad e) dc = Refused e
+abbrev pub rebuilt_by : Result ⊤ BlockAssemblyError → ℤ → Result ℤ BlockAssemblyError
+rebuilt_by (Ok tt) dc = Ok dc
+rebuilt_by (Err e) dc = Err e
 
-abbrev pub kept_by : {A : Type 0} → Checked → A → A → A
-kept_by Fine new old = new
-kept_by (Bad e) new old = old
+abbrev pub kept_by : {A : Type 0} → Result ⊤ BlockAssemblyError → A → A → A
+kept_by (Ok tt) new old = new
+kept_by (Err e) new old = old
 
-abbrev pub rebuilt_outcome : BlockRebuilt → Outcome ℤ
-rebuilt_outcome (Rebuilt dc) = accepted dc
-rebuilt_outcome (Refused e) = refused (number_of e) (figure_of e)
+abbrev pub rebuilt_outcome : Result ℤ BlockAssemblyError → Outcome ℤ
+rebuilt_outcome (Ok dc) = accepted dc
+rebuilt_outcome (Err e) = refused (number_of e) (figure_of e)
 
 -- levels, values and samples of the places
 module _ (c : DcComponent) (x : MacroblockTextureContext) (p : BlockPredictors) (w : List (List ℕ)) (qfs : List ℤ) where
@@ -48,7 +44,7 @@ module _ (i : ℕ) (x : MacroblockTextureContext) (p : BlockPredictors) (w : Lis
   abbrev pub rebuild_tests : List (Bool × BlockAssemblyError)
   rebuild_tests = (ltb i 6, OutOfRange) ∷ (context_fine x w, Context) ∷ (predictors_fine p && places_fine qfs, Predictor) ∷ []
 
-  abbrev pub rebuilt_answer : BlockRebuilt
+  abbrev pub rebuilt_answer : Result ℤ BlockAssemblyError
   rebuilt_answer = rebuilt_by (first_bad rebuild_tests) (dc_here (component_at i) x p w qfs)
 
   abbrev pub rebuilt_samples : List (List ℤ) → List (List ℤ)

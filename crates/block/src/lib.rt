@@ -10,10 +10,10 @@ mod reconstruct;
 mod short;
 
 pub use assembly::{
-    BlockAssemblyError, Checked, MacroblockTextureContext, check, context_fine,
-    default_intra_quant_matrix, pattern_code,
+    BlockAssemblyError, MacroblockTextureContext, check, context_fine, default_intra_quant_matrix,
+    pattern_code,
 };
 pub use block_reader::{PlacesRead, read_block, read_blocks};
 pub use intra::{BlockDecoded, decode_intra_block_full};
-pub use reconstruct::{BlockRebuilt, reconstruct_block};
+pub use reconstruct::reconstruct_block;
 pub use short::reconstruct_up_to;

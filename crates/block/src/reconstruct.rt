@@ -22,13 +22,6 @@ pub(crate) fn quant_of(component: DcComponent, ctx: MacroblockTextureContext) ->
     }
 }
 
-// The dequantised DC of a block that was reconstructed, or a refusal.
-#[derive(Clone, Copy)]
-pub enum BlockRebuilt {
-    Rebuilt(i32),
-    Refused(BlockAssemblyError),
-}
-
 // What the levels need of fine predictors; of others zeros, which 13 refuses too.
 fn handed(predictors: BlockPredictors, ctx: MacroblockTextureContext) -> [i32; 11]
     ensures { result ≡ handed_of ctx predictors }
@@ -55,7 +48,7 @@ pub fn reconstruct_block(
     w: [[u8; 8]; 8],
     spatial: &mut [[i32; 8]; 8],
     qf: &mut [[i32; 8]; 8],
-) -> BlockRebuilt
+) -> Result<i32, BlockAssemblyError>
     ensures value { result ≡ rebuilt_answer i ctx predictors w qfs }
     ensures samples { spatial.new ≡ rebuilt_samples i ctx predictors w qfs spatial.old }
     ensures levels { qf.new ≡ rebuilt_levels i ctx predictors w qfs qf.old }

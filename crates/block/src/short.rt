@@ -1,6 +1,6 @@
 // A short way from places to samples: places up to an end, rows of zeros left out, and a block with a DC alone as one level,
 // one value and 64 equal samples.
-ghost use Rattle.std.specs.Prelude.{not, true, ◌&&◌, [], ◌∷◌, ◌≡◌, ◌+◌};
+ghost use Rattle.std.specs.Prelude.{not, true, ◌&&◌, [], ◌∷◌, ◌≡◌, ◌+◌, Ok};
 ghost use Rattle.numbers.specs.Grid.{cell};
 ghost use Rattle.ranges.specs.Range.{depth_fine, difference_fine, level_fine, quantiser_fine};
 ghost use Rattle.coefficients.specs.Level.{block_fine, predictors_fine};
@@ -9,7 +9,6 @@ ghost use Rattle.prediction.specs.Prediction.{direction_by};
 ghost use Rattle.scan_rows.specs.UpTo.{up_to};
 ghost use Rattle.idct.specs.Clipped.{dc_block};
 ghost use Rattle.idct.specs.Limits.{in_bounds};
-ghost use Rattle.idct.specs.declared.limits.IdctAnswer.TheVariants.{Transformed};
 ghost use Rattle.mismatch.specs.Mismatch.{even};
 ghost use Rattle.dequantise.specs.Methods.{limited_f};
 ghost use Rattle.assembly.specs.Answer.{first_bad};
@@ -18,12 +17,11 @@ ghost use Rattle.block.specs.Short.{adds, dc_level, dc_value, dc_values};
 ghost use Rattle.assembly.specs.Values.{context_fine, samples_of, values_of};
 ghost use Rattle.assembly.specs.declared.error.BlockAssemblyError.TheVariants.{Predictor};
 
-use crate::reconstruct::BlockRebuilt;
 use assembly::{BlockAssemblyError, MacroblockTextureContext};
-use codes::{BlockComponent, DcComponent};
-use coefficients::{DcPredictionDirection, Direction, Scaler, Stage, Value};
-use idct::IdctAnswer;
-use ranges::{Depth, DepthLimits};
+use codes::DcComponent;
+use coefficients::DcPredictionDirection;
+use idct::IdctError;
+use ranges::Depth;
 
 // Whether AC values of a neighbour are added.
 fn adds_values(ac_pred_flag: bool, n: &[i32; 11]) -> bool
@@ -41,8 +39,8 @@ fn limited(value: i32, bits_per_pixel: u32) -> i32
     ensures { result ≡ limited_f bits_per_pixel value }
 {
     match Depth::value_limits(bits_per_pixel) {
-        DepthLimits::OutOfRange => value,
-        DepthLimits::Are(lo, hi) => numbers::clamp(value, lo, hi),
+        None => value,
+        Some((lo, hi)) => numbers::clamp(value, lo, hi),
     }
 }
 
@@ -52,8 +50,8 @@ fn value_of(level: i32, component: DcComponent, ctx: MacroblockTextureContext) -
     ensures { result ≡ dc_value component ctx level }
 {
     match inverse_quant::inverse_quant_intra_dc(level, component, ctx.quantiser_scale, false) {
-        Value::Refused(_) => 0,
-        Value::Is(z) => limited(z, ctx.bits_per_pixel),
+        Err(_) => 0,
+        Ok(z) => limited(z, ctx.bits_per_pixel),
     }
 }
 
@@ -71,9 +69,13 @@ fn stays_alone(dc: i32, ctx: MacroblockTextureContext) -> bool
 }
 
 // The samples of a DC.
-fn dc_samples(dc: i32, ctx: MacroblockTextureContext, spatial: &mut [[i32; 8]; 8]) -> IdctAnswer
+fn dc_samples(
+    dc: i32,
+    ctx: MacroblockTextureContext,
+    spatial: &mut [[i32; 8]; 8],
+) -> Result<(), IdctError>
     requires { (depth_fine ctx.bits_per_pixel ≡ true) × (in_bounds (ctx.bits_per_pixel + 3) dc ≡ true) }
-    ensures { (result ≡ Transformed) × (spatial.new ≡ samples_of ctx (dc_values ctx dc)) }
+    ensures { (result ≡ Ok tt) × (spatial.new ≡ samples_of ctx (dc_values ctx dc)) }
 {
     let depth = ctx.bits_per_pixel;
     let rounding = ctx.idct_rounding;
@@ -90,21 +92,21 @@ fn from_level(
     ctx: MacroblockTextureContext,
     spatial: &mut [[i32; 8]; 8],
     qf: &mut [[i32; 8]; 8],
-) -> BlockRebuilt
+) -> Result<i32, BlockAssemblyError>
     requires { (quantiser_fine ctx.quantiser_scale ≡ true) × (depth_fine ctx.bits_per_pixel ≡ true) × (level_fine level ≡ true) }
-    ensures value { result ≡ BlockRebuilt.Rebuilt (dc_value component ctx level) }
+    ensures value { result ≡ Ok (dc_value component ctx level) }
     ensures samples { spatial.new ≡ samples_of ctx (dc_values ctx (dc_value component ctx level)) }
     ensures levels { qf.new ≡ dc_block level }
 {
     let dc = value_of(level, component, ctx);
     match dc_samples(dc, ctx, spatial) {
-        IdctAnswer::DepthOutOfRange => BlockRebuilt::Refused(BlockAssemblyError::Context),
-        IdctAnswer::ValueOutOfLimits => BlockRebuilt::Refused(BlockAssemblyError::Predictor),
-        IdctAnswer::Transformed => {
+        Err(IdctError::DepthOutOfRange) => Err(BlockAssemblyError::Context),
+        Err(IdctError::ValueOutOfLimits) => Err(BlockAssemblyError::Predictor),
+        Ok(()) => {
             let mut levels = [[0i32; 8]; 8];
             levels[0][0] = level;
             *qf = levels;
-            BlockRebuilt::Rebuilt(dc)
+            Ok(dc)
         }
     }
 }
@@ -118,24 +120,20 @@ fn dc_alone(
     n: &[i32; 11],
     spatial: &mut [[i32; 8]; 8],
     qf: &mut [[i32; 8]; 8],
-) -> BlockRebuilt
+) -> Result<i32, BlockAssemblyError>
     requires { (quantiser_fine ctx.quantiser_scale ≡ true) × (depth_fine ctx.bits_per_pixel ≡ true) × (predictors_fine (numbered n.now) ≡ true) × (direction ≡ direction_by (numbered n.now)) }
     ensures value { result ≡ rebuilt_by (first_bad ((difference_fine difference, Predictor) ∷ [])) (dc_value component ctx (dc_level component ctx.quantiser_scale (numbered n.now) difference)) }
     ensures samples { spatial.new ≡ kept_by (first_bad ((difference_fine difference, Predictor) ∷ [])) (samples_of ctx (dc_values ctx (dc_value component ctx (dc_level component ctx.quantiser_scale (numbered n.now) difference)))) spatial.old }
     ensures levels { qf.new ≡ kept_by (first_bad ((difference_fine difference, Predictor) ∷ [])) (dc_block (dc_level component ctx.quantiser_scale (numbered n.now) difference)) qf.old }
 {
-    match coefficients::dc_scaler(component, ctx.quantiser_scale) {
-        Scaler::Refused(_) => BlockRebuilt::Refused(BlockAssemblyError::Context),
-        Scaler::Is(scaler) => {
-            match coefficients::predict_intra_dc(difference, direction, n[0], n[2], scaler) {
-                Value::Refused(_) => BlockRebuilt::Refused(BlockAssemblyError::Predictor),
-                Value::Is(z) => {
-                    let level = coefficients::saturate_qf(z);
-                    from_level(level, component, ctx, spatial, qf)
-                }
-            }
-        }
-    }
+    let Ok(scaler) = coefficients::dc_scaler(component, ctx.quantiser_scale) else {
+        return Err(BlockAssemblyError::Context);
+    };
+    let Ok(z) = coefficients::predict_intra_dc(difference, direction, n[0], n[2], scaler) else {
+        return Err(BlockAssemblyError::Predictor);
+    };
+    let level = coefficients::saturate_qf(z);
+    from_level(level, component, ctx, spatial, qf)
 }
 
 // Levels that were worked out, through values to samples.
@@ -145,33 +143,28 @@ fn from_levels(
     ctx: MacroblockTextureContext,
     w: [[u8; 8]; 8],
     spatial: &mut [[i32; 8]; 8],
-) -> BlockRebuilt
+) -> Result<i32, BlockAssemblyError>
     requires { (context_fine ctx w ≡ true) × (block_fine levels ≡ true) }
-    ensures { (result ≡ BlockRebuilt.Rebuilt (cell (values_of component ctx w levels) 0 0)) × (spatial.new ≡ samples_of ctx (values_of component ctx w levels)) }
+    ensures { (result ≡ Ok (cell (values_of component ctx w levels) 0 0)) × (spatial.new ≡ samples_of ctx (values_of component ctx w levels)) }
 {
     let mut values = [[0i32; 8]; 8];
     let quant = crate::reconstruct::quant_of(component, ctx);
     let control = !ctx.intra_mismatch_exempt;
-    let stage = inverse_quant::inverse_quant_rows(
+    let Ok(()) = inverse_quant::inverse_quant_rows(
         levels,
         w,
         quant,
         ctx.quant_type,
         control,
         &mut values,
-    );
-    match stage {
-        Stage::Refused(_) => BlockRebuilt::Refused(BlockAssemblyError::Context),
-        Stage::Done => {
-            let rounding = ctx.idct_rounding;
-            match idct::idct_8x8_clipped(values, ctx.bits_per_pixel, rounding, spatial) {
-                IdctAnswer::DepthOutOfRange => BlockRebuilt::Refused(BlockAssemblyError::Context),
-                IdctAnswer::ValueOutOfLimits => {
-                    BlockRebuilt::Refused(BlockAssemblyError::Predictor)
-                }
-                IdctAnswer::Transformed => BlockRebuilt::Rebuilt(values[0][0]),
-            }
-        }
+    ) else {
+        return Err(BlockAssemblyError::Context);
+    };
+    let rounding = ctx.idct_rounding;
+    match idct::idct_8x8_clipped(values, ctx.bits_per_pixel, rounding, spatial) {
+        Err(IdctError::DepthOutOfRange) => Err(BlockAssemblyError::Context),
+        Err(IdctError::ValueOutOfLimits) => { Err(BlockAssemblyError::Predictor) }
+        Ok(()) => Ok(values[0][0]),
     }
 }
 
@@ -185,7 +178,7 @@ fn coded(
     w: [[u8; 8]; 8],
     spatial: &mut [[i32; 8]; 8],
     qf: &mut [[i32; 8]; 8],
-) -> BlockRebuilt
+) -> Result<i32, BlockAssemblyError>
     requires { context_fine ctx w ≡ true }
     ensures value { result ≡ rebuilt_by (first_bad (handed_tests component ctx (numbered n.now) w (up_to end qfs.now))) (dc_here component ctx (numbered n.now) w (up_to end qfs.now)) }
     ensures samples { spatial.new ≡ kept_by (first_bad (handed_tests component ctx (numbered n.now) w (up_to end qfs.now))) (samples_of ctx (values_here component ctx (numbered n.now) w (up_to end qfs.now))) spatial.old }
@@ -194,14 +187,12 @@ fn coded(
     let q = ctx.quantiser_scale;
     let ac_pred = ctx.ac_pred_flag;
     let alternate = ctx.alternate_vertical_scan;
-    let stage = coefficients::intra_levels_up_to(qfs, end, component, q, ac_pred, alternate, n, qf);
-    match stage {
-        Stage::Refused(_) => BlockRebuilt::Refused(BlockAssemblyError::Predictor),
-        Stage::Done => {
-            let levels = *qf;
-            from_levels(levels, component, ctx, w, spatial)
-        }
-    }
+    let Ok(()) = coefficients::intra_levels_up_to(qfs, end, component, q, ac_pred, alternate, n, qf)
+    else {
+        return Err(BlockAssemblyError::Predictor);
+    };
+    let levels = *qf;
+    from_levels(levels, component, ctx, w, spatial)
 }
 
 // Once the context is fine, of the places below `end`: levels into `qf`, samples into `spatial`; or 13, and both as they were.
@@ -214,25 +205,23 @@ pub(crate) fn rebuild_up_to(
     w: [[u8; 8]; 8],
     spatial: &mut [[i32; 8]; 8],
     qf: &mut [[i32; 8]; 8],
-) -> BlockRebuilt
+) -> Result<i32, BlockAssemblyError>
     requires { context_fine ctx w ≡ true }
     ensures value { result ≡ rebuilt_by (first_bad (handed_tests component ctx (numbered n.now) w (up_to end qfs.now))) (dc_here component ctx (numbered n.now) w (up_to end qfs.now)) }
     ensures samples { spatial.new ≡ kept_by (first_bad (handed_tests component ctx (numbered n.now) w (up_to end qfs.now))) (samples_of ctx (values_here component ctx (numbered n.now) w (up_to end qfs.now))) spatial.old }
     ensures levels { qf.new ≡ kept_by (first_bad (handed_tests component ctx (numbered n.now) w (up_to end qfs.now))) (levels_here component ctx (numbered n.now) w (up_to end qfs.now)) qf.old }
 {
     if !coefficients::needed_fine(n) {
-        return BlockRebuilt::Refused(BlockAssemblyError::Predictor);
+        return Err(BlockAssemblyError::Predictor);
     }
-    match coefficients::select_dc_direction(n[0], n[1], n[2]) {
-        Direction::Refused(_) => BlockRebuilt::Refused(BlockAssemblyError::Predictor),
-        Direction::Is(direction) => {
-            let adds = adds_values(ctx.ac_pred_flag, n);
-            if (end == 1) & (1 <= qfs.len()) & !adds {
-                return dc_alone(qfs[0], direction, component, ctx, n, spatial, qf);
-            }
-            coded(component, qfs, end, ctx, n, w, spatial, qf)
-        }
+    let Ok(direction) = coefficients::select_dc_direction(n[0], n[1], n[2]) else {
+        return Err(BlockAssemblyError::Predictor);
+    };
+    let adds = adds_values(ctx.ac_pred_flag, n);
+    if (end == 1) & (1 <= qfs.len()) & !adds {
+        return dc_alone(qfs[0], direction, component, ctx, n, spatial, qf);
     }
+    coded(component, qfs, end, ctx, n, w, spatial, qf)
 }
 
 // Block `i` out of its places below `end`, the others taken as 0: 11, 12, 13, or its samples, its levels and its dequantised DC.
@@ -245,20 +234,17 @@ pub fn reconstruct_up_to(
     w: [[u8; 8]; 8],
     spatial: &mut [[i32; 8]; 8],
     qf: &mut [[i32; 8]; 8],
-) -> BlockRebuilt
+) -> Result<i32, BlockAssemblyError>
     ensures value { result ≡ rebuilt_answer i ctx (numbered n.now) w (up_to end qfs.now) }
     ensures samples { spatial.new ≡ rebuilt_samples i ctx (numbered n.now) w (up_to end qfs.now) spatial.old }
     ensures levels { qf.new ≡ rebuilt_levels i ctx (numbered n.now) w (up_to end qfs.now) qf.old }
     ensures outcome { rebuilt_outcome result ≡ rebuilt_due i ctx (numbered n.now) w (up_to end qfs.now) }
 {
-    let component = DcComponent::from_block_index(i);
-    match component {
-        BlockComponent::OutOfRange => BlockRebuilt::Refused(BlockAssemblyError::OutOfRange),
-        BlockComponent::Component(m) => {
-            if !assembly::context_fine(ctx, w) {
-                return BlockRebuilt::Refused(BlockAssemblyError::Context);
-            }
-            rebuild_up_to(m, qfs, end, ctx, n, w, spatial, qf)
-        }
+    let Some(m) = DcComponent::from_block_index(i) else {
+        return Err(BlockAssemblyError::OutOfRange);
+    };
+    if !assembly::context_fine(ctx, w) {
+        return Err(BlockAssemblyError::Context);
     }
+    rebuild_up_to(m, qfs, end, ctx, n, w, spatial, qf)
 }

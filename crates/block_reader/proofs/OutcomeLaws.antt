@@ -22,7 +22,7 @@ use Rattle.block_reader.specs.Rows.{blocks_answer, blocks_told}
 use Rattle.block_reader.specs.declared.read.PlacesRead.{PlacesRead}
 
 -- an answer beside its places
-abbrev places_outcome : PlacesRead → Outcome (ℕ × Spellings)
+abbrev pub places_outcome : PlacesRead → Outcome (ℕ × Spellings)
 places_outcome one = list_outcome one.answer
 
 module _ (d : List ℕ) where

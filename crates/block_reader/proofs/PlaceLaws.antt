@@ -1,7 +1,7 @@
 -- The places of a good block are 64, and in range: the difference at place 0, levels elsewhere. Assumes nothing.
 use mathlib.Core.Bool.{Bool, cond, false, true}
 use mathlib.Core.List.{List, [], ◌∷◌}
-use mathlib.Core.Option.{Option, none, some}
+use Rattle.std.specs.Prelude.{Option, None, Some}
 use mathlib.Core.Path.{◌≡◌, refl, subst⁻¹, ◌∙◌}
 use Prim.Native.Nat.{ℕ, suc, zero, ◌+◌, ◌-◌, ◌<◌, ◌^◌, ◌≤◌}
 use native.Mathlib.Omega.{arith}
@@ -87,11 +87,11 @@ module _ (rev dc_coded : Bool) where
     pub long : length xs ≡ 64
 
   list-levels : (coded : Bool) (l : Option Events) → GoodOpt coded (GoodList rev Intra (first_place dc_coded)) l → Levels (list_places dc_coded l)
-  list-levels coded none g = record { low = zeros-low; long = refl }
-  list-levels true (some es) g = record { low = placed-low rev Intra (first_place dc_coded) zeros es g.0 zeros-low; long = placed-long Intra (first_place dc_coded) zeros es }
-  list-levels false (some es) g = absurd g
+  list-levels coded None g = record { low = zeros-low; long = refl }
+  list-levels true (Some es) g = record { low = placed-low rev Intra (first_place dc_coded) zeros es g.0 zeros-low; long = placed-long Intra (first_place dc_coded) zeros es }
+  list-levels false (Some es) g = absurd g
 
-  good-dc : (c : DcComponent) (v : Dc) → (t : Bool) → GoodOpt t (GoodDc c) (some v) → GoodDc c v
+  good-dc : (c : DcComponent) (v : Dc) → (t : Bool) → GoodOpt t (GoodDc c) (Some v) → GoodDc c v
   good-dc c v true g = g
   good-dc c v false g = absurd g
 
@@ -102,8 +102,8 @@ module _ (rev dc_coded : Bool) where
     pub long : length xs ≡ 64
 
   with_dc_lem : (c : DcComponent) (x : Option Dc) (xs : List ℤ) → GoodOpt dc_coded (GoodDc c) x → Levels xs → InRange (with_dc c x xs)
-  with_dc_lem c none xs g l = record { first = let h = l.low 0 in omega arith; later = λ k a. l.low k; long = l.long }
-  with_dc_lem c (some v) xs g l =
+  with_dc_lem c None xs g l = record { first = let h = l.low 0 in omega arith; later = λ k a. l.low k; long = l.long }
+  with_dc_lem c (Some v) xs g l =
       let n : 0 < length xs = let e = l.long in omega arith in
       record {
         first = subst⁻¹ (λ (z : ℤ). nat_abs z ≤ 4095) (get_or-set_same xs 0 (difference_of c v) (pos 0) n) (difference_small c v (good-dc c v dc_coded g));

@@ -1,7 +1,6 @@
 -- The code's reading of a block, part by part, is the reader's. Assumes nothing.
 use mathlib.Core.Bool.{Bool, cond, false, true}
 use mathlib.Core.List.{List}
-use mathlib.Core.Option.{Option, none, some}
 use mathlib.Core.Path.{◌≡◌, ap, ap₂, refl, sym, subst, ◌∙◌}
 use Prim.Native.Nat.{ℕ, ◌*◌, ◌+◌, ◌≤◌}
 use native.Mathlib.Omega.{arith}
@@ -33,15 +32,14 @@ use Rattle.texture.specs.EventsReader.{list}
 use Rattle.sentences.specs.Macroblock.{Parts}
 use Rattle.texture.specs.Places.{zeros}
 use Rattle.fields.specs.Reader.{Res, ok, no, bind, mapped}
-use Rattle.dc_parts.specs.declared.dc.DcRead.TheVariants.{Dc as DcIs, Refused as DcRefused}
 use Rattle.dc_parts.specs.declared.dc.IntraDcDifferential.{IntraDcDifferential}
 use Rattle.fields.specs.declared.error.TextureParseError.{TextureParseError}
 use Rattle.fields.specs.declared.error.TextureParseError.TheVariants.{OutOfRange}
-use Rattle.texture.specs.declared.list.EventsRead.{EventsRead}
-use Rattle.texture.specs.declared.list.EventsRead.TheVariants.{Read as EventsAre, Refused as EventsRefused}
+use Rattle.numbers.proofs.Parts.{ok-parts}
 use Rattle.block_reader.proofs.PlaceLaws.{difference_small}
 use Rattle.block_reader.specs.Reading.{list_answer, list_at, list_read, parts_at, parts_read, places_answer, refused_by, with_difference}
 use Rattle.block_reader.specs.declared.read.PlacesRead.{PlacesRead}
+use Rattle.std.specs.Prelude.{Err, Ok, Result, Option, None, Some}
 
 -- ---- inside the data, and outside it
 
@@ -59,31 +57,31 @@ module _ (d : List ℕ) (at : ℕ) where
 -- ---- the list, if the block is coded
 
 pub not_coded_lem : (d : List ℕ) (c : Cursor) (n : Spellings) (dc_coded rev : Bool) → n ≡ no_spellings → in_data (length d) c.bit_pos ≡ true
-    → record { answer = EventsAre c n; qfs = zeros } ≡ list_answer d c.bit_pos false dc_coded rev
+    → record { answer = Ok (c, n); qfs = zeros } ≡ list_answer d c.bit_pos false dc_coded rev
 unfolding spellings_of
 not_coded_lem d c n dc_coded rev q e =
-    ap₂ {C = PlacesRead} (λ (x : Cursor) (k : Spellings). record { answer = EventsAre x k; qfs = zeros }) (place_is d c (in_data_yes (length d) c.bit_pos e).1) q
+    ap₂ {C = PlacesRead} (λ (x : Cursor) (k : Spellings). record { answer = Ok (x, k); qfs = zeros }) (place_is d c (in_data_yes (length d) c.bit_pos e).1) q
     ∙ sym (ap (λ (t : Bool). inside t (list_at d c.bit_pos false dc_coded rev)) e)
 
 module _ (d : List ℕ) (at : ℕ) (dc_coded rev : Bool) where
-  both : (x : Res Events) → ◌≡◌ {A = PlacesRead} (record { answer = list_told d x; qfs = places_told Intra (first_place dc_coded) x zeros }) (list_read d dc_coded (bind x (λ a r. ok (some a) r)))
+  both : (x : Res Events) → ◌≡◌ {A = PlacesRead} (record { answer = list_told d x; qfs = places_told Intra (first_place dc_coded) x zeros }) (list_read d dc_coded (bind x (λ a r. ok (Some a) r)))
   both (ok es r) = refl
   both (no e) = refl
 
-  pub is_coded : (a : EventsRead) (qfs : List ℤ) → a ≡ eventsAnswer d at rev Intra dc_coded → qfs ≡ places_after d at rev Intra dc_coded zeros
+  pub is_coded : (a : Result (Cursor × Spellings) TextureParseError) (qfs : List ℤ) → a ≡ eventsAnswer d at rev Intra dc_coded → qfs ≡ places_after d at rev Intra dc_coded zeros
       → record { answer = a; qfs = qfs } ≡ list_answer d at true dc_coded rev
   is_coded a qfs e f =
-      ap₂ {C = PlacesRead} (λ (x : EventsRead) (y : List ℤ). record { answer = x; qfs = y }) e f
+      ap₂ {C = PlacesRead} (λ (x : Result (Cursor × Spellings) TextureParseError) (y : List ℤ). record { answer = x; qfs = y }) e f
       ∙ go (in_data (length d) at) (list rev Intra (first_place dc_coded) (bits_from d at))
     where
       go : (t : Bool) (x : Res Events)
-          → ◌≡◌ {A = PlacesRead} (record { answer = cond t (list_told d x) (EventsRefused OutOfRange); qfs = cond t (places_told Intra (first_place dc_coded) x zeros) zeros })
-          (inside t (list_read d dc_coded (bind x (λ a r. ok (some a) r))))
+          → ◌≡◌ {A = PlacesRead} (record { answer = cond t (list_told d x) (Err OutOfRange); qfs = cond t (places_told Intra (first_place dc_coded) x zeros) zeros })
+          (inside t (list_read d dc_coded (bind x (λ a r. ok (Some a) r))))
       go true x = both x
       go false x = refl
 
   -- without DC codes the list is the block
-  alone : (m : DcComponent) (x : Res (Option Events)) → list_read d false x ≡ parts_read d m false (bind x (λ l r. ok (none, l) r))
+  alone : (m : DcComponent) (x : Res (Option Events)) → list_read d false x ≡ parts_read d m false (bind x (λ l r. ok (None, l) r))
   alone m (ok l r) = refl
   alone m (no e) = refl
 
@@ -104,39 +102,39 @@ module _ (d : List ℕ) (at : ℕ) (m : DcComponent) (coded rev : Bool) where
   list_of r = read_opt coded (list rev Intra 1) r
 
   abbrev parts : Res Dc → Res Parts
-  parts x = bind (bind x (λ a r. ok (some a) r)) (λ a r. bind (list_of r) (λ l r. ok (a, l) r))
+  parts x = bind (bind x (λ a r. ok (Some a) r)) (λ a r. bind (list_of r) (λ l r. ok (a, l) r))
 
-  pub dc-refused : (e : TextureParseError) → DcRefused e ≡ dc_answer d at m → refused_by e ≡ places_answer d at m coded true rev
+  pub dc-refused : (e : TextureParseError) → Err e ≡ dc_answer d at m → refused_by e ≡ places_answer d at m coded true rev
   dc-refused e q = go (in_data (length d) at) (read_dc m b) q
     where
-      go : (t : Bool) (x : Res Dc) → DcRefused e ≡ cond t (dc_told d (mapped (dc_value m) x)) (DcRefused OutOfRange) → refused_by e ≡ inside t (parts_read d m true (parts x))
+      go : (t : Bool) (x : Res Dc) → Err e ≡ cond t (dc_told d (mapped (dc_value m) x)) (Err OutOfRange) → refused_by e ≡ inside t (parts_read d m true (parts x))
       go true (ok a r) q = absurd (let z : ◌≡◌ {A = ℕ} 0 1 = cc in omega arith)
       go true (no n) q = let f : e ≡ n = cc in ap refused_by f
       go false x q = let f : e ≡ OutOfRange = cc in ap refused_by f
 
   -- a DC part that was read lies in the data
-  module _ (v : IntraDcDifferential) (next : Cursor) (q : DcIs v next ≡ dc_answer d at m) where
+  module _ (v : IntraDcDifferential) (next : Cursor) (q : Ok (v, next) ≡ dc_answer d at m) where
     dc_in : in_data (length d) at ≡ true
     dc_in = go (in_data (length d) at) q
       where
-        go : (t : Bool) → DcIs v next ≡ cond t (dc_told d (mapped (dc_value m) (read_dc m b))) (DcRefused OutOfRange) → t ≡ true
+        go : (t : Bool) → Ok (v, next) ≡ cond t (dc_told d (mapped (dc_value m) (read_dc m b))) (Err OutOfRange) → t ≡ true
         go true q = refl
         go false q = absurd (let z : ◌≡◌ {A = ℕ} 0 1 = cc in omega arith)
 
     two : (i a : ℕ) (y : Res (Option Events)) → with_difference (list_read d true y).answer (list_read d true y).qfs (dc_value m (dc i a)).differential
-        ≡ parts_read d m true (bind y (λ l r. ok (some (dc i a), l) r))
+        ≡ parts_read d m true (bind y (λ l r. ok (Some (dc i a), l) r))
     two i a (ok l r) = refl
     two i a (no n) = refl
 
     pub dc-next : Next d at m coded rev v next
-    dc-next = go (read_dc m b) refl (q ∙ ap (λ (t : Bool). cond t (dc_told d (mapped (dc_value m) (read_dc m b))) (DcRefused OutOfRange)) dc_in)
+    dc-next = go (read_dc m b) refl (q ∙ ap (λ (t : Bool). cond t (dc_told d (mapped (dc_value m) (read_dc m b))) (Err OutOfRange)) dc_in)
       where
-        go : (x : Res Dc) → read_dc m b ≡ x → DcIs v next ≡ dc_told d (mapped (dc_value m) x) → Next d at m coded rev v next
+        go : (x : Res Dc) → read_dc m b ≡ x → Ok (v, next) ≡ dc_told d (mapped (dc_value m) x) → Next d at m coded rev v next
         go (no n) e q = absurd (let z : ◌≡◌ {A = ℕ} 0 1 = cc in omega arith)
         go (ok (dc i a) r) e q =
             let h = in_data_yes (length d) at dc_in in
-            let f : v ≡ dc_value m (dc i a) = cc in
-            let g : next ≡ after d r = cc in
+            let f : v ≡ dc_value m (dc i a) = (ok-parts q).0 in
+            let g : next ≡ after d r = (ok-parts q).1 in
             let s : b ≡ dc_bits m (dc i a) ▸ r = ((dc_reads m).sound b (dc i a) r e).1 in
             let n = ap length s ∙ length-append (dc_bits m (dc i a)) r in
             let k = length-bits_from d at in

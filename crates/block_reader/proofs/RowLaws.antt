@@ -26,13 +26,12 @@ use Rattle.fields.specs.Reader.{Res, mapped, no, ok}
 use Rattle.sentences.specs.Sentences.{Sentences}
 use Rattle.fields.specs.declared.error.TextureParseError.{TextureParseError}
 use Rattle.fields.specs.declared.error.TextureParseError.TheVariants.{OutOfRange}
-use Rattle.texture.specs.declared.list.EventsRead.{EventsRead}
-use Rattle.texture.specs.declared.list.EventsRead.TheVariants.{Read as EventsAre, Refused as EventsRefused}
 use Rattle.block_reader.proofs.SentenceLaws.{none, sentence}
 use Rattle.block_reader.specs.Reading.{parts_at}
 use Rattle.codes.specs.Component.{component_at}
 use Rattle.block_reader.specs.Rows.{InsideRows, RowsSay, blocks_answer, blocks_told, read_row, read_rows, read_spellings, row_of, rows_after, rows_of, rows_told, said_rows, said_spellings}
 use Rattle.block_reader.specs.declared.read.PlacesRead.{PlacesRead}
+use Rattle.std.specs.Prelude.{Err, Ok, Result}
 
 -- block i of a pattern
 pub place_at : (pattern : List Bool) (i : ℕ) (s : Place) → i < 6 → get_or (places_of_pattern pattern) i s ≡ (component_at i, get_or pattern i false)
@@ -74,13 +73,13 @@ pub record RowRead (d : List ℕ) (at : ℕ) (s : Place) (dc_coded rev : Bool) (
 
 module _ (d : List ℕ) (c : Cursor) (l : c.bit_pos ≤ 8 * length d) (m : DcComponent) (coded dc_coded rev : Bool) (one : PlacesRead) (q : one ≡ parts_at d c.bit_pos m coded dc_coded rev) where
   -- refused, as a block and as a row
-  pub block_refused : {e : TextureParseError} → one.answer ≡ EventsRefused e → read_block dc_coded rev (m, coded) (bits_from d c.bit_pos) ≡ no e
+  pub block_refused : {e : TextureParseError} → one.answer ≡ Err e → read_block dc_coded rev (m, coded) (bits_from d c.bit_pos) ≡ no e
   block_refused f = none d c.bit_pos m coded dc_coded rev one q f
 
-  pub row-refused : {e : TextureParseError} → one.answer ≡ EventsRefused e → read_row dc_coded rev (m, coded) (bits_from d c.bit_pos) ≡ no e
+  pub row-refused : {e : TextureParseError} → one.answer ≡ Err e → read_row dc_coded rev (m, coded) (bits_from d c.bit_pos) ≡ no e
   row-refused f = ap (mapped (row_of dc_coded (m, coded))) (block_refused f)
 
-  pub row_read_lem : {next : Cursor} {n : Spellings} → one.answer ≡ EventsAre next n → RowRead d c.bit_pos (m, coded) dc_coded rev one.qfs next n
+  pub row_read_lem : {next : Cursor} {n : Spellings} → one.answer ≡ Ok (next, n) → RowRead d c.bit_pos (m, coded) dc_coded rev one.qfs next n
   row_read_lem {next} {n} f =
       let s = sentence d c.bit_pos m coded dc_coded rev one q f in
       let o = rest_on (block_sentences dc_coded rev (m, coded)) d c.bit_pos l s.parts s.rest s.read in
@@ -106,27 +105,27 @@ module _ (d : List ℕ) (at : ℕ) (pattern : List Bool) (dc_coded rev : Bool) w
 
   -- outside the data
   pub blocks_out : (old : List (List ℤ)) → in_data (length d) at ≡ false
-      → (EventsRefused OutOfRange ≡ blocks_answer d at pattern dc_coded rev) × (old ≡ rows_after d at pattern dc_coded rev old)
+      → (Err OutOfRange ≡ blocks_answer d at pattern dc_coded rev) × (old ≡ rows_after d at pattern dc_coded rev old)
   unfolding blocks_answer rows_after
   blocks_out old e = (
-    sym (ap (λ (t : Bool). cond t (blocks_told d read) (EventsRefused OutOfRange)) e),
+    sym (ap (λ (t : Bool). cond t (blocks_told d read) (Err OutOfRange)) e),
     sym (ap (λ (t : Bool). cond t (rows_told dc_coded pattern read old) old) e),
   )
 
-  module _ (h : in_data (length d) at ≡ true) (r : EventsRead) (rows old : List (List ℤ))
+  module _ (h : in_data (length d) at ≡ true) (r : Result (Cursor × Spellings) TextureParseError) (rows old : List (List ℤ))
       (says : RowsSay d r rows (read_rows dc_coded rev pattern (bits_from d at)) (read_spellings dc_coded rev pattern (bits_from d at))) where
     in_answer : blocks_answer d at pattern dc_coded rev ≡ blocks_told d read
     unfolding blocks_answer
-    in_answer = ap (λ (t : Bool). cond t (blocks_told d read) (EventsRefused OutOfRange)) h
+    in_answer = ap (λ (t : Bool). cond t (blocks_told d read) (Err OutOfRange)) h
 
     in_rows : rows_after d at pattern dc_coded rev old ≡ rows_told dc_coded pattern read old
     unfolding rows_after
     in_rows = ap (λ (t : Bool). cond t (rows_told dc_coded pattern read old) old) h
 
-    pub blocks_refused : {e : TextureParseError} → r ≡ EventsRefused e
-        → (EventsRefused e ≡ blocks_answer d at pattern dc_coded rev) × (old ≡ rows_after d at pattern dc_coded rev old)
+    pub blocks_refused : {e : TextureParseError} → r ≡ Err e
+        → (Err e ≡ blocks_answer d at pattern dc_coded rev) × (old ≡ rows_after d at pattern dc_coded rev old)
     blocks_refused {e} q =
-        let w = go read (sym (ap (λ (x : EventsRead). said_rows d x rows) q) ∙ says.is ∙ rows-read) in
+        let w = go read (sym (ap (λ (x : Result (Cursor × Spellings) TextureParseError). said_rows d x rows) q) ∙ says.is ∙ rows-read) in
         (sym (in_answer ∙ ap (blocks_told d) w), sym (in_rows ∙ ap (λ (y : Res (List Parts)). rows_told dc_coded pattern y old) w))
       where
         go : (y : Res (List Parts)) → no e ≡ mapped (rows_of dc_coded pattern) y → y ≡ no e
@@ -137,20 +136,20 @@ module _ (d : List ℕ) (at : ℕ) (pattern : List Bool) (dc_coded rev : Bool) w
     unfolding read_spellings
     spellings-read = refl
 
-    pub blocks_read : {next : Cursor} {n : Spellings} → r ≡ EventsAre next n
-        → (EventsAre next n ≡ blocks_answer d at pattern dc_coded rev) × (rows ≡ rows_after d at pattern dc_coded rev old)
+    pub blocks_read : {next : Cursor} {n : Spellings} → r ≡ Ok (next, n)
+        → (Ok (next, n) ≡ blocks_answer d at pattern dc_coded rev) × (rows ≡ rows_after d at pattern dc_coded rev old)
     blocks_read {next} {n} q =
         let k : next.bit_pos ≤ 8 * length d = subst (InsideRows d) q says.inside in
-        let w = go read (sym (ap (λ (x : EventsRead). said_rows d x rows) q) ∙ says.is ∙ rows-read) (sym (ap (said_spellings d) q) ∙ says.counted ∙ spellings-read) in (
-          ap (λ (c : Cursor). EventsAre c n) (place_is d next k) ∙ w.0 ∙ sym in_answer,
+        let w = go read (sym (ap (λ (x : Result (Cursor × Spellings) TextureParseError). said_rows d x rows) q) ∙ says.is ∙ rows-read) (sym (ap (said_spellings d) q) ∙ says.counted ∙ spellings-read) in (
+          ap (λ (c : Cursor). Ok (c, n)) (place_is d next k) ∙ w.0 ∙ sym in_answer,
           w.1 ∙ sym in_rows,
         )
       where
         go : (y : Res (List Parts)) → ok rows (bits_from d next.bit_pos) ≡ mapped (rows_of dc_coded pattern) y → ok n (bits_from d next.bit_pos) ≡ mapped counts_in y
-            → (EventsAre (after d (bits_from d next.bit_pos)) n ≡ blocks_told d y) × (rows ≡ rows_told dc_coded pattern y old)
+            → (Ok (after d (bits_from d next.bit_pos), n) ≡ blocks_told d y) × (rows ≡ rows_told dc_coded pattern y old)
         go (ok ps s) q p =
             let a : bits_from d next.bit_pos ≡ s = cc in
             let b : rows ≡ rows_of dc_coded pattern ps = cc in
             let c : n ≡ counts_in ps = cc in
-            (ap₂ (λ (z : Bits) (k : Spellings). EventsAre (after d z) k) a c, b)
+            (ap₂ (λ (z : Bits) (k : Spellings). Ok (after d z, k)) a c, b)
         go (no w) q p = absurd (let z : ◌≡◌ {A = ℕ} 0 1 = cc in omega arith)

@@ -1,6 +1,5 @@
 -- The 64 places that the bits of one block give, and the answer to a reading of them. Definitions only.
-use Rattle.std.specs.Prelude.{Bool, cond, List, ℕ, ℤ, length, set}
-use Rattle.std.proofs.Math.Option.{Option, none, some}
+use Rattle.std.specs.Prelude.{Bool, cond, List, ℕ, ℤ, length, set, Err, Ok, Result, Option, None, Some}
 use Rattle.bits.specs.Bits.{bits_from}
 use Rattle.bits.specs.Cursor.{in_data}
 use Rattle.codes.specs.declared.dc_size.DcComponent.{DcComponent}
@@ -17,38 +16,38 @@ use Rattle.texture.specs.Places.{places_of, zeros}
 use Rattle.fields.specs.Reader.{Res, ok, no}
 use Rattle.fields.specs.declared.error.TextureParseError.{TextureParseError}
 use Rattle.fields.specs.declared.error.TextureParseError.TheVariants.{OutOfRange}
-use Rattle.texture.specs.declared.list.EventsRead.{EventsRead}
-use Rattle.texture.specs.declared.list.EventsRead.TheVariants.{Read as EventsAre, Refused as EventsRefused}
 use Rattle.block_reader.specs.declared.read.PlacesRead.{PlacesRead}
+use Rattle.bits.specs.declared.cursor.Cursor.{Cursor}
+use Rattle.events.specs.declared.spelling.Spellings.{Spellings}
 
 -- the events in their places, from 1 after a DC code and from 0 without one
 abbrev pub list_places : Bool → Option Events → List ℤ
-list_places dc_coded none = zeros
-list_places dc_coded (some es) = places_of Intra (first_place dc_coded) es
+list_places dc_coded None = zeros
+list_places dc_coded (Some es) = places_of Intra (first_place dc_coded) es
 
 -- QFS: a DC part's difference stands at place 0 (7.4.1.1)
 abbrev pub with_dc : DcComponent → Option Dc → List ℤ → List ℤ
-with_dc c none qfs = qfs
-with_dc c (some v) qfs = set qfs 0 (difference_of c v)
+with_dc c None qfs = qfs
+with_dc c (Some v) qfs = set qfs 0 (difference_of c v)
 
 abbrev pub qfs_of : DcComponent → Bool → Parts → List ℤ
 qfs_of c dc_coded p = with_dc c p.0 (list_places dc_coded p.1)
 
 -- what a reading gives: the cursor after the block, the number of its events of each spelling and its places, or a refusal and zeros
 abbrev pub refused_by : TextureParseError → PlacesRead
-refused_by e = record { answer = EventsRefused e; qfs = zeros }
+refused_by e = record { answer = Err e; qfs = zeros }
 
 -- a DC part's difference put before what its list gave
-abbrev pub with_difference : EventsRead → List ℤ → ℤ → PlacesRead
-with_difference (EventsAre c n) qfs z = record { answer = EventsAre c n; qfs = set qfs 0 z }
-with_difference (EventsRefused e) qfs z = refused_by e
+abbrev pub with_difference : Result (Cursor × Spellings) TextureParseError → List ℤ → ℤ → PlacesRead
+with_difference (Ok (c, n)) qfs z = record { answer = Ok (c, n); qfs = set qfs 0 z }
+with_difference (Err e) qfs z = refused_by e
 
 abbrev pub list_read : List ℕ → Bool → Res (Option Events) → PlacesRead
-list_read d dc_coded (ok l r) = record { answer = EventsAre (after d r) (spellings_of (events_of l)); qfs = list_places dc_coded l }
+list_read d dc_coded (ok l r) = record { answer = Ok (after d r, spellings_of (events_of l)); qfs = list_places dc_coded l }
 list_read d dc_coded (no e) = refused_by e
 
 abbrev pub parts_read : List ℕ → DcComponent → Bool → Res Parts → PlacesRead
-parts_read d c dc_coded (ok p r) = record { answer = EventsAre (after d r) (spellings_of (events_of p.1)); qfs = qfs_of c dc_coded p }
+parts_read d c dc_coded (ok p r) = record { answer = Ok (after d r, spellings_of (events_of p.1)); qfs = qfs_of c dc_coded p }
 parts_read d c dc_coded (no e) = refused_by e
 
 abbrev pub list_at : List ℕ → ℕ → Bool → Bool → Bool → PlacesRead

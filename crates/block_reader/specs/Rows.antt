@@ -1,5 +1,5 @@
 -- The six blocks of a macroblock out of their bits: a row of 64 places for each, and the answer to a reading of them. Definitions only.
-use Rattle.std.specs.Prelude.{Bool, cond, List, ◌≡◌, ℕ, ◌*◌, ◌≤◌, ℤ, length}
+use Rattle.std.specs.Prelude.{Bool, cond, List, ◌≡◌, ℕ, ◌*◌, ◌≤◌, ℤ, length, Err, Ok, Result}
 use Rattle.bits.specs.Bits.{Bits, bits_from}
 use Rattle.bits.specs.Cursor.{in_data}
 use Rattle.events.specs.Spellings.{spellings_of}
@@ -11,9 +11,9 @@ use Rattle.sentences.specs.Macroblock.{Parts, Place, events_in, places_of_patter
 use Rattle.sentences.specs.MacroblockReader.{read_block, read_macroblock}
 use Rattle.fields.specs.Reader.{Res, mapped, no, ok}
 use Rattle.fields.specs.declared.error.TextureParseError.TheVariants.{OutOfRange}
-use Rattle.texture.specs.declared.list.EventsRead.{EventsRead}
-use Rattle.texture.specs.declared.list.EventsRead.TheVariants.{Read as EventsAre, Refused as EventsRefused}
 use Rattle.block_reader.specs.Reading.{qfs_of}
+use Rattle.bits.specs.declared.cursor.Cursor.{Cursor}
+use Rattle.fields.specs.declared.error.TextureParseError.{TextureParseError}
 
 -- the places of the parts of a block
 abbrev pub row_of : Bool → Place → Parts → List ℤ
@@ -23,9 +23,9 @@ row_of dc_coded s p = qfs_of s.0 dc_coded p
 abbrev pub rows_of : Bool → List Bool → List Parts → List (List ℤ)
 rows_of dc_coded pattern ps = each_with (row_of dc_coded) (places_of_pattern pattern) ps
 
-abbrev pub blocks_told : List ℕ → Res (List Parts) → EventsRead
-blocks_told d (ok ps r) = EventsAre (after d r) (spellings_of (events_in ps))
-blocks_told d (no e) = EventsRefused e
+abbrev pub blocks_told : List ℕ → Res (List Parts) → Result (Cursor × Spellings) TextureParseError
+blocks_told d (ok ps r) = Ok (after d r, spellings_of (events_in ps))
+blocks_told d (no e) = Err e
 
 abbrev pub rows_told : Bool → List Bool → Res (List Parts) → List (List ℤ) → List (List ℤ)
 rows_told dc_coded pattern (ok ps r) old = rows_of dc_coded pattern ps
@@ -33,8 +33,8 @@ rows_told dc_coded pattern (no e) old = old
 
 module _ (d : List ℕ) (at : ℕ) (pattern : List Bool) (dc_coded rev : Bool) where
   -- the cursor after the six blocks and the number of their events of each spelling, or a refusal
-  unfoldable pub blocks_answer : EventsRead
-  blocks_answer = cond (in_data (length d) at) (blocks_told d (read_macroblock dc_coded rev pattern (bits_from d at))) (EventsRefused OutOfRange)
+  unfoldable pub blocks_answer : Result (Cursor × Spellings) TextureParseError
+  blocks_answer = cond (in_data (length d) at) (blocks_told d (read_macroblock dc_coded rev pattern (bits_from d at))) (Err OutOfRange)
 
   -- their rows; a refusal leaves lent rows as they were
   unfoldable pub rows_after : List (List ℤ) → List (List ℤ)
@@ -52,19 +52,19 @@ read_rows dc_coded rev pattern b = read_each (read_row dc_coded rev) (places_of_
 unfoldable pub read_spellings : Bool → Bool → List Bool → Bits → Res Spellings
 read_spellings dc_coded rev pattern b = mapped (λ ps. spellings_of (events_in ps)) (read_macroblock dc_coded rev pattern b)
 
-abbrev pub said_spellings : List ℕ → EventsRead → Res Spellings
-said_spellings d (EventsAre c n) = ok n (bits_from d c.bit_pos)
-said_spellings d (EventsRefused e) = no e
+abbrev pub said_spellings : List ℕ → Result (Cursor × Spellings) TextureParseError → Res Spellings
+said_spellings d (Ok (c, n)) = ok n (bits_from d c.bit_pos)
+said_spellings d (Err e) = no e
 
-abbrev pub said_rows : List ℕ → EventsRead → List (List ℤ) → Res (List (List ℤ))
-said_rows d (EventsAre c n) rows = ok rows (bits_from d c.bit_pos)
-said_rows d (EventsRefused e) rows = no e
+abbrev pub said_rows : List ℕ → Result (Cursor × Spellings) TextureParseError → List (List ℤ) → Res (List (List ℤ))
+said_rows d (Ok (c, n)) rows = ok rows (bits_from d c.bit_pos)
+said_rows d (Err e) rows = no e
 
-abbrev pub InsideRows : List ℕ → EventsRead → Type 0
-InsideRows d (EventsAre c n) = c.bit_pos ≤ 8 * length d
-InsideRows d (EventsRefused e) = Unit {0}
+abbrev pub InsideRows : List ℕ → Result (Cursor × Spellings) TextureParseError → Type 0
+InsideRows d (Ok (c, n)) = c.bit_pos ≤ 8 * length d
+InsideRows d (Err e) = Unit {0}
 
-pub record RowsSay (d : List ℕ) (r : EventsRead) (rows : List (List ℤ)) (m : Res (List (List ℤ))) (k : Res Spellings) : Type 0 where
+pub record RowsSay (d : List ℕ) (r : Result (Cursor × Spellings) TextureParseError) (rows : List (List ℤ)) (m : Res (List (List ℤ))) (k : Res Spellings) : Type 0 where
   pub is : said_rows d r rows ≡ m
   pub counted : said_spellings d r ≡ k
   pub inside : InsideRows d r

@@ -9,14 +9,14 @@ ghost use Rattle.texture.specs.Outcomes.{list_outcome};
 ghost use Rattle.block_reader.specs.Outcomes.{blocks_due, places_due};
 ghost use Rattle.block_reader.specs.Rows.{RowsSay, blocks_answer, read_rows, read_spellings, rows_after};
 
-use bits::{BitCount, Cursor};
+use bits::Cursor;
 use codes::{DcComponent, TcoefTable};
-use texture::{DcRead, EventsRead, Spellings, TextureParseError};
+use texture::{Spellings, TextureParseError};
 
 // The cursor after a block and the number of its events of each spelling, or a refusal, and its 64 places, zeros where it refused.
 #[derive(Clone, Copy)]
 pub struct PlacesRead {
-    pub answer: EventsRead,
+    pub answer: Result<(Cursor, Spellings), TextureParseError>,
     pub qfs: [i32; 64],
 }
 
@@ -24,7 +24,7 @@ fn refusal(e: TextureParseError) -> PlacesRead
     ensures { result ≡ refused_by e }
 {
     PlacesRead {
-        answer: EventsRead::Refused(e),
+        answer: Err(e),
         qfs: [0i32; 64],
     }
 }
@@ -33,27 +33,21 @@ fn refusal(e: TextureParseError) -> PlacesRead
 fn read_list(data: &[u8], c: Cursor, coded: bool, dc_coded: bool, reversible: bool) -> PlacesRead
     ensures { result ≡ list_answer «data».now c.bit_pos coded dc_coded reversible }
 {
-    let mut qfs = [0i32; 64];
     if !coded {
-        let left = c.remaining_bits(data);
-        match left {
-            BitCount::Refused(_) => {
-                return refusal(TextureParseError::OutOfRange);
-            }
-            BitCount::Bits(_) => {
-                return PlacesRead {
-                    answer: EventsRead::Read(c, Spellings::none()),
-                    qfs,
-                };
-            }
-        }
+        return match c.remaining_bits(data) {
+            Err(_) => refusal(TextureParseError::OutOfRange),
+            Ok(_) => PlacesRead {
+                answer: Ok((c, Spellings::none())),
+                qfs: [0i32; 64],
+            },
+        };
     }
-    let intra = TcoefTable::Intra;
-    if reversible {
-        let answer = texture::decode_ac_events_rvlc(data, c, intra, dc_coded, &mut qfs);
-        return PlacesRead { answer, qfs };
-    }
-    let answer = texture::decode_ac_events(data, c, intra, dc_coded, &mut qfs);
+    let mut qfs = [0i32; 64];
+    let answer = if reversible {
+        texture::decode_ac_events_rvlc(data, c, TcoefTable::Intra, dc_coded, &mut qfs)
+    } else {
+        texture::decode_ac_events(data, c, TcoefTable::Intra, dc_coded, &mut qfs)
+    };
     PlacesRead { answer, qfs }
 }
 
@@ -61,14 +55,13 @@ fn read_list(data: &[u8], c: Cursor, coded: bool, dc_coded: bool, reversible: bo
 fn with_difference(one: PlacesRead, difference: i32) -> PlacesRead
     ensures { result ≡ with_difference one.answer one.qfs difference }
 {
-    let answer = one.answer;
-    match answer {
-        EventsRead::Refused(e) => refusal(e),
-        EventsRead::Read(next, spellings) => {
+    match one.answer {
+        Err(e) => refusal(e),
+        Ok(read) => {
             let mut qfs = one.qfs;
             qfs[0] = difference;
             PlacesRead {
-                answer: EventsRead::Read(next, spellings),
+                answer: Ok(read),
                 qfs,
             }
         }
@@ -90,10 +83,9 @@ pub fn read_block(
     if !dc_coded {
         return read_list(data, c, coded, false, reversible);
     }
-    let dc = texture::decode_intra_dc(data, c, component);
-    match dc {
-        DcRead::Refused(e) => refusal(e),
-        DcRead::Dc(v, next) => {
+    match texture::decode_intra_dc(data, c, component) {
+        Err(e) => refusal(e),
+        Ok((v, next)) => {
             let one = read_list(data, next, coded, true, reversible);
             with_difference(one, v.differential)
         }
@@ -105,9 +97,10 @@ fn component(i: usize) -> DcComponent
     ensures { result ≡ component_at i }
 {
     if i < 4 {
-        return DcComponent::Luminance;
+        DcComponent::Luminance
+    } else {
+        DcComponent::Chrominance
     }
-    DcComponent::Chrominance
 }
 
 // The events of two parts together.
@@ -132,28 +125,28 @@ fn read_rows(
     dc_coded: bool,
     reversible: bool,
     rows: &mut [[i32; 64]; 6],
-) -> EventsRead
+) -> Result<(Cursor, Spellings), TextureParseError>
     requires { Readable «data».now start × (length rows.old ≡ 6) }
     ensures { RowsSay «data».now result rows.new (read_rows dc_coded reversible pattern (bits_from «data».now start.bit_pos)) (read_spellings dc_coded reversible pattern (bits_from «data».now start.bit_pos)) }
 {
     let mut c = start;
     let mut spellings = Spellings::none();
+    // an index: the component goes by it too
     for i in 0..6 {
-        let one = read_block(data, c, component(i), pattern[i], dc_coded, reversible);
-        let answer = one.answer;
-        match answer {
-            EventsRead::Refused(e) => {
-                return EventsRead::Refused(e);
-            }
-            EventsRead::Read(next, more) => {
-                let qfs = one.qfs;
-                rows[i] = qfs;
-                c = next;
-                spellings = sum(spellings, more);
-            }
-        }
+        let PlacesRead { answer, qfs } = read_block(
+            data,
+            c,
+            component(i),
+            pattern[i],
+            dc_coded,
+            reversible,
+        );
+        let (next, more) = answer?;
+        rows[i] = qfs;
+        c = next;
+        spellings = sum(spellings, more);
     }
-    EventsRead::Read(c, spellings)
+    Ok((c, spellings))
 }
 
 // The six blocks of a macroblock for its pattern, each into its row of 64 places.
@@ -164,31 +157,23 @@ pub fn read_blocks(
     use_intra_dc_vlc: bool,
     reversible_vlc: bool,
     rows: &mut [[i32; 64]; 6],
-) -> EventsRead
+) -> Result<(Cursor, Spellings), TextureParseError>
     ensures value { result ≡ blocks_answer «data».now c.bit_pos pattern use_intra_dc_vlc reversible_vlc }
     ensures rows { rows.new ≡ rows_after «data».now c.bit_pos pattern use_intra_dc_vlc reversible_vlc rows.old }
     ensures outcome { list_outcome result ≡ blocks_due «data».now c.bit_pos pattern use_intra_dc_vlc reversible_vlc }
 {
-    let left = c.remaining_bits(data);
-    match left {
-        BitCount::Refused(_) => EventsRead::Refused(TextureParseError::OutOfRange),
-        BitCount::Bits(_) => {
-            let mut filled = [[0i32; 64]; 6];
-            let answer = read_rows(
-                data,
-                c,
-                pattern,
-                use_intra_dc_vlc,
-                reversible_vlc,
-                &mut filled,
-            );
-            match answer {
-                EventsRead::Refused(e) => EventsRead::Refused(e),
-                EventsRead::Read(next, spellings) => {
-                    *rows = filled;
-                    EventsRead::Read(next, spellings)
-                }
-            }
-        }
-    }
+    let Ok(_) = c.remaining_bits(data) else {
+        return Err(TextureParseError::OutOfRange);
+    };
+    let mut filled = [[0i32; 64]; 6];
+    let (next, spellings) = read_rows(
+        data,
+        c,
+        pattern,
+        use_intra_dc_vlc,
+        reversible_vlc,
+        &mut filled,
+    )?;
+    *rows = filled;
+    Ok((next, spellings))
 }

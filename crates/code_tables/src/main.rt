@@ -16,7 +16,7 @@ fn number(rt: &impl Print, n: u32) -> io::Result<()> {
 }
 
 fn small(rt: &impl Print, n: u8) -> io::Result<()> {
-    number(rt, n as u32)
+    number(rt, u32::from(n))
 }
 
 fn space(rt: &impl Print) -> io::Result<()> {
@@ -28,22 +28,14 @@ fn newline(rt: &impl Print) -> io::Result<()> {
 }
 
 fn bit(rt: &impl Print, b: u32) -> io::Result<()> {
-    if b == 1 {
-        text(rt, b"1")
-    } else {
-        text(rt, b"0")
-    }
+    rt.print(b)
 }
 
 // A code, top bit first.
 fn code_bits(rt: &impl Print, code: u32, len: u32) -> io::Result<()> {
     space(rt)?;
-    let mut k = 32;
-    while 0 < k {
-        k -= 1;
-        if k < len {
-            bit(rt, (code >> k) % 2)?;
-        }
+    for k in (0..len.min(32)).rev() {
+        bit(rt, (code >> k) % 2)?;
     }
     Ok(())
 }
@@ -60,9 +52,7 @@ fn tcoef(rt: &impl Print, name: &[u8], table: TcoefTable) -> io::Result<()> {
     let codes = codes::tcoef_codes();
     let lens = codes::tcoef_lens();
     let events = codes::tcoef_events(table);
-    for i in 0..102 {
-        let code = codes[i];
-        let len = lens[i];
+    for (&code, &len) in codes.iter().zip(&lens).take(102) {
         let row = codes::find_row(&codes, &lens, 102, window(code, len), 16);
         if row < 102 {
             text(rt, name)?;
@@ -82,9 +72,7 @@ fn rvlc(rt: &impl Print, name: &[u8], table: TcoefTable) -> io::Result<()> {
     let codes = codes::rvlc_codes();
     let lens = codes::rvlc_lens();
     let events = codes::rvlc_events(table);
-    for i in 0..169 {
-        let code = codes[i];
-        let len = lens[i];
+    for (&code, &len) in codes.iter().zip(&lens).take(169) {
         let row = codes::find_row(&codes, &lens, 169, window(code, len), 16);
         if row < 169 {
             text(rt, name)?;
@@ -101,9 +89,7 @@ fn rvlc(rt: &impl Print, name: &[u8], table: TcoefTable) -> io::Result<()> {
 fn dc_size(rt: &impl Print, name: &[u8], component: DcComponent) -> io::Result<()> {
     let codes = codes::dc_size_codes(component);
     let lens = codes::dc_size_lens(component);
-    for i in 0..13 {
-        let code = codes[i];
-        let len = lens[i];
+    for (&code, &len) in codes.iter().zip(&lens) {
         let row = codes::find_row(&codes, &lens, 13, window(code, len), 16);
         if row < 13 {
             text(rt, name)?;
@@ -127,9 +113,7 @@ fn type_and_cbpc(rt: &impl Print, row: u32) -> io::Result<()> {
 fn mcbpc(rt: &impl Print, name: &[u8]) -> io::Result<()> {
     let codes = codes::mcbpc_codes();
     let lens = codes::mcbpc_lens();
-    for i in 0..9 {
-        let code = codes[i];
-        let len = lens[i];
+    for (&code, &len) in codes.iter().zip(&lens) {
         let row = codes::find_row(&codes, &lens, 9, window(code, len), 16);
         if row < 9 {
             text(rt, name)?;
@@ -144,9 +128,7 @@ fn mcbpc(rt: &impl Print, name: &[u8]) -> io::Result<()> {
 fn cbpy(rt: &impl Print, name: &[u8]) -> io::Result<()> {
     let codes = codes::cbpy_codes();
     let lens = codes::cbpy_lens();
-    for i in 0..16 {
-        let code = codes[i];
-        let len = lens[i];
+    for (&code, &len) in codes.iter().zip(&lens) {
         let row = codes::find_row(&codes, &lens, 16, window(code, len), 16);
         if row < 16 {
             text(rt, name)?;

@@ -7,9 +7,8 @@ use borrow.Author.Tests.{le-ltb, lt-ltb}
 use Rattle.numbers.proofs.Fill.{lt-or-le}
 use Rattle.numbers.specs.Outcome.{Outcome, accepted, refused}
 use Rattle.codes.specs.Component.{component_due, component_of, component_outcome}
-use Rattle.codes.specs.declared.dc_size.BlockComponent.{BlockComponent}
-use Rattle.codes.specs.declared.dc_size.BlockComponent.TheVariants.{Component, OutOfRange}
 use Rattle.codes.specs.declared.dc_size.DcComponent.{DcComponent}
+use Rattle.std.specs.Prelude.{None, Option, Some}
 
 pub component_due_lem : (i : ℕ) → component_outcome (component_of i) ≡ component_due i
 component_due_lem i = ⊎_elim luminance (λ (h : 4 ≤ i). ⊎_elim (chrominance h) none (lt-or-le i 6)) (lt-or-le i 4)
@@ -24,13 +23,13 @@ component_due_lem i = ⊎_elim luminance (λ (h : 4 ≤ i). ⊎_elim (chrominanc
     none h = simp (le-ltb i 4 (omega arith), le-ltb i 6 h)
 
 -- an answer out of its outcome
-abbrev component_by : Outcome DcComponent → BlockComponent
-component_by (accepted c) = Component c
-component_by (refused n f) = OutOfRange
+abbrev component_by : Outcome DcComponent → Option DcComponent
+component_by (accepted c) = Some c
+component_by (refused n f) = None
 
-component_by_lem : (r : BlockComponent) → r ≡ component_by (component_outcome r)
-component_by_lem (Component c) = refl
-component_by_lem OutOfRange = refl
+component_by_lem : (r : Option DcComponent) → r ≡ component_by (component_outcome r)
+component_by_lem (Some c) = refl
+component_by_lem None = refl
 
-pub component_apart : (r s : BlockComponent) → component_outcome r ≡ component_outcome s → r ≡ s
+pub component_apart : (r s : Option DcComponent) → component_outcome r ≡ component_outcome s → r ≡ s
 component_apart r s h = component_by_lem r ∙ ap component_by h ∙ sym (component_by_lem s)

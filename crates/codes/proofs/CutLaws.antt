@@ -3,13 +3,13 @@ use mathlib.Core.Bool.{Bool, ◌&&◌, false, true}
 use mathlib.Core.List.{List, [], ◌++◌, append_assoc, append-nil}
 use mathlib.Core.Logic.{⊎_elim, ◌↔◌}
 use mathlib.Core.Path.{◌≡◌, ◌∙◌, ap, ap₂, refl, subst, sym}
-use Prim.Native.Nat.{◌+◌, ◌-◌, ◌/◌, ◌<◌, ◌^◌, ◌≤◌, ℕ, zero-le}
+use Prim.Native.Nat.{◌-◌, ◌/◌, ◌<◌, ◌^◌, ◌≤◌, ℕ, zero-le}
 use native.Mathlib.Omega.{arith}
 use lib.Dec.{T, eqb, eqb_refl, eqb→eq, leb, leb→le, le→leb, lt→ltb, ltb, ltb→lt}
 use lib.ListN.{get_or, length, length-append, length-take, take}
 use lib.Seq.{take_all}
 use mir.Facts.{yes_and}
-use borrow.Author.Tests.{le-ltb, lt-ltb}
+use borrow.Author.Tests.{lt-ltb}
 use Rattle.bits.proofs.BitLaws.{bin-val, length-bin, val-bin, val-lt}
 use Rattle.bits.specs.Bits.{Bits, bin, val}
 use Rattle.codes.proofs.SearchLaws.{seek_hit, seek-some}
@@ -30,9 +30,6 @@ use Rattle.numbers.proofs.Tests.{F-false, T_true, and_left, and_right, true-T}
 
 pub cut-is : (w n d m : ℕ) → n < m → cut w n d m ≡ eqb w (d / 2 ^ (m - n))
 cut-is w n d m l = ap (λ (t : Bool). t && eqb w (d / 2 ^ (m - n))) (lt-ltb n m l)
-
-pub cut-whole : (w n d m : ℕ) → m ≤ n → cut w n d m ≡ false
-cut-whole w n d m l = ap (λ (t : Bool). t && eqb w (d / 2 ^ (m - n))) (le-ltb n m l)
 
 -- a code of m bits that begins with the bits u and has more
 abbrev Longer : Bits → ℕ → ℕ → Type 0

@@ -16,6 +16,8 @@ use Rattle.bits.specs.Bits.{Bits, bin, val}
 use Rattle.codes.proofs.SearchLaws.{seek_hit, seek-none, seek_at}
 use Rattle.codes.specs.Table.{Found, hit, prefix_free, agree, apart_from, code_bits, sound_row, row_at, row_in}
 use Rattle.numbers.proofs.Tests.{F-false, T_true, and_left, and_right}
+use Rattle.std.specs.Option.{unwrap_or}
+use Rattle.std.specs.Prelude.{None, Option, Some, SomeIff}
 
 -- ---- a code at the front of a window
 
@@ -48,15 +50,17 @@ hit_yes w n d m l e = T_true (hit w n d m) (yes_and (leb m n) (eqb (w / 2 ^ (n -
 pub hit-is : (w n d m : ℕ) → m ≤ n → hit w n d m ≡ eqb (w / 2 ^ (n - m)) d
 hit-is w n d m l = ap (λ (t : Bool). t && eqb (w / 2 ^ (n - m)) d) (T_true (leb m n) (le→leb m n l))
 
-pub hit_short : (w n d m : ℕ) → n < m → hit w n d m ≡ false
-hit_short w n d m l = F-false (hit w n d m) (λ t. let h = leb→le m n (and_left (leb m n) (eqb (w / 2 ^ (n - m)) d) t) in omega arith)
-
 pub hit_other : (w n d m : ℕ) → (w / 2 ^ (n - m) ≡ d → ⊥) → hit w n d m ≡ false
 hit_other w n d m u = F-false (hit w n d m) (λ t. u (eqb→eq (w / 2 ^ (n - m)) d (and_right (leb m n) (eqb (w / 2 ^ (n - m)) d) t)))
 
 -- a shift past the width of a word leaves nothing
 pub shifted_out : (w k : ℕ) → w < 2 ^ 32 → 32 ≤ k → w / 2 ^ k ≡ 0
 shifted_out w k h l = div-eq_of_lt (lt_of_lt_of_le h (pow_mono l))
+
+-- and so a shift that is checked, with 0 where it is refused
+pub shifted : (r : Option ℕ) (w k : ℕ) → w < 2 ^ 32 → SomeIff r (k < 32) (w / 2 ^ k) → unwrap_or r 0 ≡ w / 2 ^ k
+shifted None w k h s = sym (shifted_out w k h (omega arith))
+shifted (Some x) w k h s = s.1
 
 -- ---- a prefix-free table
 

@@ -1,14 +1,13 @@
 -- The cells of Tables B.19 to B.22, LMAX and RMAX, as printed: by last, from a first to a final run or level. Definitions only.
-use Rattle.std.specs.Prelude.{Bool, true, false, cond, ◌&&◌, List, [], ◌∷◌, ℕ, zero, suc, eqb, leb}
-use Rattle.std.proofs.Math.Option.{Option, none, some}
+use Rattle.std.specs.Prelude.{Bool, true, false, cond, ◌&&◌, List, [], ◌∷◌, ℕ, zero, suc, eqb, leb, Option, None, Some}
 
 pub data Cells : Type 0 where
   cells : (last from to value : ℕ) → Cells
 
 -- the value of the cell of a last and a run or level; the cells that are left out say N/A
 unfoldable pub cell_at : List Cells → ℕ → ℕ → Option ℕ
-cell_at [] last x = none
-cell_at (cells l from to v ∷ cs) last x = cond (eqb l last && (leb from x && leb x to)) (some v) (cell_at cs last x)
+cell_at [] last x = None
+cell_at (cells l from to v ∷ cs) last x = cond (eqb l last && (leb from x && leb x to)) (Some v) (cell_at cs last x)
 
 -- Table B.19: LMAX, intra, by last and run
 unfoldable pub lmax_intra : List Cells
@@ -41,10 +40,10 @@ rmax_inter =
 -- ---- the test of a whole table: at each last and each x below n the printed cell is what the rows give
 
 abbrev pub same : Option ℕ → Option ℕ → Bool
-same none none = true
-same none (some y) = false
-same (some x) none = false
-same (some x) (some y) = eqb x y
+same None None = true
+same None (Some y) = false
+same (Some x) None = false
+same (Some x) (Some y) = eqb x y
 
 unfoldable pub agree_below : (ℕ → Bool) → ℕ → Bool
 agree_below f zero = true

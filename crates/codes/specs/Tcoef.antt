@@ -1,6 +1,5 @@
 -- The codes of transform coefficients: Tables B.16 and B.17, and LMAX and RMAX as these tables give them. Definitions only.
-use Rattle.std.specs.Prelude.{cond, ◌&&◌, List, [], ◌∷◌, ◌++◌, map, ℕ, max, eqb}
-use Rattle.std.proofs.Math.Option.{Option, none, some}
+use Rattle.std.specs.Prelude.{cond, ◌&&◌, List, [], ◌∷◌, ◌++◌, map, ℕ, max, eqb, Option, None, Some}
 use Rattle.codes.specs.declared.tcoef_tables.TcoefTable.{TcoefTable}
 use Rattle.codes.specs.declared.tcoef_tables.TcoefTable.TheVariants.{Intra, Inter}
 
@@ -250,22 +249,22 @@ vlc_lens = map length_of tcoef_intra ++ (7 ∷ [])
 
 -- the greater of what has been found and x
 abbrev pub greater : ℕ → Option ℕ → Option ℕ
-greater x none = some x
-greater x (some y) = some (max x y)
+greater x None = Some x
+greater x (Some y) = Some (max x y)
 
 -- LMAX: the greatest level of a last and a run, where there is one
 unfoldable pub lmax_of : List Row → ℕ → ℕ → Option ℕ
-lmax_of [] last run = none
+lmax_of [] last run = None
 lmax_of (r ∷ rs) last run = cond (eqb (last_of r) last && eqb (run_of r) run) (greater (level_of r) (lmax_of rs last run)) (lmax_of rs last run)
 
 -- RMAX: the greatest run of a last and a level, where there is one
 unfoldable pub rmax_of : List Row → ℕ → ℕ → Option ℕ
-rmax_of [] last level = none
+rmax_of [] last level = None
 rmax_of (r ∷ rs) last level = cond (eqb (last_of r) last && eqb (level_of r) level) (greater (run_of r) (rmax_of rs last level)) (rmax_of rs last level)
 
 abbrev pub or_zero : Option ℕ → ℕ
-or_zero none = 0
-or_zero (some x) = x
+or_zero None = 0
+or_zero (Some x) = x
 
 -- the same of a row: its last and run, or its last and level, stand in the table
 abbrev pub lmax_by : List Row → Row → ℕ

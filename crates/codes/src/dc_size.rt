@@ -11,26 +11,19 @@ pub enum DcComponent {
     Chrominance,
 }
 
-// The component of a block index, or 11 for an index above 5.
-#[derive(Clone, Copy)]
-pub enum BlockComponent {
-    Component(DcComponent),
-    OutOfRange,
-}
-
 impl DcComponent {
     // Blocks 0 to 3 are luminance, 4 and 5 chrominance (Figure 6-8).
-    pub fn from_block_index(i: usize) -> BlockComponent
+    pub fn from_block_index(i: usize) -> Option<DcComponent>
         ensures value { result ≡ component_of i }
         ensures outcome { component_outcome result ≡ component_due i }
     {
         if i < 4 {
-            return BlockComponent::Component(DcComponent::Luminance);
+            return Some(DcComponent::Luminance);
         }
         if i < 6 {
-            return BlockComponent::Component(DcComponent::Chrominance);
+            return Some(DcComponent::Chrominance);
         }
-        BlockComponent::OutOfRange
+        None
     }
 }
 

@@ -70,10 +70,7 @@ pub fn tcoef_long() -> [u16; 512]
 fn number(rows: &[u16], at: usize) -> u32
     ensures { result ≡ get_or rows.now at 0 }
 {
-    if at < rows.len() {
-        return rows[at] as u32;
-    }
-    0
+    u32::from(rows.get(at).copied().unwrap_or(0))
 }
 
 // What two such tables have for a window.
@@ -91,10 +88,7 @@ pub fn tcoef_plain(short: &[u16], long: &[u16], window: u32) -> u32
 pub(crate) fn small_number(rows: &[u8], at: usize) -> u32
     ensures { result ≡ get_or rows.now at 0 }
 {
-    if at < rows.len() {
-        return rows[at] as u32;
-    }
-    0
+    u32::from(rows.get(at).copied().unwrap_or(0))
 }
 
 // LMAX by 64 last + run.

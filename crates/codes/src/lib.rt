@@ -12,7 +12,7 @@ mod rvlc_tables;
 mod search;
 mod tcoef_tables;
 
-pub use dc_size::{BlockComponent, DcComponent, dc_size_codes, dc_size_lens};
+pub use dc_size::{DcComponent, dc_size_codes, dc_size_lens};
 pub use first_bits::{dc_plain, lmax_intra, rmax_intra, tcoef_long, tcoef_plain, tcoef_short};
 pub use header_tables::{cbpy_codes, cbpy_lens, cbpy_short, mcbpc_codes, mcbpc_lens, mcbpc_short};
 pub use rvlc_tables::{rvlc_codes, rvlc_events, rvlc_lens};

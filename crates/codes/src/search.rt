@@ -6,14 +6,7 @@ ghost use Rattle.codes.specs.Table.{Found, cut, cut_in, hit, hit_at, seek};
 fn hits(window: u32, n: u32, code: u32, len: u32) -> bool
     ensures { result ≡ hit window n code len }
 {
-    if n < len {
-        return false;
-    }
-    let k = n - len;
-    if k < 32 {
-        return window >> k == code;
-    }
-    0 == code
+    len <= n && window.checked_shr(n - len).unwrap_or(0) == code
 }
 
 // The first row of `from..to` whose code begins a window of n bits; `to` where none does.
@@ -21,14 +14,12 @@ fn search(codes: &[u32], lens: &[u32], from: usize, to: usize, window: u32, n: u
     requires { (from ≤ to) × (to ≤ length codes.now) × (to ≤ length lens.now) }
     ensures { result ≡ seek (hit_at codes.now lens.now window n) (to - from) from }
 {
-    let mut i = from;
-    while i < to {
+    for i in from..to {
         if hits(window, n, codes[i], lens[i]) {
             return i;
         }
-        i += 1;
     }
-    i
+    to
 }
 
 // For each seven bits a row of Tables B.16 and B.17 that agrees with them.
@@ -50,28 +41,20 @@ const RVLC_HINTS: [u8; 128] = [
 ];
 
 fn hint_at(hints: &[u8], first: usize) -> usize {
-    if first < hints.len() {
-        return hints[first] as usize;
-    }
-    0
+    usize::from(hints.get(first).copied().unwrap_or(0))
 }
 
 // A row to begin with, by the first seven bits of a window. Which row it is changes no answer.
 fn hint(rows: usize, window: u32, n: u32) -> usize {
-    if n < 7 {
-        return 0;
-    }
-    if 32 < n {
+    if !(7..=32).contains(&n) {
         return 0;
     }
     let first = ((window >> (n - 7)) % 128) as usize;
-    if rows < 102 {
-        return 0;
+    match rows {
+        0..=101 => 0,
+        102..=103 => hint_at(&TCOEF_HINTS, first),
+        _ => hint_at(&RVLC_HINTS, first),
     }
-    if rows < 104 {
-        return hint_at(&TCOEF_HINTS, first);
-    }
-    hint_at(&RVLC_HINTS, first)
 }
 
 // A row, of the first `rows` of a table, whose code begins a window of n bits; that many where none
@@ -79,8 +62,8 @@ fn hint(rows: usize, window: u32, n: u32) -> usize {
 pub fn find_row(codes: &[u32], lens: &[u32], rows: usize, window: u32, n: u32) -> usize
     ensures { Found codes.now lens.now (min rows (min (length codes.now) (length lens.now))) window n result }
 {
-    let most = numbers::least(rows, numbers::least(codes.len(), lens.len()));
-    let from = numbers::least(hint(rows, window, n), most);
+    let most = rows.min(codes.len().min(lens.len()));
+    let from = hint(rows, window, n).min(most);
     let row = search(codes, lens, from, most, window, n);
     if row < most {
         return row;
@@ -92,27 +75,18 @@ pub fn find_row(codes: &[u32], lens: &[u32], rows: usize, window: u32, n: u32) -
 fn ends_in(window: u32, n: u32, code: u32, len: u32) -> bool
     ensures { result ≡ cut window n code len }
 {
-    if len <= n {
-        return false;
-    }
-    let k = len - n;
-    if k < 32 {
-        return window == code >> k;
-    }
-    window == 0
+    n < len && window == code.checked_shr(len - n).unwrap_or(0)
 }
 
 // Whether a window of n bits, in which no code is found, ends inside one of the first `rows` of a table.
 pub fn ends_inside(codes: &[u32], lens: &[u32], rows: usize, window: u32, n: u32) -> bool
     ensures { result ≡ cut_in codes.now lens.now (min rows (min (length codes.now) (length lens.now))) window n }
 {
-    let to = numbers::least(rows, numbers::least(codes.len(), lens.len()));
-    let mut i = 0;
-    while i < to {
+    let to = rows.min(codes.len().min(lens.len()));
+    for i in 0..to {
         if ends_in(window, n, codes[i], lens[i]) {
             return true;
         }
-        i += 1;
     }
     false
 }

@@ -1,11 +1,10 @@
 -- The levels QF of an intra block (7.4.3.2 to 7.4.3.4): what the bits gave, in the scan's order, with the prediction added and limited. Definitions only.
-use Rattle.std.specs.Prelude.{Bool, true, cond, ◌&&◌, List, [], ◌∷◌, ℕ, ◌≤◌, get_or, drop, ℤ, pos, negsuc, nat_abs, ◌+ℤ◌}
+use Rattle.std.specs.Prelude.{Bool, true, cond, ◌&&◌, List, [], ◌∷◌, ℕ, ◌≤◌, get_or, drop, ℤ, pos, negsuc, nat_abs, ◌+ℤ◌, Result, ⊤}
 use Rattle.numbers.specs.Grid.{block, cell}
 use Rattle.numbers.specs.Limit.{clamp_z}
 use Rattle.numbers.specs.Outcome.{Outcome, checked, done}
 use Rattle.codes.specs.declared.dc_size.DcComponent.{DcComponent}
 use Rattle.prediction.specs.declared.predictor.BlockPredictors.{BlockPredictors}
-use Rattle.prediction.specs.declared.refusal.Stage.{Stage}
 use Rattle.scan.specs.declared.ScanType.{ScanType}
 use Rattle.scan.specs.declared.ScanType.TheVariants.{AlternateVertical}
 use Rattle.ranges.specs.Range.{quantiser_fine, level_fine, difference_fine, dc_fine}
@@ -14,6 +13,7 @@ use Rattle.numbers.specs.Every.{every}
 use Rattle.scan.specs.declared.DcPredictionDirection.{DcPredictionDirection}
 use Rattle.scan.specs.Scan.{scan_of, scanned}
 use Rattle.prediction.specs.Prediction.{predicted, direction_by}
+use Rattle.prediction.specs.declared.refusal.CoefficientError.{CoefficientError}
 
 -- 7.4.3.4: limited to -2048 .. 2047
 abbrev pub saturated : ℤ → ℤ
@@ -47,7 +47,7 @@ predictors_fine p =
 abbrev pub places_fine : List ℤ → Bool
 places_fine qfs = difference_fine (get_or qfs 0 (pos 0)) && every level_fine (drop 1 qfs)
 
-abbrev pub levels_answer : ℕ → BlockPredictors → List ℤ → Stage
+abbrev pub levels_answer : ℕ → BlockPredictors → List ℤ → Result ⊤ CoefficientError
 levels_answer q p qfs = first_bad (quantiser_fine q) (predictors_fine p && places_fine qfs)
 
 abbrev pub levels_due : ℕ → BlockPredictors → List ℤ → Outcome (Unit {0})

@@ -5,17 +5,15 @@ ghost use Rattle.coefficients.specs.Level.{predictors_fine};
 ghost use Rattle.coefficients.specs.Needed.{dcs_only, needed_of, numbered, numbers_of, seven_in, some_value, told, with_side};
 ghost use Rattle.scan.specs.declared.DcPredictionDirection.TheVariants.{FromAbove, FromLeft};
 
-use prediction::{BlockPredictors, Direction};
+use prediction::BlockPredictors;
+use ranges::{NeighbourDc, Quantiser};
 use scan::DcPredictionDirection;
 
 // A quantiser as a number.
 fn told_as(q: u32) -> i32
     ensures { result ≡ told q }
 {
-    if ranges::Quantiser::fine(q) {
-        return q as i32;
-    }
-    0
+    if Quantiser::fine(q) { q as i32 } else { 0 }
 }
 
 // The numbers of three DCs, a quantiser and seven values.
@@ -37,6 +35,7 @@ pub(crate) fn seven_in(n: &[i32; 11]) -> [i32; 7]
 fn some_value(values: [i32; 7]) -> bool
     ensures { result ≡ some_value values }
 {
+    // no early end: no test waits for another
     let mut zeros = true;
     for k in 0..7 {
         let zero = values[k] == 0;
@@ -56,16 +55,17 @@ pub fn adds_values(numbers: &[i32; 11]) -> bool
 pub fn needed_fine(n: &[i32; 11]) -> bool
     ensures { result ≡ predictors_fine (numbered n.now) }
 {
-    if !ranges::NeighbourDc::fine(n[0]) {
+    // an `if` for each: joined by `&&`, so many tests had no proof
+    if !NeighbourDc::fine(n[0]) {
         return false;
     }
-    if !ranges::NeighbourDc::fine(n[1]) {
+    if !NeighbourDc::fine(n[1]) {
         return false;
     }
-    if !ranges::NeighbourDc::fine(n[2]) {
+    if !NeighbourDc::fine(n[2]) {
         return false;
     }
-    if !ranges::Quantiser::fine(numbers::abs(n[3])) {
+    if !Quantiser::fine(numbers::abs(n[3])) {
         return false;
     }
     prediction::all_levels(seven_in(n))
@@ -111,7 +111,7 @@ pub fn needed(p: BlockPredictors, q: u32, ac_pred: bool, numbers: &mut [i32; 11]
         return;
     }
     match prediction::select_dc_direction(p.fa_dc, p.fb_dc, p.fc_dc) {
-        Direction::Refused(_) => put_dcs(p, q, numbers),
-        Direction::Is(direction) => put_side(p, q, direction, numbers),
+        Err(_) => put_dcs(p, q, numbers),
+        Ok(direction) => put_side(p, q, direction, numbers),
     }
 }

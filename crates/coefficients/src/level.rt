@@ -5,14 +5,15 @@ ghost use Rattle.coefficients.specs.Level.{saturated, saturated_block, intra_sca
 ghost use Rattle.prediction.specs.Outcomes.{stage_outcome};
 
 use codes::DcComponent;
-use prediction::{BlockPredictors, CoefficientError, Stage};
+use prediction::{BlockPredictors, CoefficientError};
+use ranges::{Level, NeighbourDc, Quantiser};
 use scan::{DcPredictionDirection, ScanType};
 
 // 7.4.3.4: a level limited to -2048..=2047.
 pub fn saturate_qf(value: i32) -> i32
     ensures { result ≡ saturated value }
 {
-    numbers::clamp(value, ranges::Level::LEAST, ranges::Level::GREATEST)
+    value.clamp(Level::LEAST, Level::GREATEST)
 }
 
 // 7.4.3.4, of every level of a block.
@@ -37,9 +38,10 @@ pub(crate) fn intra_scan(
     ensures { result ≡ intra_scan alternate_vertical_scan ac_pred_flag direction }
 {
     if alternate_vertical_scan {
-        return ScanType::AlternateVertical;
+        ScanType::AlternateVertical
+    } else {
+        scan::select_scan_type(true, ac_pred_flag, direction)
     }
-    scan::select_scan_type(true, ac_pred_flag, direction)
 }
 
 // Whether predictors may be handed in (13). A missing neighbour's values are not looked at.
@@ -48,19 +50,20 @@ pub fn predictors_fine(p: BlockPredictors) -> bool
 {
     let column = p.a_first_column;
     let row = p.c_first_row;
-    if !ranges::NeighbourDc::fine(p.fa_dc) {
+    // an `if` for each: joined by `&&`, so many tests had no proof
+    if !NeighbourDc::fine(p.fa_dc) {
         return false;
     }
-    if !ranges::NeighbourDc::fine(p.fb_dc) {
+    if !NeighbourDc::fine(p.fb_dc) {
         return false;
     }
-    if !ranges::NeighbourDc::fine(p.fc_dc) {
+    if !NeighbourDc::fine(p.fc_dc) {
         return false;
     }
-    if !ranges::Quantiser::fine(p.qp_a) {
+    if !Quantiser::fine(p.qp_a) {
         return false;
     }
-    if !ranges::Quantiser::fine(p.qp_c) {
+    if !Quantiser::fine(p.qp_c) {
         return false;
     }
     if !prediction::values_fine(p.a_has_column, column) {
@@ -78,15 +81,15 @@ pub fn intra_levels(
     alternate_vertical_scan: bool,
     predictors: BlockPredictors,
     qf: &mut [[i32; 8]; 8],
-) -> Stage
+) -> Result<(), CoefficientError>
     ensures value { (result ≡ levels_answer quantiser_scale predictors qfs) × (qf.new ≡ after (levels_answer quantiser_scale predictors qfs) (levels component quantiser_scale ac_pred_flag alternate_vertical_scan predictors qfs) qf.old) }
     ensures outcome { stage_outcome result ≡ levels_due quantiser_scale predictors qfs }
 {
-    if !ranges::Quantiser::fine(quantiser_scale) {
-        return Stage::Refused(CoefficientError::Context);
+    if !Quantiser::fine(quantiser_scale) {
+        return Err(CoefficientError::Context);
     }
     if !predictors_fine(predictors) {
-        return Stage::Refused(CoefficientError::HandedIn);
+        return Err(CoefficientError::HandedIn);
     }
     let mut numbers = [0i32; 11];
     crate::handed::needed(predictors, quantiser_scale, ac_pred_flag, &mut numbers);

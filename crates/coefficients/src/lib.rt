@@ -12,9 +12,8 @@ mod short;
 pub use handed::{adds_values, needed, needed_fine, put_numbers};
 pub use level::{intra_levels, predictors_fine, saturate_block, saturate_qf};
 pub use prediction::{
-    BlockPredictors, CoefficientError, Direction, Scaler, Stage, Value, dc_scaler,
-    default_neighbour_dc, predict_intra_ac_column, predict_intra_ac_row, predict_intra_dc,
-    select_dc_direction,
+    BlockPredictors, CoefficientError, dc_scaler, default_neighbour_dc, predict_intra_ac_column,
+    predict_intra_ac_row, predict_intra_dc, select_dc_direction,
 };
 pub use scan::{DcPredictionDirection, ScanType, inverse_scan, select_scan_type};
 pub use short::intra_levels_up_to;

@@ -13,20 +13,14 @@ ghost use Rattle.coefficients.specs.Short.{Levelled, ac_predicted, column_added,
 use crate::handed::{needed_fine, seven_in};
 use crate::level::saturate_qf;
 use codes::DcComponent;
-use prediction::{CoefficientError, Direction, Scaler, Stage, Value};
+use prediction::CoefficientError;
 use scan::DcPredictionDirection;
 
 // The place of the DC.
 fn first_place(qfs: &[i32], end: usize) -> i32
     ensures { result ≡ get_or (up_to end qfs.now) 0 (pos 0) }
 {
-    if end == 0 {
-        return 0;
-    }
-    if qfs.len() == 0 {
-        return 0;
-    }
-    qfs[0]
+    if end.min(qfs.len()) == 0 { 0 } else { qfs[0] }
 }
 
 // Whether there are 64 places and all but the first hold levels.
@@ -36,6 +30,7 @@ fn all_fine(qfs: &[i32]) -> bool
     if qfs.len() != 64 {
         return false;
     }
+    // no early end: no test waits for another
     let mut fine = true;
     for k in 1..64 {
         let level = ranges::Level::fine(qfs[k]);
@@ -48,21 +43,14 @@ fn all_fine(qfs: &[i32]) -> bool
 fn levels_fine(qfs: &[i32], end: usize) -> bool
     ensures { result ≡ every level_fine (drop 1 (up_to end qfs.now)) }
 {
-    if all_fine(qfs) {
-        return true;
-    }
-    let places = scan_rows::up_to(qfs, end);
-    all_fine(&places)
+    all_fine(qfs) || all_fine(&scan_rows::up_to(qfs, end))
 }
 
 // Whether the place of the DC holds a difference and the others levels.
 fn places_fine(qfs: &[i32], end: usize) -> bool
     ensures { result ≡ places_fine (up_to end qfs.now) }
 {
-    if !ranges::Difference::fine(first_place(qfs, end)) {
-        return false;
-    }
-    levels_fine(qfs, end)
+    ranges::Difference::fine(first_place(qfs, end)) && levels_fine(qfs, end)
 }
 
 // The first column with the prediction from A.
@@ -100,7 +88,7 @@ fn predict(
         return;
     }
     let mut more = [0i32; 7];
-    prediction::predict_seven(seven_in(n), numbers::abs(n[3]), q, &mut more);
+    let _ = prediction::predict_seven(seven_in(n), n[3].unsigned_abs(), q, &mut more);
     match direction {
         DcPredictionDirection::FromLeft => add_column(more, qf),
         DcPredictionDirection::FromAbove => add_row(more, qf),
@@ -112,10 +100,7 @@ fn direction_by(n: &[i32; 11]) -> DcPredictionDirection
     requires { predictors_fine (numbered n.now) ≡ true }
     ensures { result ≡ direction_by (numbered n.now) }
 {
-    match prediction::select_dc_direction(n[0], n[1], n[2]) {
-        Direction::Refused(_) => DcPredictionDirection::FromLeft,
-        Direction::Is(direction) => direction,
-    }
+    prediction::select_dc_direction(n[0], n[1], n[2]).unwrap_or(DcPredictionDirection::FromLeft)
 }
 
 // The level of the DC, of a difference, limited. Of a quantiser, a difference and numbers in range none is refused.
@@ -129,11 +114,10 @@ fn dc_level(
     requires { (difference_fine difference ≡ true) × (quantiser_fine q ≡ true) × (predictors_fine (numbered n.now) ≡ true) }
     ensures { result ≡ saturated (difference +ℤ dc_prediction direction (get_or n.now 0 (pos 0)) (get_or n.now 2 (pos 0)) (dc_scaler component q)) }
 {
-    let Scaler::Is(scaler) = prediction::dc_scaler(component, q) else {
+    let Ok(scaler) = prediction::dc_scaler(component, q) else {
         return 0;
     };
-    let Value::Is(sum) = prediction::predict_intra_dc(difference, direction, n[0], n[2], scaler)
-    else {
+    let Ok(sum) = prediction::predict_intra_dc(difference, direction, n[0], n[2], scaler) else {
         return 0;
     };
     saturate_qf(sum)
@@ -171,18 +155,15 @@ pub fn intra_levels_up_to(
     alternate_vertical_scan: bool,
     numbers: &[i32; 11],
     qf: &mut [[i32; 8]; 8],
-) -> Stage
+) -> Result<(), CoefficientError>
     ensures value { (result ≡ levels_answer quantiser_scale (numbered numbers.now) (up_to end qfs.now)) × (qf.new ≡ after (levels_answer quantiser_scale (numbered numbers.now) (up_to end qfs.now)) (levels component quantiser_scale ac_pred_flag alternate_vertical_scan (numbered numbers.now) (up_to end qfs.now)) qf.old) }
     ensures outcome { stage_outcome result ≡ levels_due quantiser_scale (numbered numbers.now) (up_to end qfs.now) }
 {
     if !ranges::Quantiser::fine(quantiser_scale) {
-        return Stage::Refused(CoefficientError::Context);
+        return Err(CoefficientError::Context);
     }
-    if !needed_fine(numbers) {
-        return Stage::Refused(CoefficientError::HandedIn);
-    }
-    if !places_fine(qfs, end) {
-        return Stage::Refused(CoefficientError::HandedIn);
+    if !(needed_fine(numbers) && places_fine(qfs, end)) {
+        return Err(CoefficientError::HandedIn);
     }
     put_levels(
         qfs,
@@ -194,5 +175,5 @@ pub fn intra_levels_up_to(
         numbers,
         qf,
     );
-    Stage::Done
+    Ok(())
 }

@@ -17,7 +17,6 @@ use Rattle.codes.specs.declared.dc_size.DcComponent.{DcComponent}
 use Rattle.dc_parts.specs.Answer.{dc_answer, dc_told, dc_value}
 use Rattle.dc_parts.specs.Dc.{Dc, dc, size_at, dc_bits, GoodDc, difference_of, differential_of}
 use Rattle.dc_parts.specs.DcReader.{dc_tail, read_dc}
-use Rattle.dc_parts.specs.declared.dc.DcRead.TheVariants.{Dc as DcIs, Refused as DcRefused}
 use Rattle.dc_parts.specs.declared.dc.IntraDcDifferential.{IntraDcDifferential}
 use Rattle.fields.proofs.ChainLaws.{First, place_is, refused_first}
 use Rattle.fields.proofs.ReadLaws.{bind_ok, code-sound, field-sound, marker-sound}
@@ -26,10 +25,9 @@ use Rattle.fields.specs.Answer.{code_answer}
 use Rattle.fields.specs.Reader.{no, ok, bind, field, code, marker, Res, mapped}
 use Rattle.fields.specs.declared.error.TextureParseError.{TextureParseError}
 use Rattle.fields.specs.declared.error.TextureParseError.TheVariants.{OutOfRange, InvalidDcSize, MarkerBitMissing}
-use Rattle.fields.specs.declared.field.Got.{Got}
-use Rattle.fields.specs.declared.field.Got.TheVariants.{Refused as NumberRefused}
 use Rattle.numbers.proofs.Fill.{get_or-build}
 use Rattle.numbers.specs.Grid.{build}
+use Rattle.std.specs.Prelude.{Err, Ok, Result}
 
 -- row i says size i, so a size is at most 12
 pub size_is : (c : DcComponent) (i : ℕ) → i < 13 → size_at c i ≡ i
@@ -105,14 +103,14 @@ module _ (d : List ℕ) (at : ℕ) (c : DcComponent) where
   abbrev coded : Res ℕ
   coded = code (dc_codes c) (dc_lens c) 13 13 InvalidDcSize b
 
-  abbrev coded_answer : Got
+  abbrev coded_answer : Result (ℕ × Cursor) TextureParseError
   coded_answer = code_answer d at (dc_codes c) (dc_lens c) 13 13 InvalidDcSize
 
-  pub dc-no-code : (g : Got) {e : TextureParseError} → g ≡ coded_answer → g ≡ NumberRefused e → DcRefused e ≡ dc_answer d at c
+  pub dc-no-code : (g : Result (ℕ × Cursor) TextureParseError) {e : TextureParseError} → g ≡ coded_answer → g ≡ Err e → Err e ≡ dc_answer d at c
   unfolding read_dc
-  dc-no-code g q f = refused_first d (λ (x : Res Dc). dc_told d (mapped (dc_value c) x)) DcRefused (λ e. refl) (in_data (length d) at) coded _ g q f
+  dc-no-code g q f = refused_first d (λ (x : Res Dc). dc_told d (mapped (dc_value c) x)) Err (λ e. refl) (in_data (length d) at) coded _ g q f
 
-  module _ (g : Got) (i : ℕ) (next : Cursor) (k : First d at coded g i next) where
+  module _ (g : Result (ℕ × Cursor) TextureParseError) (i : ℕ) (next : Cursor) (k : First d at coded g i next) where
     pub row_small : i < 13
     row_small = (code-sound (dc_codes c) (dc_lens c) 13 13 InvalidDcSize b k.read).0
 
@@ -125,19 +123,19 @@ module _ (d : List ℕ) (at : ℕ) (c : DcComponent) where
     tail_at : (x : Res ℕ) → dc_tail i left ≡ x → dc_told d (mapped (dc_value c) (tailed x)) ≡ dc_answer d at c
     unfolding read_dc
     tail_at x p =
-        sym (ap (λ (t : Bool). cond t (dc_told d (mapped (dc_value c) (read_dc c b))) (DcRefused OutOfRange)) k.in_data_lem
+        sym (ap (λ (t : Bool). cond t (dc_told d (mapped (dc_value c) (read_dc c b))) (Err OutOfRange)) k.in_data_lem
         ∙ ap (λ (y : Res ℕ). dc_told d (mapped (dc_value c) (bind y (λ i r. bind (dc_tail (size_at c i) r) (λ a r. ok (dc i a) r))))) k.read
         ∙ ap (λ (y : Res ℕ). dc_told d (mapped (dc_value c) (tailed y))) (ap (λ (n : ℕ). dc_tail n left) (size_is c i row_small) ∙ p))
 
-    pub dc_no_tail : {e : TextureParseError} → dc_tail i left ≡ no e → DcRefused e ≡ dc_answer d at c
+    pub dc_no_tail : {e : TextureParseError} → dc_tail i left ≡ no e → Err e ≡ dc_answer d at c
     dc_no_tail {e} p = tail_at (no e) p
 
     pub dc-given : (a : ℕ) (after : Cursor) (z : ℤ) → after.bit_pos ≤ 8 * length d → dc_tail i left ≡ ok a (bits_from d after.bit_pos) → z ≡ differential_of i a
-        → DcIs (record { size = i; differential = z }) after ≡ dc_answer d at c
+        → Ok (record { size = i; differential = z }, after) ≡ dc_answer d at c
     unfolding difference_of
     dc-given a after z l p e =
         let s = sym (size_is c i row_small) in
-        ap₂ (λ (x : IntraDcDifferential) (y : Cursor). DcIs x y) (ap₂ {C = IntraDcDifferential} (λ (x : ℕ) (y : ℤ). record { size = x; differential = y }) s (e ∙ ap (λ (n : ℕ). differential_of n a) s)) (place_is d after l)
+        ap₂ (λ (x : IntraDcDifferential) (y : Cursor). Ok (x, y)) (ap₂ {C = IntraDcDifferential} (λ (x : ℕ) (y : ℤ). record { size = x; differential = y }) s (e ∙ ap (λ (n : ℕ). differential_of n a) s)) (place_is d after l)
         ∙ tail_at (ok a (bits_from d after.bit_pos)) p
 
     pub tail_small : (a : ℕ) (s : Bits) → dc_tail i left ≡ ok a s → (i ≤ 12) × (a < 2 ^ i)

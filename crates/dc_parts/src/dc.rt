@@ -9,20 +9,13 @@ ghost use Rattle.fields.specs.Inside.{Readable, SaysNumber};
 
 use bits::Cursor;
 use codes::DcComponent;
-use fields::{CodeKind, Got, TextureParseError};
+use fields::{CodeKind, TextureParseError};
 
 // A DC size and the difference of levels that follows it.
 #[derive(Clone, Copy)]
 pub struct IntraDcDifferential {
     pub size: u32,
     pub differential: i32,
-}
-
-// A DC part and the cursor after it, or a refusal.
-#[derive(Clone, Copy)]
-pub enum DcRead {
-    Dc(IntraDcDifferential, Cursor),
-    Refused(TextureParseError),
 }
 
 // Table B.15: the difference of `size` bits.
@@ -35,52 +28,39 @@ fn decode_differential(size: u32, additional: u32) -> i32
     }
     let half_range = 1u32 << (size - 1);
     if half_range <= additional {
-        return additional as i32;
+        additional as i32
+    } else {
+        (additional as i32) + 1 - 2 * (half_range as i32)
     }
-    (additional as i32) + 1 - 2 * (half_range as i32)
 }
 
 // The `size` bits after the code, and the marker.
-fn read_additional(data: &[u8], c: Cursor, size: u32) -> Got
+fn read_additional(data: &[u8], c: Cursor, size: u32) -> Result<(u32, Cursor), TextureParseError>
     requires { Readable «data».now c × (size ≤ 12) }
     ensures { SaysNumber «data».now result (dc_tail size (bits_from «data».now c.bit_pos)) }
 {
-    let g = fields::read_field(data, c, size as usize);
-    match g {
-        Got::Refused(e) => Got::Refused(e),
-        Got::Number(a, next) => {
-            if size <= 8 {
-                return Got::Number(a, next);
-            }
-            let missing = TextureParseError::MarkerBitMissing;
-            let h = fields::read_marker(data, next, missing);
-            match h {
-                Got::Refused(e) => Got::Refused(e),
-                Got::Number(_, after) => Got::Number(a, after),
-            }
-        }
+    let (a, next) = fields::read_field(data, c, size as usize)?;
+    if size <= 8 {
+        return Ok((a, next));
     }
+    let missing = TextureParseError::MarkerBitMissing;
+    let (_, after) = fields::read_marker(data, next, missing)?;
+    Ok((a, after))
 }
 
 // The DC part at a cursor.
-pub fn decode_intra_dc(data: &[u8], c: Cursor, component: DcComponent) -> DcRead
+pub fn decode_intra_dc(
+    data: &[u8],
+    c: Cursor,
+    component: DcComponent,
+) -> Result<(IntraDcDifferential, Cursor), TextureParseError>
     ensures value { result ≡ dc_answer «data».now c.bit_pos component }
     ensures outcome { dc_outcome result ≡ dc_due «data».now c.bit_pos component }
 {
     let codes = codes::dc_size_codes(component);
     let lens = codes::dc_size_lens(component);
-    let g = fields::read_code(data, c, &codes, &lens, 13, 13, CodeKind::DcSize);
-    match g {
-        Got::Refused(e) => DcRead::Refused(e),
-        Got::Number(size, next) => {
-            let h = read_additional(data, next, size);
-            match h {
-                Got::Refused(e) => DcRead::Refused(e),
-                Got::Number(a, after) => {
-                    let differential = decode_differential(size, a);
-                    DcRead::Dc(IntraDcDifferential { size, differential }, after)
-                }
-            }
-        }
-    }
+    let (size, next) = fields::read_code(data, c, &codes, &lens, 13, 13, CodeKind::DcSize)?;
+    let (a, after) = read_additional(data, next, size)?;
+    let differential = decode_differential(size, a);
+    Ok((IntraDcDifferential { size, differential }, after))
 }

@@ -6,4 +6,4 @@
 
 mod dc;
 
-pub use dc::{DcRead, IntraDcDifferential, decode_intra_dc};
+pub use dc::{IntraDcDifferential, decode_intra_dc};

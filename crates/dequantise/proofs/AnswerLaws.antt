@@ -10,11 +10,10 @@ use Rattle.codes.specs.declared.dc_size.DcComponent.{DcComponent}
 use Rattle.prediction.proofs.OutcomeLaws.{value_due}
 use Rattle.prediction.specs.Outcomes.{value_outcome}
 use Rattle.prediction.specs.declared.refusal.CoefficientError.{CoefficientError}
-use Rattle.prediction.specs.declared.refusal.Value.{Value}
-use Rattle.prediction.specs.declared.refusal.Value.TheVariants.{Is, Refused}
 use Rattle.dequantise.specs.Methods.{intra_dc}
 use Rattle.dequantise.specs.Outcomes.{intra_dc_due, method1_due, method2_due}
 use Rattle.dequantise.specs.Stages.{intra_dc_answer, method1_answer, method2_answer}
+use Rattle.std.specs.Prelude.{Err, Ok, Result}
 
 pub intra_dc_due_lem : (qf : ℤ) (c : DcComponent) (q : ℕ) (short : Bool) → value_outcome (intra_dc_answer qf c q short) ≡ intra_dc_due qf c q short
 intra_dc_due_lem qf c q short = value_due (quantiser_fine q) (level_fine qf) _
@@ -26,12 +25,12 @@ pub method2_due_lem : (qf : ℤ) (q : ℕ) → value_outcome (method2_answer qf 
 method2_due_lem qf q = value_due (quantiser_fine q) (level_fine qf) _
 
 -- no refusal where the quantiser and the level are each one
-pub intra_dc_given : (qf : ℤ) (c : DcComponent) (q : ℕ) (short : Bool) → quantiser_fine q ≡ true → level_fine qf ≡ true → intra_dc_answer qf c q short ≡ Is (intra_dc qf c q short)
+pub intra_dc_given : (qf : ℤ) (c : DcComponent) (q : ℕ) (short : Bool) → quantiser_fine q ≡ true → level_fine qf ≡ true → intra_dc_answer qf c q short ≡ Ok (intra_dc qf c q short)
 intra_dc_given qf c q short e h = rw (e, h)
 
 -- an answer that is a value is no refusal, and no other value
-pub value_never : (r : Value) (z : ℤ) (e : CoefficientError) → r ≡ Is z → r ≡ Refused e → ⊥
+pub value_never : (r : Result ℤ CoefficientError) (z : ℤ) (e : CoefficientError) → r ≡ Ok z → r ≡ Err e → ⊥
 value_never r z e p q = let n : ◌≡◌ {A = ℕ} 0 1 = cc in omega arith
 
-pub value_is : (r : Value) (x z : ℤ) → r ≡ Is z → r ≡ Is x → x ≡ z
+pub value_is : (r : Result ℤ CoefficientError) (x z : ℤ) → r ≡ Ok z → r ≡ Ok x → x ≡ z
 value_is r x z p q = cc

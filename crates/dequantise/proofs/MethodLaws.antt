@@ -1,13 +1,14 @@
 -- A sign is -1, 0 or 1, and with it each method is one formula that gives 0 at 0. Assumes nothing.
 use mathlib.Core.Bool.{Bool, true, false, cond}
 use mathlib.Core.Path.{◌≡◌, refl, ap, ◌∙◌}
-use Prim.Native.Nat.{ℕ, zero, suc, ◌+◌, ◌-◌, ◌*◌, ◌/◌, ◌%◌, ◌≤◌}
+use Prim.Native.Nat.{ℕ, min, zero, suc, ◌+◌, ◌-◌, ◌*◌, ◌/◌, ◌%◌, ◌≤◌}
 use native.Mathlib.Omega.{arith}
 use lib.Dec.{eqb}
 use lib.IntN.{ℤ, pos, negsuc, neg_ℤ, nat_abs, ◌+ℤ◌, ◌-ℤ◌, ◌*ℤ◌}
-use lib.Signed.{quot_z, ◌<ℤ◌, ◌≤ℤ◌}
+use lib.Signed.{quot_z}
 use borrow.Author.Tests.{eqb-true, eqb-false, ne_eqb}
-use Rattle.numbers.proofs.Integers.{dn, le_in, le_lt_z, lt_out, nat, neg, ring, up, var, ◌⊕◌, ◌⊗◌, ◌⊝◌}
+use Rattle.numbers.proofs.Integers.{dn, le_in, le_lt_z, nat, neg, ring, up, var, ◌⊕◌, ◌⊗◌, ◌⊝◌}
+use Rattle.std.specs.Int.{int_signum}
 use Rattle.dequantise.specs.Methods.{method1, method1_intra, method2, signum}
 
 -- ---- the sign
@@ -17,14 +18,11 @@ sign-abs (pos zero) = omega arith
 sign-abs (pos (suc n)) = omega arith
 sign-abs (negsuc n) = omega arith
 
-pub sign_below : (z : ℤ) → z <ℤ pos 0 → negsuc 0 ≡ signum z
-sign_below (pos n) h = let m = lt_out h in absurd (omega arith)
-sign_below (negsuc n) h = refl
-
-pub sign_above : (z : ℤ) → pos 0 ≤ℤ z → (z ≡ pos 0 → ⊥) → pos 1 ≡ signum z
-sign_above (pos zero) h n = absurd (n refl)
-sign_above (pos (suc n)) h e = refl
-sign_above (negsuc n) h e = absurd h.le
+-- the sign of std is that of the definitions
+pub signum_is : (z : ℤ) → int_signum z ≡ signum z
+signum_is (pos zero) = refl
+signum_is (pos (suc n)) = let e : min (suc n) 1 ≡ 1 = omega arith in ap pos e
+signum_is (negsuc n) = refl
 
 -- ---- method 1
 

@@ -1,12 +1,12 @@
 // One coefficient (7.4.4.1 and 7.4.4.2): the DC of an intra block, and both methods, before limiting.
 ghost use Rattle.std.specs.Prelude.{◌≡◌, ◌≤◌, nat_abs};
 ghost use Rattle.prediction.specs.Outcomes.{value_outcome};
-ghost use Rattle.dequantise.specs.Methods.{intra_dc, method1, method2, signum};
+ghost use Rattle.dequantise.specs.Methods.{intra_dc, method1, method2};
 ghost use Rattle.dequantise.specs.Outcomes.{intra_dc_due, method1_due, method2_due};
 ghost use Rattle.dequantise.specs.Stages.{intra_dc_answer, method1_answer, method2_answer};
 
 use codes::DcComponent;
-use prediction::{CoefficientError, Scaler, Value};
+use prediction::CoefficientError;
 
 // 7.4.4.1.1, of a level and a quantiser that is one: its scaler is never refused.
 fn intra_dc(
@@ -21,10 +21,9 @@ fn intra_dc(
     if short_video_header {
         return qf00 * 8;
     }
-    let scaler = prediction::dc_scaler(component, quantiser_scale);
-    match scaler {
-        Scaler::Refused(_) => 0,
-        Scaler::Is(n) => qf00 * (n as i32),
+    match prediction::dc_scaler(component, quantiser_scale) {
+        Err(_) => 0,
+        Ok(n) => qf00 * (n as i32),
     }
 }
 
@@ -34,30 +33,17 @@ pub fn inverse_quant_intra_dc(
     component: DcComponent,
     quantiser_scale: u32,
     short_video_header: bool,
-) -> Value
+) -> Result<i32, CoefficientError>
     ensures value { result ≡ intra_dc_answer qf00 component quantiser_scale short_video_header }
     ensures outcome { value_outcome result ≡ intra_dc_due qf00 component quantiser_scale short_video_header }
 {
     if !ranges::Quantiser::fine(quantiser_scale) {
-        return Value::Refused(CoefficientError::Context);
+        return Err(CoefficientError::Context);
     }
     if !ranges::Level::fine(qf00) {
-        return Value::Refused(CoefficientError::HandedIn);
+        return Err(CoefficientError::HandedIn);
     }
-    Value::Is(intra_dc(qf00, component, quantiser_scale, short_video_header))
-}
-
-// -1, 0 or 1.
-fn sign_of(z: i32) -> i32
-    ensures { (result ≡ signum z) × (nat_abs result ≤ 1) }
-{
-    if z < 0 {
-        return -1;
-    }
-    if z == 0 {
-        return 0;
-    }
-    1
+    Ok(intra_dc(qf00, component, quantiser_scale, short_video_header))
 }
 
 // 7.4.4.1.2, of a level and a quantiser up to 511: cut toward zero. Either rule gives 0 at 0.
@@ -68,7 +54,7 @@ fn method1_coef(qf: i32, w: u8, quantiser_scale: u32, macroblock_intra: bool) ->
     if macroblock_intra {
         return (qf * (w as i32) * (quantiser_scale as i32) * 2) / 16;
     }
-    let sign = sign_of(qf);
+    let sign = qf.signum();
     ((2 * qf + sign) * (w as i32) * (quantiser_scale as i32)) / 16
 }
 
@@ -78,20 +64,17 @@ pub fn inverse_quant_method1_coef(
     w: u8,
     quantiser_scale: u32,
     macroblock_intra: bool,
-) -> Value
+) -> Result<i32, CoefficientError>
     ensures value { result ≡ method1_answer qf w quantiser_scale macroblock_intra }
     ensures outcome { value_outcome result ≡ method1_due qf w quantiser_scale macroblock_intra }
 {
-    if !ranges::Quantiser::fine(quantiser_scale) {
-        return Value::Refused(CoefficientError::Context);
-    }
-    if w == 0 {
-        return Value::Refused(CoefficientError::Context);
+    if !ranges::Quantiser::fine(quantiser_scale) || w == 0 {
+        return Err(CoefficientError::Context);
     }
     if !ranges::Level::fine(qf) {
-        return Value::Refused(CoefficientError::HandedIn);
+        return Err(CoefficientError::HandedIn);
     }
-    Value::Is(method1_coef(qf, w, quantiser_scale, macroblock_intra))
+    Ok(method1_coef(qf, w, quantiser_scale, macroblock_intra))
 }
 
 // 7.4.4.2.1, of a level and a quantiser up to 511: (2 QF + sign) q, less the sign for an even q.
@@ -99,21 +82,21 @@ fn method2_coef(qf: i32, quantiser_scale: u32) -> i32
     requires { (nat_abs qf ≤ 2048) × (1 ≤ quantiser_scale) × (quantiser_scale ≤ 511) }
     ensures { result ≡ method2 qf quantiser_scale }
 {
-    let sign = sign_of(qf);
+    let sign = qf.signum();
     let even = 1 - ((quantiser_scale % 2) as i32);
     (2 * qf + sign) * (quantiser_scale as i32) - sign * even
 }
 
 // 7.4.4.2.1: one value by method 2, before limiting; or 12 or 13.
-pub fn inverse_quant_method2_coef(qf: i32, quantiser_scale: u32) -> Value
+pub fn inverse_quant_method2_coef(qf: i32, quantiser_scale: u32) -> Result<i32, CoefficientError>
     ensures value { result ≡ method2_answer qf quantiser_scale }
     ensures outcome { value_outcome result ≡ method2_due qf quantiser_scale }
 {
     if !ranges::Quantiser::fine(quantiser_scale) {
-        return Value::Refused(CoefficientError::Context);
+        return Err(CoefficientError::Context);
     }
     if !ranges::Level::fine(qf) {
-        return Value::Refused(CoefficientError::HandedIn);
+        return Err(CoefficientError::HandedIn);
     }
-    Value::Is(method2_coef(qf, quantiser_scale))
+    Ok(method2_coef(qf, quantiser_scale))
 }

@@ -20,10 +20,7 @@ pub struct InverseQuantContext {
 pub fn context_fine(ctx: InverseQuantContext) -> bool
     ensures { result ≡ context_fine ctx }
 {
-    if !ranges::Quantiser::fine(ctx.quantiser_scale) {
-        return false;
-    }
-    ranges::Depth::fine(ctx.bits_per_pixel)
+    ranges::Quantiser::fine(ctx.quantiser_scale) && ranges::Depth::fine(ctx.bits_per_pixel)
 }
 
 // Whether a matrix has no zero.
@@ -31,10 +28,9 @@ pub fn matrix_fine(w: [[u8; 8]; 8]) -> bool
     ensures { result ≡ every (every non_zero) w }
 {
     let mut fine = true;
-    for v in 0..8 {
-        for u in 0..8 {
-            let nonzero = w[v][u] != 0;
-            fine = fine & nonzero;
+    for row in &w {
+        for x in row {
+            fine &= *x != 0;
         }
     }
     fine
@@ -45,9 +41,8 @@ pub fn row_fine(row: [i32; 8]) -> bool
     ensures { result ≡ every level_fine row }
 {
     let mut fine = true;
-    for u in 0..8 {
-        let level = ranges::Level::fine(row[u]);
-        fine = fine & level;
+    for x in &row {
+        fine &= ranges::Level::fine(*x);
     }
     fine
 }

@@ -1,7 +1,8 @@
 // An I-VOP's header out of bits, and macroblocks with their header in their bits.
+use assembly::BlockAssemblyError;
 use block::MacroblockTextureContext;
 use coefficients::BlockPredictors;
-use headers::{DerivedMbType, HeaderFields, HeaderRead};
+use headers::{DerivedMbType, HeaderFields};
 use idct::HalfIntegerRounding;
 use macroblock::WholeDecoded;
 use std::io;
@@ -48,8 +49,8 @@ fn header(
     crate::named(rt, b"header", name)?;
     let answer = headers::parse_macroblock_header(data, crate::at_bit(at), quantiser_scale);
     match answer {
-        HeaderRead::Refused(e) => refused(rt, e.number(), e.figure())?,
-        HeaderRead::Read(fields, next) => {
+        Err(e) => refused(rt, e.number(), e.figure())?,
+        Ok((fields, next)) => {
             said(rt, fields)?;
             crate::number(rt, next.bit_pos as u64)?;
         }
@@ -57,27 +58,19 @@ fn header(
     crate::text(rt, b"\n")
 }
 
-fn lesser(a: i32, b: i32) -> i32 {
-    if a < b { a } else { b }
-}
-
-fn greater(a: i32, b: i32) -> i32 {
-    if a < b { b } else { a }
-}
-
 // The least and the greatest.
 fn ends(rt: &impl Print, samples: &[i32]) -> io::Result<()> {
     let mut least = i32::MAX;
     let mut greatest = i32::MIN;
-    for k in 0..samples.len() {
-        least = lesser(least, samples[k]);
-        greatest = greater(greatest, samples[k]);
+    for z in samples {
+        least = least.min(*z);
+        greatest = greatest.max(*z);
     }
     crate::signed(rt, least)?;
     crate::signed(rt, greatest)
 }
 
-fn whole(data: &[u8], at: usize, samples: &mut [i32]) -> WholeDecoded {
+fn whole(data: &[u8], at: usize, samples: &mut [i32]) -> Result<WholeDecoded, BlockAssemblyError> {
     let context = MacroblockTextureContext {
         quantiser_scale: 8,
         bits_per_pixel: 8,
@@ -105,8 +98,15 @@ fn macroblock(rt: &impl Print, name: &[u8], data: &[u8], at: usize) -> io::Resul
     let mut samples = [0i32; 384];
     let answer = whole(data, at, &mut samples);
     match answer {
-        WholeDecoded::Refused(e) => refused(rt, e.number(), e.figure())?,
-        WholeDecoded::Decoded(bits, next, _, fields) => {
+        Err(e) => refused(rt, e.number(), e.figure())?,
+        Ok(
+            WholeDecoded {
+                bits,
+                next,
+                spellings: _,
+                fields,
+            },
+        ) => {
             said(rt, fields)?;
             crate::number(rt, bits as u64)?;
             crate::number(rt, next.bit_pos as u64)?;

@@ -6,8 +6,9 @@ mod header;
 
 use bits::Cursor;
 use codes::{DcComponent, TcoefTable};
+use events::AcEvent;
 use std::io;
-use texture::{DcRead, EventRead, EventsRead, Spelling, Spellings, TextureParseError};
+use texture::{Spelling, Spellings, TextureParseError};
 
 pub(crate) fn text(rt: &impl Print, s: &[u8]) -> io::Result<()> {
     rt.write_all(s)
@@ -20,14 +21,11 @@ pub(crate) fn number(rt: &impl Print, n: u64) -> io::Result<()> {
 
 pub(crate) fn signed(rt: &impl Print, n: i32) -> io::Result<()> {
     text(rt, b" ")?;
-    if n < 0 {
-        text(rt, b"-")?;
-    }
-    rt.print(numbers::abs(n))
+    rt.print(n)
 }
 
 pub(crate) fn flag(rt: &impl Print, set: bool) -> io::Result<()> {
-    if set { number(rt, 1) } else { number(rt, 0) }
+    number(rt, u64::from(set))
 }
 
 fn refused(rt: &impl Print, e: TextureParseError) -> io::Result<()> {
@@ -57,8 +55,8 @@ fn dc(
     named(rt, b"dc", name)?;
     let answer = texture::decode_intra_dc(data, at_bit(at), component);
     match answer {
-        DcRead::Refused(e) => refused(rt, e)?,
-        DcRead::Dc(d, next) => {
+        Err(e) => refused(rt, e)?,
+        Ok((d, next)) => {
             number(rt, d.size as u64)?;
             signed(rt, d.differential)?;
             number(rt, next.bit_pos as u64)?;
@@ -77,10 +75,13 @@ fn spelling(rt: &impl Print, k: Spelling) -> io::Result<()> {
     }
 }
 
-fn print_event(rt: &impl Print, answer: EventRead) -> io::Result<()> {
+fn print_event(
+    rt: &impl Print,
+    answer: Result<(AcEvent, Cursor), TextureParseError>,
+) -> io::Result<()> {
     match answer {
-        EventRead::Refused(e) => refused(rt, e)?,
-        EventRead::Event(v, next) => {
+        Err(e) => refused(rt, e)?,
+        Ok((v, next)) => {
             flag(rt, v.last)?;
             number(rt, v.run as u64)?;
             signed(rt, v.level)?;
@@ -115,10 +116,10 @@ fn event_rvlc(
 }
 
 fn places(rt: &impl Print, qfs: [i32; 64]) -> io::Result<()> {
-    for i in 0..64 {
-        if qfs[i] != 0 {
+    for (i, level) in qfs.iter().enumerate() {
+        if *level != 0 {
             number(rt, i as u64)?;
-            signed(rt, qfs[i])?;
+            signed(rt, *level)?;
         }
     }
     Ok(())
@@ -134,13 +135,17 @@ fn spelled(rt: &impl Print, n: Spellings) -> io::Result<()> {
     number(rt, n.rvlc_escape as u64)
 }
 
-fn print_list(rt: &impl Print, answer: EventsRead, qfs: [i32; 64]) -> io::Result<()> {
+fn print_list(
+    rt: &impl Print,
+    answer: Result<(Cursor, Spellings), TextureParseError>,
+    qfs: [i32; 64],
+) -> io::Result<()> {
     match answer {
-        EventsRead::Refused(e) => {
+        Err(e) => {
             refused(rt, e)?;
             places(rt, qfs)?;
         }
-        EventsRead::Read(next, n) => {
+        Ok((next, n)) => {
             number(rt, next.bit_pos as u64)?;
             places(rt, qfs)?;
             spelled(rt, n)?;

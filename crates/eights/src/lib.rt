@@ -81,7 +81,7 @@ pub fn add_term(sums: [f64; 8], f: f64, cosines: [f64; 8]) -> [f64; 8]
     output
 }
 
-// The same at each x below 4.
+// The same at each x below 4. A clause over arrays of any length would speak of them at two moments, so this one is written out.
 pub fn four_terms(sums: [f64; 4], f: f64, cosines: [f64; 4]) -> [f64; 4]
     ensures { result ≡ build 4 (λ (x : ℕ). add binary64 (get_or sums x nan) (mul binary64 f (get_or cosines x nan))) }
 {

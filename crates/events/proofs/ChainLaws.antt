@@ -21,18 +21,16 @@ use Rattle.events.specs.EventReader.{event, fixed, run_and_level, rvlc_escaped, 
 use Rattle.events.specs.Inside.{said_event, InsideEvent, SaysEvent, marked, rvlc_settled, settled}
 use Rattle.events.specs.Rows.{RowIn, columns, row_of}
 use Rattle.events.specs.declared.event.AcEvent.{AcEvent}
-use Rattle.events.specs.declared.event.EventRead.{EventRead}
-use Rattle.events.specs.declared.event.EventRead.TheVariants.{Event as EventIs, Refused as EventRefused}
 use Rattle.events.specs.declared.event.RowForm.{RowForm}
-use Rattle.fields.proofs.ChainLaws.{field_asked, field_first, number_is, place_is, refused_first, refused-is, rest-is}
+use Rattle.fields.proofs.ChainLaws.{field_asked, number_is, place_is, refused_first, refused-is, rest-is}
 use Rattle.fields.proofs.ReadLaws.{bind_ok, field-sound, no_ok}
 use Rattle.fields.specs.Answer.{field_answer, got_told}
 use Rattle.fields.specs.Inside.{Readable, SaysNumber}
 use Rattle.fields.specs.Reader.{Res, ok, no, bind, field, mapped, marker}
 use Rattle.fields.specs.declared.error.TextureParseError.{TextureParseError}
 use Rattle.fields.specs.declared.error.TextureParseError.TheVariants.{EscapeMarkerBitMissing, OutOfRange, ReservedEscapeLevel}
-use Rattle.fields.specs.declared.field.Got.{Got}
-use Rattle.fields.specs.declared.field.Got.TheVariants.{Number, Refused as NumberRefused}
+use Rattle.numbers.proofs.Parts.{err_by}
+use Rattle.std.specs.Prelude.{Err, IsErr, IsErrAnd, Ok, Result}
 
 -- ---- n bits and a marker
 
@@ -61,59 +59,63 @@ marked-lt n b {v} {r} q =
 -- ---- a number, then an event
 
 module _ (d : List ℕ) (t : TcoefTable) where
-  pub refused : (k : ℕ → Bits → Res Event) (g : Got) (m : Res ℕ) {e : TextureParseError} → SaysNumber d g m → g ≡ NumberRefused e
-      → SaysEvent d (EventRefused e) (mapped (value_of t) (bind m k))
+  pub refused : (k : ℕ → Bits → Res Event) (g : Result (ℕ × Cursor) TextureParseError) (m : Res ℕ) {e : TextureParseError} → SaysNumber d g m → g ≡ Err e
+      → SaysEvent d (Err e) (mapped (value_of t) (bind m k))
   refused k g m s q = record { is = sym (ap (λ (x : Res ℕ). mapped (value_of t) (bind x k)) (refused-is d g m s q)); inside = tt }
 
-  pub passed : (k : ℕ → Bits → Res Event) (g : Got) (m : Res ℕ) {v : ℕ} {c : Cursor} {r : EventRead} → SaysNumber d g m → g ≡ Number v c
+  pub passed : (k : ℕ → Bits → Res Event) (g : Result (ℕ × Cursor) TextureParseError) (m : Res ℕ) {v : ℕ} {c : Cursor} {r : Result (AcEvent × Cursor) TextureParseError} → SaysNumber d g m → g ≡ Ok (v, c)
       → SaysEvent d r (mapped (value_of t) (k v (bits_from d c.bit_pos))) → SaysEvent d r (mapped (value_of t) (bind m k))
   passed k g m s q u = record { is = u.is ∙ sym (ap (λ (x : Res ℕ). mapped (value_of t) (bind x k)) (number_is d g m s q)); inside = u.inside }
 
+  -- a refusal that `?` hands on
+  pub handed : {r : Result (AcEvent × Cursor) TextureParseError} {e : TextureParseError} (m : Res AcEvent) → IsErr r × IsErrAnd r (λ x. x ≡ e) → SaysEvent d (Err e) m → SaysEvent d r m
+  handed m h s = subst⁻¹ (λ (r : Result (AcEvent × Cursor) TextureParseError). SaysEvent d r m) (err_by h) s
+
   -- with its marker
-  module _ (n : ℕ) (b : Bits) (k : ℕ → Bits → Res Event) (g : Got) (s : SaysNumber d g (marked n b)) where
-    abbrev Whole : EventRead → Type 0
+  module _ (n : ℕ) (b : Bits) (k : ℕ → Bits → Res Event) (g : Result (ℕ × Cursor) TextureParseError) (s : SaysNumber d g (marked n b)) where
+    abbrev Whole : Result (AcEvent × Cursor) TextureParseError → Type 0
     Whole r = SaysEvent d r (mapped (value_of t) (bind (field n b) (λ v r. bind (marker EscapeMarkerBitMissing r) (λ _ r. k v r))))
 
-    whole : (r : EventRead) → SaysEvent d r (mapped (value_of t) (bind (marked n b) k)) → Whole r
+    whole : (r : Result (AcEvent × Cursor) TextureParseError) → SaysEvent d r (mapped (value_of t) (bind (marked n b) k)) → Whole r
     whole r u = subst (λ (x : Res Event). SaysEvent d r (mapped (value_of t) x)) (marked_then n b k) u
 
-    pub refused_m : {e : TextureParseError} → g ≡ NumberRefused e → Whole (EventRefused e)
-    refused_m {e} q = whole (EventRefused e) (refused k g (marked n b) s q)
+    pub refused_m : {e : TextureParseError} → g ≡ Err e → Whole (Err e)
+    refused_m {e} q = whole (Err e) (refused k g (marked n b) s q)
 
-    pub passed_m : {v : ℕ} {c : Cursor} {r : EventRead} → g ≡ Number v c → SaysEvent d r (mapped (value_of t) (k v (bits_from d c.bit_pos))) → Whole r
+    pub passed_m : {v : ℕ} {c : Cursor} {r : Result (AcEvent × Cursor) TextureParseError} → g ≡ Ok (v, c) → SaysEvent d r (mapped (value_of t) (k v (bits_from d c.bit_pos))) → Whole r
     passed_m {v} {c} {r} q u = whole r (passed k g (marked n b) s q u)
 
-  pub if_so : {r : EventRead} (b : Bool) (x y : Res Event) → b ≡ true → SaysEvent d r (mapped (value_of t) x) → SaysEvent d r (mapped (value_of t) (cond b x y))
+  pub if_so : {r : Result (AcEvent × Cursor) TextureParseError} (b : Bool) (x y : Res Event) → b ≡ true → SaysEvent d r (mapped (value_of t) x) → SaysEvent d r (mapped (value_of t) (cond b x y))
   if_so {r} b x y e s = subst⁻¹ (λ (b : Bool). SaysEvent d r (mapped (value_of t) (cond b x y))) e s
 
-  pub if_not : {r : EventRead} (b : Bool) (x y : Res Event) → b ≡ false → SaysEvent d r (mapped (value_of t) y) → SaysEvent d r (mapped (value_of t) (cond b x y))
+  pub if_not : {r : Result (AcEvent × Cursor) TextureParseError} (b : Bool) (x y : Res Event) → b ≡ false → SaysEvent d r (mapped (value_of t) y) → SaysEvent d r (mapped (value_of t) (cond b x y))
   if_not {r} b x y e s = subst⁻¹ (λ (b : Bool). SaysEvent d r (mapped (value_of t) (cond b x y))) e s
 
   -- the event itself
-  pub made_by : (e : Event) (c : Cursor) (r : EventRead) → r ≡ EventIs (value_of t e) c → c.bit_pos ≤ 8 * length d → SaysEvent d r (ok (value_of t e) (bits_from d c.bit_pos))
+  pub made_by : (e : Event) (c : Cursor) (r : Result (AcEvent × Cursor) TextureParseError) → r ≡ Ok (value_of t e, c) → c.bit_pos ≤ 8 * length d → SaysEvent d r (ok (value_of t e) (bits_from d c.bit_pos))
   made_by e c r q h = record { is = ap (said_event d) q; inside = subst⁻¹ (InsideEvent d) q h }
 
   -- ---- escapes whose bits are read
 
   -- the answer for a type 3 escape is the reader's
-  pub settled_says : (l n v : ℕ) (c : Cursor) (r : EventRead) → r ≡ settled l n v c → c.bit_pos ≤ 8 * length d
+  pub settled_says : (l n v : ℕ) (c : Cursor) (r : Result (AcEvent × Cursor) TextureParseError) → r ≡ settled l n v c → c.bit_pos ≤ 8 * length d
       → SaysEvent d r (mapped (value_of t) (cond (eqb v 0) (no ReservedEscapeLevel) (cond (eqb v 2048) (no ReservedEscapeLevel) (ok (type3 l n v) (bits_from d c.bit_pos)))))
   unfolding last_number run_of level_of spelling_of
   settled_says l n v c r q h = go (eqb v 0) (eqb v 2048) q
     where
-      go : (a b : Bool) → r ≡ cond a (EventRefused ReservedEscapeLevel) (cond b (EventRefused ReservedEscapeLevel) (EventIs (value_of t (type3 l n v)) c))
+      go : (a b : Bool) → r ≡ cond a (Err ReservedEscapeLevel) (cond b (Err ReservedEscapeLevel) (Ok (value_of t (type3 l n v), c)))
           → SaysEvent d r (mapped (value_of t) (cond a (no ReservedEscapeLevel) (cond b (no ReservedEscapeLevel) (ok (type3 l n v) (bits_from d c.bit_pos)))))
       go true b q = record { is = ap (said_event d) q; inside = subst⁻¹ (InsideEvent d) q tt }
       go false true q = record { is = ap (said_event d) q; inside = subst⁻¹ (InsideEvent d) q tt }
       go false false q = made_by (type3 l n v) c r q h
 
   -- and for a reversible one
-  pub rvlc-settled-says : (l n m s : ℕ) (c : Cursor) (r : EventRead) → r ≡ rvlc_settled l n m s c → c.bit_pos ≤ 8 * length d
+  pub rvlc-settled-says : (l n m s : ℕ) (c : Cursor) (r : Result (AcEvent × Cursor) TextureParseError) → r ≡ rvlc_settled l n m s c → c.bit_pos ≤ 8 * length d
       → SaysEvent d r (mapped (value_of t) (cond (eqb m 0) (no ReservedEscapeLevel) (ok (rvlc_escape l n m s) (bits_from d c.bit_pos))))
   unfolding last_number run_of level_of spelling_of
   rvlc-settled-says l n m s c r q h = go (eqb m 0) q
     where
-      go : (a : Bool) → r ≡ cond a (EventRefused ReservedEscapeLevel) (EventIs (value_of t (rvlc_escape l n m s)) c)
+      go : (a : Bool) → r ≡ cond a (Err ReservedEscapeLevel) (Ok (value_of t (rvlc_escape l n m s), c))
           → SaysEvent d r (mapped (value_of t) (cond a (no ReservedEscapeLevel) (ok (rvlc_escape l n m s) (bits_from d c.bit_pos))))
       go true q = record { is = ap (said_event d) q; inside = subst⁻¹ (InsideEvent d) q tt }
       go false q = made_by (rvlc_escape l n m s) c r q h
@@ -132,31 +134,31 @@ ends-mapped d at f (ok a r) h b s q =
 ends-mapped d at f (no e) h b s q = absurd (no_ok q)
 
 module _ (d : List ℕ) (at : ℕ) (m : Res AcEvent) where
-  abbrev answer : Bool → EventRead
-  answer x = cond x (event_told d m) (EventRefused OutOfRange)
+  abbrev answer : Bool → Result (AcEvent × Cursor) TextureParseError
+  answer x = cond x (event_told d m) (Err OutOfRange)
 
-  pub answered : in_data (length d) at ≡ true → (r : EventRead) → SaysEvent d r m → r ≡ answer (in_data (length d) at)
+  pub answered : in_data (length d) at ≡ true → (r : Result (AcEvent × Cursor) TextureParseError) → SaysEvent d r m → r ≡ answer (in_data (length d) at)
   answered h r s = told r s ∙ sym (ap answer h)
     where
-      told : (r : EventRead) → SaysEvent d r m → r ≡ event_told d m
-      told (EventIs v c) s = ap (EventIs v) (place_is d c s.inside) ∙ ap (event_told d) s.is
-      told (EventRefused e) s = ap (event_told d) s.is
+      told : (r : Result (AcEvent × Cursor) TextureParseError) → SaysEvent d r m → r ≡ event_told d m
+      told (Ok (v, c)) s = ap (λ (c : Cursor). Ok (v, c)) (place_is d c s.inside) ∙ ap (event_told d) s.is
+      told (Err e) s = ap (event_told d) s.is
 
-  answer-says : at ≤ 8 * length d → length d ≤ 1048576 → Ends d at m → (r : EventRead) → r ≡ answer (in_data (length d) at) → SaysEvent d r m
+  answer-says : at ≤ 8 * length d → length d ≤ 1048576 → Ends d at m → (r : Result (AcEvent × Cursor) TextureParseError) → r ≡ answer (in_data (length d) at) → SaysEvent d r m
   answer-says h l ends r q = go m refl (q ∙ ap answer (in_data_by (length d) at l h))
     where
       go : (x : Res AcEvent) → m ≡ x → r ≡ event_told d x → SaysEvent d r x
       go (ok v s) p q =
           let x = ends v s p in
-          subst⁻¹ (λ (r : EventRead). SaysEvent d r (ok v s)) q (record { is = ap (λ (s : Bits). ok v s) (rest-is d at h x.0 s x.1); inside = omega arith })
-      go (no e) p q = subst⁻¹ (λ (r : EventRead). SaysEvent d r (no e)) q (record { is = refl; inside = tt })
+          subst⁻¹ (λ (r : Result (AcEvent × Cursor) TextureParseError). SaysEvent d r (ok v s)) q (record { is = ap (λ (s : Bits). ok v s) (rest-is d at h x.0 s x.1); inside = omega arith })
+      go (no e) p q = subst⁻¹ (λ (r : Result (AcEvent × Cursor) TextureParseError). SaysEvent d r (no e)) q (record { is = refl; inside = tt })
 
-module _ (d : List ℕ) (c : Cursor) (h : Readable d c) (r : EventRead) where
+module _ (d : List ℕ) (c : Cursor) (h : Readable d c) (r : Result (AcEvent × Cursor) TextureParseError) where
   abbrev b : Bits
   b = bits_from d c.bit_pos
 
   says : (t : TcoefTable) (m : Res Event) → Ends d c.bit_pos m
-      → r ≡ cond (in_data (length d) c.bit_pos) (event_told d (mapped (value_of t) m)) (EventRefused OutOfRange) → SaysEvent d r (mapped (value_of t) m)
+      → r ≡ cond (in_data (length d) c.bit_pos) (event_told d (mapped (value_of t) m)) (Err OutOfRange) → SaysEvent d r (mapped (value_of t) m)
   says t m ends q = answer-says d c.bit_pos (mapped (value_of t) m) h.0 h.1 (ends-mapped d c.bit_pos (value_of t) m ends) r q
 
   pub event-says : (rev : Bool) (t : TcoefTable) → r ≡ event_answer d c.bit_pos rev t → SaysEvent d r (mapped (value_of t) (event rev b))
@@ -186,30 +188,20 @@ module _ (d : List ℕ) (c : Cursor) (h : Readable d c) (r : EventRead) where
       same (ok s u) = ap (λ (v : AcEvent). ok v u) (row_of_is k t es e i s l)
       same (no x) = refl
 
--- ---- an answer whose first bit is refused, or read
+-- ---- an answer whose first bit is refused
 
-module _ (d : List ℕ) (at : ℕ) (g : Got) (q : g ≡ field_answer d at 1) where
+module _ (d : List ℕ) (at : ℕ) (g : Result (ℕ × Cursor) TextureParseError) (q : g ≡ field_answer d at 1) where
   abbrev first : Res ℕ
   first = field 1 (bits_from d at)
 
-  asked : g ≡ cond (in_data (length d) at) (got_told d first) (NumberRefused OutOfRange)
+  asked : g ≡ cond (in_data (length d) at) (got_told d first) (Err OutOfRange)
   asked = q ∙ field_asked d at 1 (omega arith)
 
-  pub sign-refused : (es : List ℕ) (k : RowForm) (i : ℕ) {e : TextureParseError} → g ≡ NumberRefused e → EventRefused e ≡ sign_answer d at es k i
-  sign-refused es k i f = refused_first d (event_told d) EventRefused (λ e. refl) (in_data (length d) at) first (λ s r. ok (row_of es k i s) r) g asked f
-
-  pub sign-given : (es : List ℕ) (k : RowForm) (i : ℕ) {s : ℕ} {next : Cursor} → g ≡ Number s next → EventIs (row_of es k i s) next ≡ sign_answer d at es k i
-  sign-given es k i {s} {next} f =
-      let x = field_first d at 1 (omega arith) g q f in
-      ap (EventIs (row_of es k i s)) (place_is d next x.readable.0)
-      ∙ sym (ap (λ (t : Bool). cond t (event_told d (bind first (λ s r. ok (row_of es k i s) r))) (EventRefused OutOfRange)) x.in_data_lem
-      ∙ ap (λ (m : Res ℕ). event_told d (bind m (λ s r. ok (row_of es k i s) r))) x.read)
-
-  module _ (t : TcoefTable) {e : TextureParseError} (f : g ≡ NumberRefused e) where
-    pub fixed-refused : EventRefused e ≡ fixed_answer d at t
+  module _ (t : TcoefTable) {e : TextureParseError} (f : g ≡ Err e) where
+    pub fixed-refused : Err e ≡ fixed_answer d at t
     unfolding fixed
-    fixed-refused = refused_first d (λ (x : Res Event). event_told d (mapped (value_of t) x)) EventRefused (λ e. refl) (in_data (length d) at) first (λ l r. run_and_level l r) g asked f
+    fixed-refused = refused_first d (λ (x : Res Event). event_told d (mapped (value_of t) x)) Err (λ e. refl) (in_data (length d) at) first (λ l r. run_and_level l r) g asked f
 
-    pub rvlc-escape-refused : EventRefused e ≡ rvlc_escape_answer d at t
+    pub rvlc-escape-refused : Err e ≡ rvlc_escape_answer d at t
     unfolding rvlc_escaped
-    rvlc-escape-refused = refused_first d (λ (x : Res Event). event_told d (mapped (value_of t) x)) EventRefused (λ e. refl) (in_data (length d) at) first (λ l r. rvlc_run l r) g asked f
+    rvlc-escape-refused = refused_first d (λ (x : Res Event). event_told d (mapped (value_of t) x)) Err (λ e. refl) (in_data (length d) at) first (λ l r. rvlc_run l r) g asked f

@@ -14,8 +14,6 @@ use Rattle.events.specs.EventReader.{event, fixed, rvlc_escaped}
 use Rattle.events.specs.Outcomes.{event_due, event_outcome, event_said, fixed_due, row_said, rvlc_escape_due, sign_due}
 use Rattle.events.specs.Rows.{row_of}
 use Rattle.events.specs.declared.event.AcEvent.{AcEvent}
-use Rattle.events.specs.declared.event.EventRead.{EventRead}
-use Rattle.events.specs.declared.event.EventRead.TheVariants.{Refused as EventRefused}
 use Rattle.events.specs.declared.event.RowForm.{RowForm}
 use Rattle.events.specs.declared.spelling.Spelling.{Spelling}
 use Rattle.fields.proofs.OutcomeLaws.{after_test}
@@ -23,6 +21,9 @@ use Rattle.fields.specs.Outcomes.{read_as}
 use Rattle.fields.specs.Reader.{Res, bind, field, mapped, no, ok}
 use Rattle.fields.specs.declared.error.TextureParseError.TheVariants.{OutOfRange}
 use Rattle.numbers.specs.Outcome.{Outcome, checked}
+use Rattle.std.specs.Prelude.{Err, Result}
+use Rattle.bits.specs.declared.cursor.Cursor.{Cursor}
+use Rattle.fields.specs.declared.error.TextureParseError.{TextureParseError}
 
 module _ (d : List ℕ) where
   event-said : (t : TcoefTable) (m : Res Event) → event_outcome (event_told d (mapped (value_of t) m)) ≡ read_as (event_said t) d m
@@ -34,8 +35,8 @@ module _ (d : List ℕ) where
   row-said f (no e) = refl
 
   module _ (at : ℕ) where
-    due : {o : Outcome ((Bool × (ℕ × (ℤ × Spelling))) × ℕ)} (r : EventRead) → event_outcome r ≡ o → event_outcome (cond (in_data (length d) at) r (EventRefused OutOfRange)) ≡ checked ((in_data (length d) at, 11) ∷ []) o
-    due r h = after_test event_outcome EventRefused (λ e. refl) (in_data (length d) at) r h
+    due : {o : Outcome ((Bool × (ℕ × (ℤ × Spelling))) × ℕ)} (r : Result (AcEvent × Cursor) TextureParseError) → event_outcome r ≡ o → event_outcome (cond (in_data (length d) at) r (Err OutOfRange)) ≡ checked ((in_data (length d) at, 11) ∷ []) o
+    due r h = after_test event_outcome Err (λ e. refl) (in_data (length d) at) r h
 
     pub event_due_lem : (rev : Bool) (t : TcoefTable) → event_outcome (event_answer d at rev t) ≡ event_due d at rev t
     event_due_lem rev t = due _ (event-said t (event rev (bits_from d at)))

@@ -2,7 +2,7 @@
 use mathlib.Core.Bool.{Bool}
 use mathlib.Core.List.{List, [], ◌++◌, ◌∷◌, map}
 use mathlib.Core.Path.{◌≡◌, refl, sym, ap, ◌∙◌, ap₂}
-use Prim.Native.Nat.{◌+◌, ◌<◌, suc, zero, ℕ, ◌≤◌}
+use Prim.Native.Nat.{◌+◌, ◌<◌, suc, zero, ℕ}
 use native.Mathlib.Nat.{le_of_suc-le-suc, not-suc-le-zero}
 use native.Mathlib.Omega.{arith}
 use lib.Dec.{ltb, ltb→lt, eqb}
@@ -22,11 +22,6 @@ use Rattle.events.specs.declared.spelling.Spelling.{Spelling}
 use Rattle.events.specs.declared.spelling.Spelling.TheVariants as S
 use Rattle.numbers.proofs.Every.{every_at}
 use Rattle.codes.specs.Tcoef as R
-
-pub get_d_past : (xs : List ℕ) (i : ℕ) → length xs ≤ i → get_or xs i 0 ≡ 0
-get_d_past [] i h = refl
-get_d_past (x ∷ xs) zero h = absurd (not-suc-le-zero h)
-get_d_past (x ∷ xs) (suc i) h = get_d_past xs i (le_of_suc-le-suc h)
 
 get_map : {A : Type 0} (f : A → ℕ) (rows : List A) (i : ℕ) (a : A) → i < length rows → get_or (map f rows) i 0 ≡ f (get_or rows i a)
 get_map f [] i a h = absurd (not-suc-le-zero h)

@@ -12,13 +12,6 @@ pub struct AcEvent {
     pub spelling: Spelling,
 }
 
-// An event and the cursor after it, or a refusal.
-#[derive(Clone, Copy)]
-pub enum EventRead {
-    Event(AcEvent, Cursor),
-    Refused(TextureParseError),
-}
-
 // How a row and its sign stand for an event.
 #[derive(Clone, Copy)]
 pub enum RowForm {

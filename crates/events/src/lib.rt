@@ -11,7 +11,7 @@ mod row;
 mod rvlc;
 mod spelling;
 
-pub use event::{AcEvent, EventRead, RowForm};
+pub use event::{AcEvent, RowForm};
 pub use fixed::read_fixed;
 pub use row::read_sign;
 pub use rvlc::read_rvlc_escape;

@@ -5,10 +5,10 @@ ghost use Rattle.events.specs.Event.{signed12, signed_by};
 ghost use Rattle.events.specs.Outcomes.{event_outcome, sign_due};
 ghost use Rattle.events.specs.Rows.{row_event, row_of};
 
-use crate::event::{AcEvent, EventRead, RowForm};
+use crate::event::{AcEvent, RowForm};
 use crate::spelling::Spelling;
 use bits::Cursor;
-use fields::Got;
+use fields::TextureParseError;
 
 // A magnitude with a sign, 1 for minus.
 pub(crate) fn signed_level(sign: u32, size: u32) -> i32
@@ -16,10 +16,7 @@ pub(crate) fn signed_level(sign: u32, size: u32) -> i32
     ensures { result ≡ signed_by sign size }
 {
     let x = size as i32;
-    if sign == 1 {
-        return -x;
-    }
-    x
+    if sign == 1 { -x } else { x }
 }
 
 // A 12-bit field, read as two's complement.
@@ -28,19 +25,17 @@ pub(crate) fn sign_extend12(raw: u32) -> i32
     ensures { result ≡ signed12 raw }
 {
     if 2048 <= raw {
-        return (raw as i32) - 4096;
+        (raw as i32) - 4096
+    } else {
+        raw as i32
     }
-    raw as i32
 }
 
 // A number of a lent table; 0 past its end.
 fn number(events: &[u8], at: usize) -> u32
     ensures { (result ≡ get_or events.now at 0) × (result < 256) }
 {
-    if at < events.len() {
-        return events[at] as u32;
-    }
-    0
+    u32::from(events.get(at).copied().unwrap_or(0))
 }
 
 // The event of a row and a sign: columns of `rows` numbers hold last, run and level, and the magnitude
@@ -88,16 +83,17 @@ fn event_of(events: &[u8], row: usize, sign: u32, form: RowForm) -> AcEvent
 }
 
 // The sign of a row of a lent table, and the event.
-pub fn read_sign(data: &[u8], c: Cursor, events: &[u8], row: u32, form: RowForm) -> EventRead
+pub fn read_sign(
+    data: &[u8],
+    c: Cursor,
+    events: &[u8],
+    row: u32,
+    form: RowForm,
+) -> Result<(AcEvent, Cursor), TextureParseError>
     ensures value { result ≡ sign_answer «data».now c.bit_pos events.now form row }
     ensures outcome { event_outcome result ≡ sign_due «data».now c.bit_pos events.now form row }
 {
-    let g = fields::read_field(data, c, 1);
-    match g {
-        Got::Refused(e) => EventRead::Refused(e),
-        Got::Number(sign, next) => {
-            let v = event_of(events, row as usize, sign, form);
-            EventRead::Event(v, next)
-        }
-    }
+    let (sign, next) = fields::read_field(data, c, 1)?;
+    let v = event_of(events, row as usize, sign, form);
+    Ok((v, next))
 }

@@ -8,9 +8,9 @@ use Rattle.fields.specs.Outcomes.{got_outcome}
 use Rattle.fields.specs.Refusal.{figure_of, number_of}
 use Rattle.fields.specs.declared.error.TextureParseError.{TextureParseError}
 use Rattle.fields.specs.declared.error.TextureParseError.TheVariants.{Truncated, InvalidDcSize, MarkerBitMissing, InvalidTcoef, EscapeMarkerBitMissing, ReservedEscapeLevel, RvlcEscapeDelimiterMissing, Overflow, OutOfRange, EndedInsideCode, InvalidHeader}
-use Rattle.fields.specs.declared.field.Got.{Got}
-use Rattle.fields.specs.declared.field.Got.TheVariants.{Number, Refused as NumberRefused}
 use Rattle.numbers.specs.Outcome.{Outcome, accepted, refused}
+use Rattle.std.specs.Prelude.{Err, Ok, Result}
+use Rattle.bits.specs.declared.cursor.Cursor.{Cursor}
 
 -- ---- refusals
 
@@ -51,12 +51,12 @@ abbrev pub answer_by : {A R : Type 0} → (A → R) → (TextureParseError → R
 answer_by took fails (accepted a) = took a
 answer_by took fails (refused n f) = fails (error_by n f)
 
-abbrev got_by : Outcome (ℕ × ℕ) → Got
-got_by = answer_by (λ (p : ℕ × ℕ). Number p.0 (cursor_at p.1)) NumberRefused
+abbrev got_by : Outcome (ℕ × ℕ) → Result (ℕ × Cursor) TextureParseError
+got_by = answer_by (λ (p : ℕ × ℕ). Ok (p.0, cursor_at p.1)) Err
 
-got_by_lem : (r : Got) → r ≡ got_by (got_outcome r)
-got_by_lem (Number v c) = refl
-got_by_lem (NumberRefused e) = ap NumberRefused (error_by_lem e)
+got_by_lem : (r : Result (ℕ × Cursor) TextureParseError) → r ≡ got_by (got_outcome r)
+got_by_lem (Ok (v, c)) = refl
+got_by_lem (Err e) = ap Err (error_by_lem e)
 
-pub got_apart : (r s : Got) → got_outcome r ≡ got_outcome s → r ≡ s
+pub got_apart : (r s : Result (ℕ × Cursor) TextureParseError) → got_outcome r ≡ got_outcome s → r ≡ s
 got_apart r s h = got_by_lem r ∙ ap got_by h ∙ sym (got_by_lem s)

@@ -20,35 +20,39 @@ use Rattle.fields.specs.Inside.{InsideNumber, Readable, SaysNumber, said_number}
 use Rattle.fields.specs.Reader.{Res, bind, code, field, marker, no, ok}
 use Rattle.fields.specs.declared.error.TextureParseError.{TextureParseError}
 use Rattle.fields.specs.declared.error.TextureParseError.TheVariants.{OutOfRange}
-use Rattle.fields.specs.declared.field.Got.{Got}
-use Rattle.fields.specs.declared.field.Got.TheVariants.{Number, Refused as NumberRefused}
+use Rattle.numbers.proofs.Parts.{err_by}
+use Rattle.std.specs.Prelude.{Err, IsErr, IsErrAnd, Ok, Result}
 
 module _ (d : List ℕ) where
   -- ---- what an answer tells of the reader
 
-  pub refused-is : (g : Got) (m : Res ℕ) {e : TextureParseError} → SaysNumber d g m → g ≡ NumberRefused e → m ≡ no e
+  pub refused-is : (g : Result (ℕ × Cursor) TextureParseError) (m : Res ℕ) {e : TextureParseError} → SaysNumber d g m → g ≡ Err e → m ≡ no e
   refused-is g m s q = sym s.is ∙ ap (said_number d) q
 
-  pub number_is : (g : Got) (m : Res ℕ) {v : ℕ} {c : Cursor} → SaysNumber d g m → g ≡ Number v c → m ≡ ok v (bits_from d c.bit_pos)
+  pub number_is : (g : Result (ℕ × Cursor) TextureParseError) (m : Res ℕ) {v : ℕ} {c : Cursor} → SaysNumber d g m → g ≡ Ok (v, c) → m ≡ ok v (bits_from d c.bit_pos)
   number_is g m s q = sym s.is ∙ ap (said_number d) q
 
-  pub number_in : (g : Got) (m : Res ℕ) {v : ℕ} {c : Cursor} → SaysNumber d g m → g ≡ Number v c → c.bit_pos ≤ 8 * length d
+  pub number_in : (g : Result (ℕ × Cursor) TextureParseError) (m : Res ℕ) {v : ℕ} {c : Cursor} → SaysNumber d g m → g ≡ Ok (v, c) → c.bit_pos ≤ 8 * length d
   number_in g m s q = subst (InsideNumber d) q s.inside
 
   -- ---- a number, then a number
 
-  pub refused_n : (k : ℕ → Bits → Res ℕ) (g : Got) (m : Res ℕ) {e : TextureParseError} → SaysNumber d g m → g ≡ NumberRefused e → SaysNumber d (NumberRefused e) (bind m k)
+  pub refused_n : (k : ℕ → Bits → Res ℕ) (g : Result (ℕ × Cursor) TextureParseError) (m : Res ℕ) {e : TextureParseError} → SaysNumber d g m → g ≡ Err e → SaysNumber d (Err e) (bind m k)
   refused_n k g m s q = record { is = sym (ap (λ (x : Res ℕ). bind x k) (refused-is g m s q)); inside = tt }
 
-  pub passed_n : (k : ℕ → Bits → Res ℕ) (g : Got) (m : Res ℕ) {v : ℕ} {c : Cursor} {r : Got} → SaysNumber d g m → g ≡ Number v c
+  pub passed_n : (k : ℕ → Bits → Res ℕ) (g : Result (ℕ × Cursor) TextureParseError) (m : Res ℕ) {v : ℕ} {c : Cursor} {r : Result (ℕ × Cursor) TextureParseError} → SaysNumber d g m → g ≡ Ok (v, c)
       → SaysNumber d r (k v (bits_from d c.bit_pos)) → SaysNumber d r (bind m k)
   passed_n k g m s q t = record { is = t.is ∙ sym (ap (λ (x : Res ℕ). bind x k) (number_is g m s q)); inside = t.inside }
 
+  -- a refusal that `?` hands on
+  pub handed_n : {r : Result (ℕ × Cursor) TextureParseError} {e : TextureParseError} (m : Res ℕ) → IsErr r × IsErrAnd r (λ x. x ≡ e) → SaysNumber d (Err e) m → SaysNumber d r m
+  handed_n m h s = subst⁻¹ (λ (r : Result (ℕ × Cursor) TextureParseError). SaysNumber d r m) (err_by h) s
+
   -- a test of the reader's
-  pub if_so_n : {r : Got} (t : Bool) (x y : Res ℕ) → t ≡ true → SaysNumber d r x → SaysNumber d r (cond t x y)
+  pub if_so_n : {r : Result (ℕ × Cursor) TextureParseError} (t : Bool) (x y : Res ℕ) → t ≡ true → SaysNumber d r x → SaysNumber d r (cond t x y)
   if_so_n {r} t x y e s = subst⁻¹ (λ (b : Bool). SaysNumber d r (cond b x y)) e s
 
-  pub if_not_n : {r : Got} (t : Bool) (x y : Res ℕ) → t ≡ false → SaysNumber d r y → SaysNumber d r (cond t x y)
+  pub if_not_n : {r : Result (ℕ × Cursor) TextureParseError} (t : Bool) (x y : Res ℕ) → t ≡ false → SaysNumber d r y → SaysNumber d r (cond t x y)
   if_not_n {r} t x y e s = subst⁻¹ (λ (b : Bool). SaysNumber d r (cond b x y)) e s
 
   -- ---- a position in the data is where the bits that are left begin
@@ -72,17 +76,17 @@ module _ (d : List ℕ) where
   abbrev Ends : ℕ → Res ℕ → Type 0
   Ends at m = (v : ℕ) (r : Bits) → m ≡ ok v r → (p : Bits) × (bits_from d at ≡ p ++ r)
 
-  told-says : (at : ℕ) → at ≤ 8 * length d → (m : Res ℕ) → Ends at m → (g : Got) → g ≡ got_told d m → SaysNumber d g m
+  told-says : (at : ℕ) → at ≤ 8 * length d → (m : Res ℕ) → Ends at m → (g : Result (ℕ × Cursor) TextureParseError) → g ≡ got_told d m → SaysNumber d g m
   told-says at h (ok v r) f g q =
       let x = f v r refl in
-      subst⁻¹ (λ (g : Got). SaysNumber d g (ok v r)) q (record { is = ap (λ (s : Bits). ok v s) (rest-is at h x.0 r x.1); inside = omega arith })
-  told-says at h (no e) f g q = subst⁻¹ (λ (g : Got). SaysNumber d g (no e)) q (record { is = refl; inside = tt })
+      subst⁻¹ (λ (g : Result (ℕ × Cursor) TextureParseError). SaysNumber d g (ok v r)) q (record { is = ap (λ (s : Bits). ok v s) (rest-is at h x.0 r x.1); inside = omega arith })
+  told-says at h (no e) f g q = subst⁻¹ (λ (g : Result (ℕ × Cursor) TextureParseError). SaysNumber d g (no e)) q (record { is = refl; inside = tt })
 
-  answer-says : (at : ℕ) → at ≤ 8 * length d → (t : Bool) → t ≡ true → (m : Res ℕ) → Ends at m → (g : Got)
-      → g ≡ cond t (got_told d m) (NumberRefused OutOfRange) → SaysNumber d g m
-  answer-says at h t e m f g q = told-says at h m f g (q ∙ ap (λ (t : Bool). cond t (got_told d m) (NumberRefused OutOfRange)) e)
+  answer-says : (at : ℕ) → at ≤ 8 * length d → (t : Bool) → t ≡ true → (m : Res ℕ) → Ends at m → (g : Result (ℕ × Cursor) TextureParseError)
+      → g ≡ cond t (got_told d m) (Err OutOfRange) → SaysNumber d g m
+  answer-says at h t e m f g q = told-says at h m f g (q ∙ ap (λ (t : Bool). cond t (got_told d m) (Err OutOfRange)) e)
 
-  module _ (c : Cursor) (h : Readable d c) (g : Got) where
+  module _ (c : Cursor) (h : Readable d c) (g : Result (ℕ × Cursor) TextureParseError) where
     abbrev b : Bits
     b = bits_from d c.bit_pos
 
@@ -103,13 +107,13 @@ module _ (d : List ℕ) where
   -- ---- an answer to any data, first of all
 
   -- a number is read of data that may be read
-  number-there : (t : Bool) (m : Res ℕ) (g : Got) {v : ℕ} {c : Cursor} → g ≡ cond t (got_told d m) (NumberRefused OutOfRange) → g ≡ Number v c → t ≡ true
+  number-there : (t : Bool) (m : Res ℕ) (g : Result (ℕ × Cursor) TextureParseError) {v : ℕ} {c : Cursor} → g ≡ cond t (got_told d m) (Err OutOfRange) → g ≡ Ok (v, c) → t ≡ true
   number-there true m g q e = refl
   number-there false m g q e = absurd (let z : ◌≡◌ {A = ℕ} 0 1 = cc in omega arith)
 
   -- a refusal, of the data or of what they hold, is handed on
   pub refused_first : {A R : Type 0} (told : Res A → R) (fails : TextureParseError → R) → ((e : TextureParseError) → told (no e) ≡ fails e)
-      → (t : Bool) (m : Res ℕ) (k : ℕ → Bits → Res A) (g : Got) {e : TextureParseError} → g ≡ cond t (got_told d m) (NumberRefused OutOfRange) → g ≡ NumberRefused e
+      → (t : Bool) (m : Res ℕ) (k : ℕ → Bits → Res A) (g : Result (ℕ × Cursor) TextureParseError) {e : TextureParseError} → g ≡ cond t (got_told d m) (Err OutOfRange) → g ≡ Err e
       → fails e ≡ cond t (told (bind m k)) (fails OutOfRange)
   refused_first told fails named true (ok v r) k g {e} q f = absurd (let z : ◌≡◌ {A = ℕ} 0 1 = cc in omega arith)
   refused_first told fails named true (no x) k g {e} q f = let z : e ≡ x = cc in ap fails z ∙ sym (named x)
@@ -119,13 +123,13 @@ module _ (d : List ℕ) where
 
 module _ (d : List ℕ) (at : ℕ) where
   -- one was read
-  pub record First (m : Res ℕ) (g : Got) (v : ℕ) (next : Cursor) : Type 0 where
+  pub record First (m : Res ℕ) (g : Result (ℕ × Cursor) TextureParseError) (v : ℕ) (next : Cursor) : Type 0 where
     pub in_data_lem : in_data (length d) at ≡ true
     pub says : SaysNumber d g m
     pub read : m ≡ ok v (bits_from d next.bit_pos)
     pub readable : Readable d next
 
-  first : (m : Res ℕ) → Ends d at m → (g : Got) {v : ℕ} {next : Cursor} → g ≡ cond (in_data (length d) at) (got_told d m) (NumberRefused OutOfRange) → g ≡ Number v next → First m g v next
+  first : (m : Res ℕ) → Ends d at m → (g : Result (ℕ × Cursor) TextureParseError) {v : ℕ} {next : Cursor} → g ≡ cond (in_data (length d) at) (got_told d m) (Err OutOfRange) → g ≡ Ok (v, next) → First m g v next
   first m ends g q f =
       let h = number-there d (in_data (length d) at) m g q f in
       let y = in_data_yes (length d) at h in
@@ -133,16 +137,16 @@ module _ (d : List ℕ) (at : ℕ) where
       record { in_data_lem = h; says = s; read = number_is d g m s f; readable = (number_in d g m s f, y.0) }
 
   -- a field of at most 32 bits asks nothing more
-  pub field_asked : (n : ℕ) → n ≤ 32 → field_answer d at n ≡ cond (in_data (length d) at) (got_told d (field n (bits_from d at))) (NumberRefused OutOfRange)
-  field_asked n l = ap (λ (t : Bool). cond (in_data (length d) at && t) (got_told d (field n (bits_from d at))) (NumberRefused OutOfRange)) (le-leb n 32 l) ∙ go (in_data (length d) at)
+  pub field_asked : (n : ℕ) → n ≤ 32 → field_answer d at n ≡ cond (in_data (length d) at) (got_told d (field n (bits_from d at))) (Err OutOfRange)
+  field_asked n l = ap (λ (t : Bool). cond (in_data (length d) at && t) (got_told d (field n (bits_from d at))) (Err OutOfRange)) (le-leb n 32 l) ∙ go (in_data (length d) at)
     where
-      go : (s : Bool) → cond (s && true) (got_told d (field n (bits_from d at))) (NumberRefused OutOfRange) ≡ cond s (got_told d (field n (bits_from d at))) (NumberRefused OutOfRange)
+      go : (s : Bool) → cond (s && true) (got_told d (field n (bits_from d at))) (Err OutOfRange) ≡ cond s (got_told d (field n (bits_from d at))) (Err OutOfRange)
       go true = refl
       go false = refl
 
-  pub field_first : (n : ℕ) → n ≤ 32 → (g : Got) {v : ℕ} {next : Cursor} → g ≡ field_answer d at n → g ≡ Number v next → First (field n (bits_from d at)) g v next
+  pub field_first : (n : ℕ) → n ≤ 32 → (g : Result (ℕ × Cursor) TextureParseError) {v : ℕ} {next : Cursor} → g ≡ field_answer d at n → g ≡ Ok (v, next) → First (field n (bits_from d at)) g v next
   field_first n l g q f = first (field n (bits_from d at)) (λ v r e. (bin n v, (field-sound n (bits_from d at) e).1)) g (q ∙ field_asked n l) f
 
-  pub code_first : (cs ls : List ℕ) (width rows : ℕ) (err : ℕ → TextureParseError) (g : Got) {v : ℕ} {next : Cursor} → g ≡ code_answer d at cs ls width rows err → g ≡ Number v next
+  pub code_first : (cs ls : List ℕ) (width rows : ℕ) (err : ℕ → TextureParseError) (g : Result (ℕ × Cursor) TextureParseError) {v : ℕ} {next : Cursor} → g ≡ code_answer d at cs ls width rows err → g ≡ Ok (v, next)
       → First (code cs ls width rows err (bits_from d at)) g v next
   code_first cs ls width rows err g q f = first (code cs ls width rows err (bits_from d at)) (λ v r e. (code_bits cs ls v, (code-sound cs ls width rows err (bits_from d at) e).1)) g q f

@@ -12,8 +12,6 @@ use borrow.Author.Tests.{eqb-false, eqb-true, le-leb, le-ltb, leb-true, lt-ltb, 
 use Rattle.bits.proofs.CursorLaws.{in_data_yes}
 use Rattle.bits.specs.Bits.{Bits, bits_from, val}
 use Rattle.bits.specs.Cursor.{cursor_at, in_data, next_window}
-use Rattle.bits.specs.declared.cursor.WindowPeeked.{WindowPeeked}
-use Rattle.bits.specs.declared.cursor.WindowPeeked.TheVariants.{Window, Refused as WindowRefused}
 use Rattle.bits.specs.declared.error.BitReaderError.{BitReaderError}
 use Rattle.bits.specs.declared.error.BitReaderError.TheVariants.{EndOfStream, OutOfRange as BitsOut}
 use Rattle.codes.proofs.CutLaws.{cut-window}
@@ -27,9 +25,10 @@ use Rattle.fields.specs.Inside.{refusal_of}
 use Rattle.fields.specs.Reader.{code, no_code}
 use Rattle.fields.specs.declared.error.TextureParseError.{TextureParseError}
 use Rattle.fields.specs.declared.error.TextureParseError.TheVariants.{EndedInsideCode, OutOfRange, Truncated}
-use Rattle.fields.specs.declared.field.Got.{Got}
-use Rattle.fields.specs.declared.field.Got.TheVariants.{Number, Refused as NumberRefused}
 use Rattle.numbers.proofs.Tests.{and_left}
+use Rattle.numbers.proofs.Parts.{ok-parts}
+use Rattle.std.specs.Prelude.{Err, Ok, Result}
+use Rattle.bits.specs.declared.cursor.Cursor.{Cursor}
 
 module _ (d : List ℕ) (at : ℕ) where
   abbrev b : Bits
@@ -38,8 +37,8 @@ module _ (d : List ℕ) (at : ℕ) where
   -- ---- a window, and a row in it
 
   module _ (width : ℕ) where
-    abbrev shown : Bool → WindowPeeked
-    shown t = cond t (WindowRefused EndOfStream) (Window (val (take width b)) (length (take width b)))
+    abbrev shown : Bool → Result (ℕ × ℕ) BitReaderError
+    shown t = cond t (Err EndOfStream) (Ok (val (take width b), length (take width b)))
 
     pub record Shown (w n : ℕ) : Type 0 where
       pub in_data_lem : in_data (length d) at ≡ true
@@ -48,47 +47,49 @@ module _ (d : List ℕ) (at : ℕ) where
       pub window : w ≡ val (take width b)
       pub long : n ≡ length (take width b)
 
-    pub window-is : (w n : ℕ) → Window w n ≡ next_window d at width → Shown w n
+    pub window-is : (w n : ℕ) → Ok (w, n) ≡ next_window d at width → Shown w n
     unfolding next_window
     window-is w n q = go (in_data (length d) at) refl (leb width 32) refl (eqb (length b) 0) refl q
       where
-        go : (s : Bool) → in_data (length d) at ≡ s → (t : Bool) → leb width 32 ≡ t → (u : Bool) → eqb (length b) 0 ≡ u → Window w n ≡ cond (s && t) (shown u) (WindowRefused BitsOut) → Shown w n
+        go : (s : Bool) → in_data (length d) at ≡ s → (t : Bool) → leb width 32 ≡ t → (u : Bool) → eqb (length b) 0 ≡ u → Ok (w, n) ≡ cond (s && t) (shown u) (Err BitsOut) → Shown w n
         go true h true l true e q = absurd (let z : ◌≡◌ {A = ℕ} 0 1 = cc in omega arith)
-        go true h true l false e q = record { in_data_lem = h; narrow = l; some = e; window = cc; long = cc }
+        go true h true l false e q =
+            let p = ok-parts q in
+            record { in_data_lem = h; narrow = l; some = e; window = p.0; long = p.1 }
         go true h false l u e q = absurd (let z : ◌≡◌ {A = ℕ} 0 1 = cc in omega arith)
         go false h t l u e q = absurd (let z : ◌≡◌ {A = ℕ} 0 1 = cc in omega arith)
 
     module _ (cs ls : List ℕ) (n : ℕ) (err : ℕ → TextureParseError) where
-      abbrev found : Bool → ℕ → Got
-      found t i = cond t (Number i (cursor_at (at + get_or ls i 0))) (NumberRefused (no_code cs ls width n err (take width b)))
+      abbrev found : Bool → ℕ → Result (ℕ × Cursor) TextureParseError
+      found t i = cond t (Ok (i, cursor_at (at + get_or ls i 0))) (Err (no_code cs ls width n err (take width b)))
 
-      abbrev answer : Bool → Bool → Bool → ℕ → Got
-      answer s t u i = cond (s && t) (cond u (NumberRefused Truncated) (found (ltb i n) i)) (NumberRefused OutOfRange)
+      abbrev answer : Bool → Bool → Bool → ℕ → Result (ℕ × Cursor) TextureParseError
+      answer s t u i = cond (s && t) (cond u (Err Truncated) (found (ltb i n) i)) (Err OutOfRange)
 
       -- no window, whatever the row
-      pub row-no-window : (e : BitReaderError) → WindowRefused e ≡ next_window d at width → (i : ℕ) → NumberRefused (refusal_of e) ≡ row_answer d at cs ls width n err i
+      pub row-no-window : (e : BitReaderError) → Err e ≡ next_window d at width → (i : ℕ) → Err (refusal_of e) ≡ row_answer d at cs ls width n err i
       unfolding next_window
       row-no-window e q i = go (in_data (length d) at) (leb width 32) (eqb (length b) 0) q
         where
-          go : (s t u : Bool) → WindowRefused e ≡ cond (s && t) (shown u) (WindowRefused BitsOut) → NumberRefused (refusal_of e) ≡ answer s t u i
-          go true true true q = let z : e ≡ EndOfStream = cc in ap (λ (x : BitReaderError). NumberRefused (refusal_of x)) z
+          go : (s t u : Bool) → Err e ≡ cond (s && t) (shown u) (Err BitsOut) → Err (refusal_of e) ≡ answer s t u i
+          go true true true q = let z : e ≡ EndOfStream = cc in ap (λ (x : BitReaderError). Err (refusal_of x)) z
           go true true false q = absurd (let z : ◌≡◌ {A = ℕ} 0 1 = cc in omega arith)
-          go true false u q = let z : e ≡ BitsOut = cc in ap (λ (x : BitReaderError). NumberRefused (refusal_of x)) z
-          go false t u q = let z : e ≡ BitsOut = cc in ap (λ (x : BitReaderError). NumberRefused (refusal_of x)) z
+          go true false u q = let z : e ≡ BitsOut = cc in ap (λ (x : BitReaderError). Err (refusal_of x)) z
+          go false t u q = let z : e ≡ BitsOut = cc in ap (λ (x : BitReaderError). Err (refusal_of x)) z
 
       module _ {w k : ℕ} (v : Shown w k) (i : ℕ) where
         row_in_lem : row_answer d at cs ls width n err i ≡ found (ltb i n) i
         row_in_lem = ap₂ (λ (s t : Bool). answer s t (eqb (length b) 0) i) v.in_data_lem v.narrow ∙ ap (λ (u : Bool). answer true true u i) v.some
 
-        pub row-there : i < n → Number i (cursor_at (at + get_or ls i 0)) ≡ row_answer d at cs ls width n err i
+        pub row-there : i < n → Ok (i, cursor_at (at + get_or ls i 0)) ≡ row_answer d at cs ls width n err i
         row-there l = sym (row_in_lem ∙ ap (λ (t : Bool). found t i) (lt-ltb i n l))
 
         -- none, and whether the window ends inside a code
-        pub row_missing : n ≤ i → (ends : Bool) → ends ≡ cut_in cs ls n w k → NumberRefused (cond ends EndedInsideCode (err w)) ≡ row_answer d at cs ls width n err i
+        pub row_missing : n ≤ i → (ends : Bool) → ends ≡ cut_in cs ls n w k → Err (cond ends EndedInsideCode (err w)) ≡ row_answer d at cs ls width n err i
         row_missing l ends e =
             let s : ends ≡ cut_at cs ls n (take width b) = e ∙ ap₂ (cut_in cs ls n) v.window v.long in
             let x : w ≡ val (take width (take width b)) = v.window ∙ ap val (sym (take-take width width b (le_refl width))) in
-            ap₂ (λ (t : Bool) (x : ℕ). NumberRefused (cond t EndedInsideCode (err x))) s x ∙ sym (row_in_lem ∙ ap (λ (t : Bool). found t i) (le-ltb i n l))
+            ap₂ (λ (t : Bool) (x : ℕ). Err (cond t EndedInsideCode (err x))) s x ∙ sym (row_in_lem ∙ ap (λ (t : Bool). found t i) (le-ltb i n l))
 
 -- ---- the row that is found
 
@@ -128,8 +129,8 @@ module _ (d : List ℕ) (at : ℕ) (cs ls : List ℕ) (width rows : ℕ) (err : 
   abbrev bits : Bits
   bits = bits_from d at
 
-  abbrev row : Bool → ℕ → Got
-  row t i = cond t (Number i (cursor_at (at + get_or ls i 0))) (NumberRefused (no_code cs ls width rows err (take width bits)))
+  abbrev row : Bool → ℕ → Result (ℕ × Cursor) TextureParseError
+  row t i = cond t (Ok (i, cursor_at (at + get_or ls i 0))) (Err (no_code cs ls width rows err (take width bits)))
 
   -- a window tells whether the bits end inside a code
   no-code-window : GoodTable width rows cs ls → no_code cs ls width rows err (take width bits) ≡ no_code cs ls width rows err bits
@@ -141,22 +142,22 @@ module _ (d : List ℕ) (at : ℕ) (cs ls : List ℕ) (width rows : ℕ) (err : 
       go : (t : Bool) → ltb i rows ≡ t → row t i ≡ got_told d (code cs ls width rows err bits)
       go true e =
           let l = ltb-true i rows e in
-          ap (Number i) (past_is d at (get_or ls i 0) h (row_fits cs ls width rows err bits i is l)) ∙ sym (ap (got_told d) (code-found cs ls width rows err bits some i is l))
-      go false e = ap NumberRefused (no-code-window good) ∙ sym (ap (got_told d) (code_lost cs ls width rows err bits some i is (ltb-false i rows e)))
+          ap (λ (c : Cursor). Ok (i, c)) (past_is d at (get_or ls i 0) h (row_fits cs ls width rows err bits i is l)) ∙ sym (ap (got_told d) (code-found cs ls width rows err bits some i is l))
+      go false e = ap Err (no-code-window good) ∙ sym (ap (got_told d) (code_lost cs ls width rows err bits some i is (ltb-false i rows e)))
 
   row-answer : GoodTable width rows cs ls → (i : ℕ) → i ≡ row_at cs ls width rows bits → row_answer d at cs ls width rows err i ≡ code_answer d at cs ls width rows err
   row-answer good i is =
-      ap (λ (t : Bool). cond (in_data (length d) at && t) (cond (eqb (length bits) 0) (NumberRefused Truncated) (row (ltb i rows) i)) (NumberRefused OutOfRange)) (le-leb width 32 good.0)
+      ap (λ (t : Bool). cond (in_data (length d) at && t) (cond (eqb (length bits) 0) (Err Truncated) (row (ltb i rows) i)) (Err OutOfRange)) (le-leb width 32 good.0)
       ∙ go (in_data (length d) at) refl (eqb (length bits) 0) refl
     where
       go : (s : Bool) → in_data (length d) at ≡ s → (u : Bool) → eqb (length bits) 0 ≡ u
-          → cond (s && true) (cond u (NumberRefused Truncated) (row (ltb i rows) i)) (NumberRefused OutOfRange)
-          ≡ cond s (got_told d (code cs ls width rows err bits)) (NumberRefused OutOfRange)
+          → cond (s && true) (cond u (Err Truncated) (row (ltb i rows) i)) (Err OutOfRange)
+          ≡ cond s (got_told d (code cs ls width rows err bits)) (Err OutOfRange)
       go true h true e = sym (ap (got_told d) (code_empty cs ls width rows err bits (eqb-true (length bits) 0 e)))
       go true h false e = row_told good (in_data_yes (length d) at h).1 (let z = eqb-false (length bits) 0 e in omega arith) i is
       go false h u e = refl
 
-  pub code_read : GoodTable width rows cs ls → (g : Got) → CodeRead d at cs ls width rows err g → g ≡ code_answer d at cs ls width rows err
+  pub code_read : GoodTable width rows cs ls → (g : Result (ℕ × Cursor) TextureParseError) → CodeRead d at cs ls width rows err g → g ≡ code_answer d at cs ls width rows err
   code_read good g x =
       let most : rows_of cs ls rows ≡ rows = omega arith in
       let f = subst (λ (n : ℕ). Found cs ls n (val (take width bits)) (length (take width bits)) x.0) most x.1.0 in

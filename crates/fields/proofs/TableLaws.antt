@@ -20,9 +20,10 @@ use Rattle.fields.specs.Reader.{code, no}
 use Rattle.fields.specs.declared.code.CodeKind.TheVariants.{Header}
 use Rattle.fields.specs.declared.error.TextureParseError.{TextureParseError}
 use Rattle.fields.specs.declared.error.TextureParseError.TheVariants.{EndedInsideCode, InvalidDcSize, InvalidTcoef}
-use Rattle.fields.specs.declared.field.Got.{Got}
+use Rattle.std.specs.Prelude.{Result}
+use Rattle.bits.specs.declared.cursor.Cursor.{Cursor}
 
-module _ (d : List ℕ) (at : ℕ) {cs ls : List ℕ} (g : Got) where
+module _ (d : List ℕ) (at : ℕ) {cs ls : List ℕ} (g : Result (ℕ × Cursor) TextureParseError) where
   of_table : (cs' ls' : List ℕ) (width rows : ℕ) (err : ℕ → TextureParseError) → GoodTable width rows cs' ls' → cs ≡ cs' → ls ≡ ls'
       → CodeRead d at cs ls width rows err g → g ≡ code_answer d at cs' ls' width rows err
   of_table cs' ls' width rows err good e f x = code_read d at cs' ls' width rows err good g (subst₂ (λ (cs ls : List ℕ). CodeRead d at cs ls width rows err g) e f x)

@@ -1,5 +1,5 @@
 -- What the code's answers say in the reader's terms, where a position stands for the bits from it on; and how refusals are named. Definitions only.
-use Rattle.std.specs.Prelude.{◌≡◌, List, ℕ, ◌*◌, ◌≤◌, length}
+use Rattle.std.specs.Prelude.{◌≡◌, List, ℕ, ◌*◌, ◌≤◌, length, Err, Ok, Result}
 use Rattle.bits.specs.Bits.{bits_from}
 use Rattle.bits.specs.declared.cursor.Cursor.{Cursor}
 use Rattle.bits.specs.declared.error.BitReaderError.{BitReaderError}
@@ -9,8 +9,6 @@ use Rattle.fields.specs.declared.code.CodeKind.{CodeKind}
 use Rattle.fields.specs.declared.code.CodeKind.TheVariants.{DcSize, Header, Tcoef}
 use Rattle.fields.specs.declared.error.TextureParseError.{TextureParseError}
 use Rattle.fields.specs.declared.error.TextureParseError.TheVariants.{InvalidDcSize, InvalidHeader, InvalidTcoef, OutOfRange, Truncated}
-use Rattle.fields.specs.declared.field.Got.{Got}
-use Rattle.fields.specs.declared.field.Got.TheVariants.{Number, Refused as NumberRefused}
 
 -- ---- data that may be read, and an answer that is the reader's with a position in the data
 
@@ -21,15 +19,15 @@ pub record Says {R B : Type 0} (said : R → Res B) (Inside : R → Type 0) (r :
   pub is : said r ≡ m
   pub inside : Inside r
 
-abbrev pub said_number : List ℕ → Got → Res ℕ
-said_number d (Number v c) = ok v (bits_from d c.bit_pos)
-said_number d (NumberRefused e) = no e
+abbrev pub said_number : List ℕ → Result (ℕ × Cursor) TextureParseError → Res ℕ
+said_number d (Ok (v, c)) = ok v (bits_from d c.bit_pos)
+said_number d (Err e) = no e
 
-abbrev pub InsideNumber : List ℕ → Got → Type 0
-InsideNumber d (Number v c) = c.bit_pos ≤ 8 * length d
-InsideNumber d (NumberRefused e) = Unit {0}
+abbrev pub InsideNumber : List ℕ → Result (ℕ × Cursor) TextureParseError → Type 0
+InsideNumber d (Ok (v, c)) = c.bit_pos ≤ 8 * length d
+InsideNumber d (Err e) = Unit {0}
 
-abbrev pub SaysNumber : List ℕ → Got → Res ℕ → Type 0
+abbrev pub SaysNumber : List ℕ → Result (ℕ × Cursor) TextureParseError → Res ℕ → Type 0
 SaysNumber d r m = Says (said_number d) (InsideNumber d) r m
 
 -- ---- refusals

@@ -1,19 +1,18 @@
 -- What the answers to a field, a marker and a code say in document 01's numbers, and what is due. Definitions only.
-use Rattle.std.specs.Prelude.{cond, not, List, [], ◌∷◌, ◌≡◌, ℕ, ◌+◌, eqb, leb, ltb, get_or, length, take}
+use Rattle.std.specs.Prelude.{cond, not, List, [], ◌∷◌, ◌≡◌, ℕ, ◌+◌, eqb, leb, ltb, get_or, length, take, Err, Ok, Result}
 use Rattle.bits.specs.Bits.{bits_from}
 use Rattle.bits.specs.Cursor.{in_data}
 use Rattle.fields.specs.Answer.{FoundAt, after, rows_of}
 use Rattle.fields.specs.Reader.{Res, field, marker, no, no_code, ok}
 use Rattle.fields.specs.Refusal.{figure_of, number_of}
 use Rattle.fields.specs.declared.error.TextureParseError.{TextureParseError}
-use Rattle.fields.specs.declared.field.Got.{Got}
-use Rattle.fields.specs.declared.field.Got.TheVariants.{Number, Refused as NumberRefused}
 use Rattle.numbers.specs.Outcome.{Outcome, accepted, checked, refused}
+use Rattle.bits.specs.declared.cursor.Cursor.{Cursor}
 
 -- a number, and the position after it
-abbrev pub got_outcome : Got → Outcome (ℕ × ℕ)
-got_outcome (Number v c) = accepted (v, c.bit_pos)
-got_outcome (NumberRefused e) = refused (number_of e) (figure_of e)
+abbrev pub got_outcome : Result (ℕ × Cursor) TextureParseError → Outcome (ℕ × ℕ)
+got_outcome (Ok (v, c)) = accepted (v, c.bit_pos)
+got_outcome (Err e) = refused (number_of e) (figure_of e)
 
 -- of what the reader makes of the bits: what f says of it and the position after it, or its refusal's number and figure
 abbrev pub read_as : {A B : Type 0} → (A → ℕ → B) → List ℕ → Res A → Outcome B

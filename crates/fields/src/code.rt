@@ -6,8 +6,7 @@ ghost use Rattle.fields.specs.Outcomes.{CodeDue, got_outcome};
 ghost use Rattle.fields.specs.declared.error.TextureParseError.TheVariants.{EndedInsideCode};
 
 use crate::error::TextureParseError;
-use crate::field::Got;
-use bits::{Cursor, WindowPeeked};
+use bits::Cursor;
 
 // Which table a code is of: what its refusal is called.
 #[derive(Clone, Copy)]
@@ -41,27 +40,22 @@ pub fn read_code(
     width: usize,
     rows: usize,
     kind: CodeKind,
-) -> Got
+) -> Result<(u32, Cursor), TextureParseError>
     ensures code_read { CodeRead «data».now c.bit_pos codes.now lens.now width rows (invalid kind) result }
     ensures outcome { CodeDue «data».now c.bit_pos codes.now lens.now width rows (invalid kind) (got_outcome result) }
 {
     let at = c.bit_pos;
-    let both = numbers::least(codes.len(), lens.len());
-    let most = numbers::least(numbers::least(rows, 256), both);
-    match c.next_window(data, width) {
-        WindowPeeked::Refused(e) => Got::Refused(crate::field::refusal(e)),
-        WindowPeeked::Window(window, n) => {
-            let row = codes::find_row(codes, lens, most, window, n);
-            if row < most {
-                return Got::Number(
-                    row as u32,
-                    Cursor {
-                        bit_pos: at + lens[row] as usize,
-                    },
-                );
-            }
-            let ends_inside = codes::ends_inside(codes, lens, most, window, n);
-            Got::Refused(no_code(kind, window, ends_inside))
-        }
+    let most = rows.min(256).min(codes.len().min(lens.len()));
+    let (window, n) = c.next_window(data, width)?;
+    let row = codes::find_row(codes, lens, most, window, n);
+    if row < most {
+        return Ok((
+            row as u32,
+            Cursor {
+                bit_pos: at + lens[row] as usize,
+            },
+        ));
     }
+    let ends_inside = codes::ends_inside(codes, lens, most, window, n);
+    Err(no_code(kind, window, ends_inside))
 }

@@ -1,6 +1,9 @@
 // Why reading refuses.
 ghost use Rattle.std.specs.Prelude.{◌≡◌};
+ghost use Rattle.fields.specs.Inside.{refusal_of};
 ghost use Rattle.fields.specs.Refusal.{figure_of, number_of};
+
+use bits::BitReaderError;
 
 #[derive(Clone, Copy)]
 pub enum TextureParseError {
@@ -64,6 +67,18 @@ impl TextureParseError {
             TextureParseError::OutOfRange => 0,
             TextureParseError::EndedInsideCode => 0,
             TextureParseError::InvalidHeader => 0,
+        }
+    }
+}
+
+// A refusal of the bit layer.
+impl From<BitReaderError> for TextureParseError {
+    ghost from_gives = { λ e r. r ≡ refusal_of e };
+
+    fn from(e: BitReaderError) -> TextureParseError {
+        match e {
+            BitReaderError::EndOfStream => TextureParseError::Truncated,
+            BitReaderError::OutOfRange => TextureParseError::OutOfRange,
         }
     }
 }

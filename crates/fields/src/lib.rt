@@ -10,4 +10,4 @@ mod field;
 
 pub use code::{CodeKind, read_code};
 pub use error::TextureParseError;
-pub use field::{Got, read_field, read_marker, readable};
+pub use field::{read_field, read_marker, readable};

@@ -1,7 +1,7 @@
 -- The data of every line that is a form is at most 16,384 bytes: half of a word that is no longer than the line. Assumes nothing.
 use mathlib.Core.Bool.{Bool, cond, false, true, ◌&&◌}
 use mathlib.Core.List.{List, [], ◌∷◌}
-use mathlib.Core.Option.{Option, none, some}
+use Rattle.std.specs.Prelude.{Option, None, Some}
 use mathlib.Core.Path.{◌≡◌, refl, subst}
 use Prim.Native.Nat.{ℕ, suc, ◌%◌, ◌-◌, ◌/◌, ◌≤◌}
 use native.Mathlib.Omega.{arith}
@@ -45,14 +45,14 @@ Fits (mb q a k y c b) = length b ≤ room_for_data
 Fits malformed = Unit {0}
 
 next_fits : {A : Type 0} (p : List ℕ → Option A) (k : A → List (List ℕ) → Form)
-    → ((w : List ℕ) (a : A) (ws : List (List ℕ)) → length w ≤ longest → p w ≡ some a → Short longest ws → Fits (k a ws))
+    → ((w : List ℕ) (a : A) (ws : List (List ℕ)) → length w ≤ longest → p w ≡ Some a → Short longest ws → Fits (k a ws))
     → (ws : List (List ℕ)) → Short longest ws → Fits (next p k ws)
 next_fits p k h [] s = tt
 next_fits p k h (w ∷ ws) s = go (p w) refl
   where
     go : (o : Option _) → p w ≡ o → Fits (given o (λ a. k a ws))
-    go none e = tt
-    go (some a) e = h w a ws s.0 e s.1
+    go None e = tt
+    go (Some a) e = h w a ws s.0 e s.1
 
 last_fits : (f : Form) → Fits f → (ws : List (List ℕ)) → Fits (last f ws)
 last_fits f h [] = h
@@ -64,11 +64,11 @@ bytes-half [] = omega arith
 bytes-half (a ∷ []) = omega arith
 bytes-half (a ∷ b ∷ w) = let h = bytes-half w in omega arith
 
-hex_fits : (w b : List ℕ) → length w ≤ longest → hex_in w ≡ some b → length b ≤ room_for_data
+hex_fits : (w b : List ℕ) → length w ≤ longest → hex_in w ≡ Some b → length b ≤ room_for_data
 unfolding hex_in
 hex_fits w b h e = go (leb 2 (length w) && (eqb (length w % 2) 0 && every is_hex w)) e
   where
-    go : (t : Bool) → cond t (some (bytes_of w)) none ≡ some b → length b ≤ room_for_data
+    go : (t : Bool) → cond t (Some (bytes_of w)) None ≡ Some b → length b ≤ room_for_data
     go true k = let q : bytes_of w ≡ b = cc in let m = bytes-half w in subst (λ (xs : List ℕ). length xs ≤ room_for_data) q (omega arith)
     go false k = absurd (let z : ◌≡◌ {A = ℕ} 0 1 = cc in omega arith)
 

@@ -1,7 +1,6 @@
 -- A form by its words: what one reading tells of it. Assumes nothing.
 use mathlib.Core.Bool.{Bool, cond, false, true, true≢false, ◌&&◌}
 use mathlib.Core.List.{List, [], ◌∷◌}
-use mathlib.Core.Option.{Option, none, some}
 use mathlib.Core.Path.{◌≡◌, ◌∙◌, ap, ap₂, refl, subst, sym}
 use Prim.Native.Nat.{◌%◌, ◌+◌, ◌-◌, ◌<◌, ◌≤◌, ℕ}
 use native.Mathlib.Omega.{arith}
@@ -11,59 +10,48 @@ use lib.ListN.{drop, get_or, length, take}
 use Rattle.numbers.specs.Every.{every}
 use Rattle.forms.proofs.WordLaws.{end_le, words-none, words-some}
 use Rattle.forms.specs.Forms.{Form, first_named, form_by, form_of, given, kind_in, kind_word, last, longest, malformed, mb, mb_form, mb_word, method_in, next, picture, picture_form, picture_word}
-use Rattle.forms.specs.Reading.{Says, data_after, data_form, data_of, end_of, field_by, kind_of, line_of, others, parsed, part, pattern_form, room_for_data, there, value_read, words_from}
+use Rattle.forms.specs.Reading.{Says, data_after, data_form, data_of, end_of, field_by, line_of, others, parsed, part, pattern_form, room_for_data, there, words_from}
 use Rattle.forms.specs.Words.{bytes_of, hex_in, is_hex, number_in, same, words}
-use Rattle.forms.specs.declared.field.Digits.TheVariants.{Bad as NoNumber, Is as NumberIs}
-use Rattle.forms.specs.declared.field.Field.{Field}
-use Rattle.forms.specs.declared.field.Field.TheVariants.{Bad, Value}
 use Rattle.forms.specs.declared.kind.Kind.{Kind}
 use Rattle.forms.specs.declared.kind.Kind.TheVariants.{Inter, Inter4V, InterQ, Intra, IntraQ, Missing, Skipped}
-use Rattle.forms.specs.declared.kind.KindRead.TheVariants.{Bad as NoKind, Is as KindIs}
 use Rattle.forms.specs.declared.line.Line.{Line}
 use Rattle.forms.specs.declared.line.Line.TheVariants.{Malformed, TooShort}
+use Rattle.std.specs.Prelude.{None, Some, Option}
 
 -- ---- a number
 
-no_number : (o : Option ℕ) → NoNumber ≡ value_read o → o ≡ none
-no_number none e = refl
-no_number (some v) e = let z : ◌≡◌ {A = ℕ} 0 1 = cc in absurd (omega arith)
-
-a_number : (o : Option ℕ) (v : ℕ) → NumberIs v ≡ value_read o → o ≡ some v
-a_number none v e = let z : ◌≡◌ {A = ℕ} 0 1 = cc in absurd (omega arith)
-a_number (some w) v e = cc
-
 module _ (p : List ℕ → Option ℕ) (l : List ℕ) (from to : ℕ) where
-  pub says_none : to < from → Says p l from to Bad
+  pub says_none : to < from → Says p l from to None
   says_none h = ap (field_by p) (words-none l from to h)
 
   module _ (h : from ≤ to) (k : to ≤ length l) (e : ℕ) (is : e ≡ end_of l from to) where
-    pub says-bad : NoNumber ≡ value_read (p (part l from e)) → Says p l from to Bad
-    says-bad r = ap (field_by p) (words-some l from to h k e is) ∙ no_number (p (part l from e)) r
+    pub says-bad : None ≡ p (part l from e) → Says p l from to None
+    says-bad r = ap (field_by p) (words-some l from to h k e is) ∙ sym r
 
-    pub says_value : (v : ℕ) → NumberIs v ≡ value_read (p (part l from e)) → Says p l from to (Value v (e + 1))
+    pub says_value : (v : ℕ) → Some v ≡ p (part l from e) → Says p l from to (Some (v, e + 1))
     says_value v r =
         let w = words-some l from to h k e is in
-        (ap (field_by p) w ∙ a_number (p (part l from e)) v r, (sym (ap others w), (omega arith, omega (arith, end_le l from to k h))))
+        (ap (field_by p) w ∙ sym r, (sym (ap others w), (omega arith, omega (arith, end_le l from to k h))))
 
 -- ---- the next word of a form
 
 module _ (p : List ℕ → Option ℕ) (k : ℕ → List (List ℕ) → Form) where
-  next-bad : (ws : List (List ℕ)) → field_by p ws ≡ none → next p k ws ≡ malformed
+  next-bad : (ws : List (List ℕ)) → field_by p ws ≡ None → next p k ws ≡ malformed
   next-bad [] e = refl
   next-bad (w ∷ ws) e = ap (λ (o : Option ℕ). given o (λ (a : ℕ). k a ws)) e
 
-  next-is : (ws : List (List ℕ)) (v : ℕ) → field_by p ws ≡ some v → next p k ws ≡ k v (others ws)
+  next-is : (ws : List (List ℕ)) (v : ℕ) → field_by p ws ≡ Some v → next p k ws ≡ k v (others ws)
   next-is [] v e = let z : ◌≡◌ {A = ℕ} 0 1 = cc in absurd (omega arith)
   next-is (w ∷ ws) v e = ap (λ (o : Option ℕ). given o (λ (a : ℕ). k a ws)) e
 
-module _ (p : List ℕ → Option ℕ) (l : List ℕ) (from to : ℕ) {r : Field} (says : Says p l from to r) where
-  said : {s : Field} → r ≡ s → Says p l from to s
+module _ (p : List ℕ → Option ℕ) (l : List ℕ) (from to : ℕ) {r : Option (ℕ × ℕ)} (says : Says p l from to r) where
+  said : {s : Option (ℕ × ℕ)} → r ≡ s → Says p l from to s
   said e = subst (Says p l from to) e says
 
-  pub field-bad : (k : ℕ → List (List ℕ) → Form) → r ≡ Bad → next p k (words_from l from to) ≡ malformed
+  pub field-bad : (k : ℕ → List (List ℕ) → Form) → r ≡ None → next p k (words_from l from to) ≡ malformed
   field-bad k e = next-bad p k (words_from l from to) (said e)
 
-  module _ {v at : ℕ} (e : r ≡ Value v at) where
+  module _ {v at : ℕ} (e : r ≡ Some (v, at)) where
     pub field_is : (k : ℕ → List (List ℕ) → Form) → next p k (words_from l from to) ≡ k v (words_from l at to)
     field_is k = next-is p k (words_from l from to) v (said e).0 ∙ ap (k v) (sym (said e).1.0)
 
@@ -72,15 +60,15 @@ module _ (p : List ℕ → Option ℕ) (l : List ℕ) (from to : ℕ) {r : Field
 
 -- ---- a method
 
-method-none : (w : List ℕ) → number_in 2 w ≡ none → method_in w ≡ none
+method-none : (w : List ℕ) → number_in 2 w ≡ None → method_in w ≡ None
 unfolding method_in
 method-none w e = rw (e, method_in)
 
-method-zero : (w : List ℕ) (v : ℕ) → number_in 2 w ≡ some v → v ≡ 0 → method_in w ≡ none
+method-zero : (w : List ℕ) (v : ℕ) → number_in 2 w ≡ Some v → v ≡ 0 → method_in w ≡ None
 unfolding method_in
 method-zero w v e z = rw (e, method_in) (rw (eq-eqb v 0 z))
 
-method-some : (w : List ℕ) (v : ℕ) → number_in 2 w ≡ some v → (v ≡ 0 → ⊥) → method_in w ≡ some v
+method-some : (w : List ℕ) (v : ℕ) → number_in 2 w ≡ Some v → (v ≡ 0 → ⊥) → method_in w ≡ Some v
 unfolding method_in
 method-some w v e z = rw (e, method_in) (rw (ne_eqb v 0 z))
 
@@ -91,28 +79,28 @@ abbrev pub kinds : List Kind
 kinds = Intra ∷ IntraQ ∷ Inter ∷ InterQ ∷ Inter4V ∷ Missing ∷ Skipped ∷ []
 
 module _ (k : Kind) (ks : List Kind) (w : List ℕ) {r : Bool} (e : r ≡ same w (kind_word k)) where
-  pub named_yes : r ≡ true → first_named (k ∷ ks) w ≡ some k
-  named_yes t = ap (λ (b : Bool). cond b (some k) (first_named ks w)) (sym e ∙ t)
+  pub named_yes : r ≡ true → first_named (k ∷ ks) w ≡ Some k
+  named_yes t = ap (λ (b : Bool). cond b (Some k) (first_named ks w)) (sym e ∙ t)
 
   pub named_no : r ≡ false → first_named (k ∷ ks) w ≡ first_named ks w
-  named_no t = ap (λ (b : Bool). cond b (some k) (first_named ks w)) (sym e ∙ t)
+  named_no t = ap (λ (b : Bool). cond b (Some k) (first_named ks w)) (sym e ∙ t)
 
 -- ---- a picture's form, word after word
 
-by_method : (k : ℕ → List (List ℕ) → Form) (ws : List (List ℕ)) (v : ℕ) (f : Form) → field_by (number_in 2) ws ≡ some v
-    → ((w : List ℕ) → number_in 2 w ≡ some v → given (method_in w) (λ (a : ℕ). k a (others ws)) ≡ f) → next method_in k ws ≡ f
+by_method : (k : ℕ → List (List ℕ) → Form) (ws : List (List ℕ)) (v : ℕ) (f : Form) → field_by (number_in 2) ws ≡ Some v
+    → ((w : List ℕ) → number_in 2 w ≡ Some v → given (method_in w) (λ (a : ℕ). k a (others ws)) ≡ f) → next method_in k ws ≡ f
 by_method k [] v f e g = let z : ◌≡◌ {A = ℕ} 0 1 = cc in absurd (omega arith)
 by_method k (w ∷ ws) v f e g = g w e
 
-module _ (l : List ℕ) (from to : ℕ) {r : Field} (says : Says (number_in 2) l from to r) (k : ℕ → List (List ℕ) → Form) where
-  pub no-method : r ≡ Bad → next method_in k (words_from l from to) ≡ malformed
+module _ (l : List ℕ) (from to : ℕ) {r : Option (ℕ × ℕ)} (says : Says (number_in 2) l from to r) (k : ℕ → List (List ℕ) → Form) where
+  pub no-method : r ≡ None → next method_in k (words_from l from to) ≡ malformed
   no-method e = go (words_from l from to) (subst (Says (number_in 2) l from to) e says)
     where
-      go : (ws : List (List ℕ)) → field_by (number_in 2) ws ≡ none → next method_in k ws ≡ malformed
+      go : (ws : List (List ℕ)) → field_by (number_in 2) ws ≡ None → next method_in k ws ≡ malformed
       go [] e = refl
       go (w ∷ ws) e = ap (λ (o : Option ℕ). given o (λ (a : ℕ). k a ws)) (method-none w e)
 
-  module _ {v at : ℕ} (e : r ≡ Value v at) where
+  module _ {v at : ℕ} (e : r ≡ Some (v, at)) where
     pub method_0 : v ≡ 0 → next method_in k (words_from l from to) ≡ malformed
     method_0 z =
         let t = subst (Says (number_in 2) l from to) e says in
@@ -166,8 +154,8 @@ keeps p k old h [] = refl
 keeps {A} p k old h (w ∷ ws) = go (p w)
   where
     go : (o : Option A) → old ≡ data_of (given o (λ (a : A). k a ws)) old
-    go none = refl
-    go (some a) = h a ws
+    go None = refl
+    go (Some a) = h a ws
 
 last_keeps : (w h d m : ℕ) (old : List ℕ) (ws : List (List ℕ)) → old ≡ data_of (last (picture w h d m) ws) old
 last_keeps w h d m old [] = refl
@@ -181,14 +169,6 @@ picture_keeps ws old =
     (λ w. keeps (number_in 65535) (after_height w) old
     (λ h. keeps (number_in 65535) (after_depth w h) old (λ d. keeps method_in (λ (m : ℕ). last (picture w h d m)) old (λ m. last_keeps w h d m old)))) ws
 
-no_kind : (o : Option Kind) → NoKind ≡ kind_of o → o ≡ none
-no_kind none e = refl
-no_kind (some t) e = let z : ◌≡◌ {A = ℕ} 0 1 = cc in absurd (omega arith)
-
-a_kind : (o : Option Kind) (t : Kind) → KindIs t ≡ kind_of o → o ≡ some t
-a_kind none t e = let z : ◌≡◌ {A = ℕ} 0 1 = cc in absurd (omega arith)
-a_kind (some u) t e = cc
-
 module _ (k : Kind → List (List ℕ) → Form) (l : List ℕ) (from to : ℕ) where
   pub kind-none : to < from → next kind_in k (words_from l from to) ≡ malformed
   kind-none h = ap (next kind_in k) (words-none l from to h)
@@ -197,25 +177,25 @@ module _ (k : Kind → List (List ℕ) → Form) (l : List ℕ) (from to : ℕ) 
     first : next kind_in k (words_from l from to) ≡ given (kind_in (part l from e)) (λ (t : Kind). k t (words_from l (e + 1) to))
     first = ap (next kind_in k) (words-some l from to h in-line e is)
 
-    pub kind-bad : NoKind ≡ kind_of (kind_in (part l from e)) → next kind_in k (words_from l from to) ≡ malformed
-    kind-bad r = first ∙ ap (λ (o : Option Kind). given o (λ (t : Kind). k t (words_from l (e + 1) to))) (no_kind (kind_in (part l from e)) r)
+    pub kind-bad : None ≡ kind_in (part l from e) → next kind_in k (words_from l from to) ≡ malformed
+    kind-bad r = first ∙ ap (λ (o : Option Kind). given o (λ (t : Kind). k t (words_from l (e + 1) to))) (sym r)
 
-    pub kind-is : (t : Kind) → KindIs t ≡ kind_of (kind_in (part l from e)) → next kind_in k (words_from l from to) ≡ k t (words_from l (e + 1) to)
-    kind-is t r = first ∙ ap (λ (o : Option Kind). given o (λ (t : Kind). k t (words_from l (e + 1) to))) (a_kind (kind_in (part l from e)) t r)
+    pub kind-is : (t : Kind) → Some t ≡ kind_in (part l from e) → next kind_in k (words_from l from to) ≡ k t (words_from l (e + 1) to)
+    kind-is t r = first ∙ ap (λ (o : Option Kind). given o (λ (t : Kind). k t (words_from l (e + 1) to))) (sym r)
 
 -- ---- the data of a macroblock
 
-hex_is : (w : List ℕ) → there (hex_in w) ≡ true → hex_in w ≡ some (bytes_of w)
+hex_is : (w : List ℕ) → there (hex_in w) ≡ true → hex_in w ≡ Some (bytes_of w)
 unfolding hex_in
 hex_is w e = go (leb 2 (length w) && (eqb (length w % 2) 0 && every is_hex w)) e
   where
-    go : (t : Bool) → there (cond t (some (bytes_of w)) none) ≡ true → cond t (some (bytes_of w)) none ≡ some (bytes_of w)
+    go : (t : Bool) → there (cond t (Some (bytes_of w)) None) ≡ true → cond t (Some (bytes_of w)) None ≡ Some (bytes_of w)
     go true e = refl
     go false e = absurd (true≢false (sym e))
 
-no_hex : (o : Option (List ℕ)) → there o ≡ false → o ≡ none
-no_hex none e = refl
-no_hex (some d) e = absurd (true≢false e)
+no_hex : (o : Option (List ℕ)) → there o ≡ false → o ≡ None
+no_hex None e = refl
+no_hex (Some d) e = absurd (true≢false e)
 
 module _ (q a : ℕ) (t : Kind) (y c : ℕ) (l : List ℕ) (from to : ℕ) where
   pub data_none : to < from → data_form q a t y c (words_from l from to) ≡ malformed
@@ -234,8 +214,8 @@ module _ (q a : ℕ) (t : Kind) (y c : ℕ) (l : List ℕ) (from to : ℕ) where
         ∙ go (hex_in (part l from e)) (words_from l (e + 1) to) (words-some l (e + 1) to (omega arith) in-line (end_of l (e + 1) to) refl)
       where
         go : (o : Option (List ℕ)) (ws : List (List ℕ)) {v : List ℕ} {vs : List (List ℕ)} → ws ≡ v ∷ vs → given o (λ (d : List ℕ). last (mb q a t y c d) ws) ≡ malformed
-        go none ws s = refl
-        go (some d) ws s = ap (last (mb q a t y c d)) s
+        go None ws s = refl
+        go (Some d) ws s = ap (last (mb q a t y c d)) s
 
     data_last : to ≤ e → data_form q a t y c (words_from l from to) ≡ given (hex_in (part l from to)) (λ (d : List ℕ). mb q a t y c d)
     data_last m =

@@ -1,9 +1,11 @@
 -- Digits, the bytes that pairs of digits write, and a word that is data. Assumes nothing.
-use mathlib.Core.Bool.{Bool, true, false, true≢false, ◌&&◌, cond}
+use mathlib.Core.Bool.{Bool, true, false, true≢false, ◌&&◌, ◌||◌, cond}
 use mathlib.Core.List.{List, [], ◌∷◌}
 use mathlib.Core.Logic.{⊎_elim}
-use mathlib.Core.Option.{none, some}
-use mathlib.Core.Path.{◌≡◌, refl, ap, sym, ◌∙◌}
+use Rattle.std.specs.Char.{is_ascii_hexdigit}
+use Rattle.std.specs.List.{list_all}
+use Rattle.std.specs.Prelude.{None, Some}
+use mathlib.Core.Path.{◌≡◌, refl, ap, ap₂, sym, ◌∙◌}
 use Prim.Native.Nat.{ℕ, zero, suc, ◌+◌, ◌*◌, ◌-◌, ◌/◌, ◌%◌, ◌<◌, ◌≤◌}
 use native.Mathlib.Nat.{not-suc-le-zero, le_of_suc-le-suc}
 use native.Mathlib.Numerals.{add-one}
@@ -11,9 +13,8 @@ use native.Mathlib.Omega.{arith}
 use lib.Dec.{eqb, leb}
 use lib.ListN.{length, get_or, set}
 use lib.Seq.{paste, paste-suc}
-use borrow.Author.Tests.{le-leb, lt-leb, leb-true, eq-eqb, ne_eqb, eqb-true}
+use borrow.Author.Tests.{le-leb, lt-leb, leb-true, eqb-true}
 use Rattle.numbers.specs.Every.{every}
-use Rattle.numbers.proofs.Every.{every_fails, every_in}
 use Rattle.numbers.proofs.Fill.{lt-or-le}
 use Rattle.numbers.proofs.Tests.{both_true}
 use Rattle.forms.proofs.PartLaws.{part_at, part_length}
@@ -23,23 +24,26 @@ use Rattle.forms.specs.Words.{byte_of, bytes_of, hex_in, hex_of, is_hex}
 
 -- ---- a digit
 
+or_or : (a b c : Bool) → (a || b) || c ≡ a || (b || c)
+or_or true b c = refl
+or_or false b c = refl
+
+-- as std tests it
+hex_is : (b : ℕ) → is_ascii_hexdigit b ≡ is_hex b
+hex_is b = or_or (leb 48 b && leb b 57) (leb 65 b && leb b 70) (leb 97 b && leb b 102)
+
+pub hex_all : (xs : List ℕ) → list_all is_ascii_hexdigit xs ≡ every is_hex xs
+hex_all [] = refl
+hex_all (x ∷ xs) = ap₂ ◌&&◌ (hex_is x) (hex_all xs)
+
 module _ (b : ℕ) where
-  pub not_hex_low : b < 48 → is_hex b ≡ false
+  not_hex_low : b < 48 → is_hex b ≡ false
   not_hex_low h = rw (lt-leb 48 b h, lt-leb 65 b (omega arith), lt-leb 97 b (omega arith))
 
-  pub hex_digit : 48 ≤ b → b ≤ 57 → is_hex b ≡ true
-  hex_digit l h = rw (le-leb 48 b l, le-leb b 57 h)
-
-  pub not_hex_upper : 57 < b → b < 65 → is_hex b ≡ false
-  not_hex_upper l h = rw (le-leb 48 b (omega arith), lt-leb b 57 l, lt-leb 65 b h, lt-leb 97 b (omega arith))
-
-  pub hex_upper : 65 ≤ b → b ≤ 70 → is_hex b ≡ true
-  hex_upper l h = rw (le-leb 48 b (omega arith), lt-leb b 57 (omega arith), le-leb 65 b l, le-leb b 70 h)
-
-  pub not_hex_lower : 70 < b → b < 97 → is_hex b ≡ false
+  not_hex_lower : 70 < b → b < 97 → is_hex b ≡ false
   not_hex_lower l h = rw (le-leb 48 b (omega arith), lt-leb b 57 (omega arith), le-leb 65 b (omega arith), lt-leb b 70 l, lt-leb 97 b h)
 
-  pub hex_lower : 97 ≤ b → is_hex b ≡ leb b 102
+  hex_lower : 97 ≤ b → is_hex b ≡ leb b 102
   hex_lower l = rw (le-leb 48 b (omega arith), lt-leb b 57 (omega arith), le-leb 65 b (omega arith), lt-leb b 70 (omega arith), le-leb 97 b l)
 
   -- what a digit tells of itself
@@ -74,18 +78,6 @@ module _ (p : ℕ → Bool) where
   every-below (x ∷ xs) t (suc i) l = every-below xs (both_true (p x) (every p xs) t).1 i (le_of_suc-le-suc l)
 
   module _ (l : List ℕ) (from to : ℕ) (h : to ≤ length l) where
-    pub part_passes : ((i : ℕ) → i < to → from ≤ i → p (get_or l i 0) ≡ true) → every p (part l from to) ≡ true
-    part_passes t =
-        every_in p 0 (part l from to)
-        (λ (i : ℕ) (m : i < length (part l from to)).
-        let k : i < to - from = omega (arith, part_length l from to h) in ap p (part_at l from to i k) ∙ t (from + i) (omega arith) (omega arith))
-
-    pub part_fails : (i : ℕ) → from ≤ i → i < to → p (get_or l i 0) ≡ false → every p (part l from to) ≡ false
-    part_fails i m k f =
-        let e : from + (i - from) ≡ i = omega arith in
-        every_fails p 0 (part l from to) (i - from) (omega (arith, part_length l from to h))
-        (ap p (part_at l from to (i - from) (omega arith)) ∙ ap (λ (j : ℕ). p (get_or l j 0)) e ∙ f)
-
     pub part_each : every p (part l from to) ≡ true → (i : ℕ) → from ≤ i → i < to → p (get_or l i 0) ≡ true
     part_each t i m k =
         let e : from + (i - from) ≡ i = omega arith in
@@ -136,7 +128,7 @@ paste_more d s k x l e p q f =
 
 -- ---- a word that is data
 
-there-cond : {A : Type 0} (t : Bool) (a : A) → there (cond t (some a) none) ≡ t
+there-cond : {A : Type 0} (t : Bool) (a : A) → there (cond t (Some a) None) ≡ t
 there-cond true a = refl
 there-cond false a = refl
 
@@ -147,20 +139,10 @@ module _ (w : List ℕ) where
 
 module _ (l : List ℕ) (from to : ℕ) (in-l : to ≤ length l) where
   -- the tests of a part, by its length
-  part_tests : there (hex_in (part l from to)) ≡ (leb 2 (to - from) && (eqb ((to - from) % 2) 0 && every is_hex (part l from to)))
+  pub part_tests : there (hex_in (part l from to)) ≡ (leb 2 (to - from) && (eqb ((to - from) % 2) 0 && every is_hex (part l from to)))
   part_tests =
       data_tests (part l from to)
       ∙ ap (λ (n : ℕ). leb 2 n && (eqb (n % 2) 0 && every is_hex (part l from to))) (part_length l from to in-l)
-
-  pub no_data_short : to - from < 2 → there (hex_in (part l from to)) ≡ false
-  no_data_short h = part_tests ∙ rw (lt-leb 2 (to - from) h)
-
-  module _ (two : 2 ≤ to - from) where
-    pub no_data_odd : ((to - from) % 2 ≡ 0 → ⊥) → there (hex_in (part l from to)) ≡ false
-    no_data_odd h = part_tests ∙ rw (le-leb 2 (to - from) two, ne_eqb ((to - from) % 2) 0 h)
-
-    pub data_if : (to - from) % 2 ≡ 0 → there (hex_in (part l from to)) ≡ every is_hex (part l from to)
-    data_if even = part_tests ∙ rw (le-leb 2 (to - from) two, eq-eqb ((to - from) % 2) 0 even)
 
   -- the data of a word in a line that is not too long fits into the room for data
   pub data_fits : length l ≤ longest → (room : ℕ) → room_for_data ≤ room → (to - from) / 2 ≤ room

@@ -6,11 +6,15 @@ use mathlib.Core.Path.{◌≡◌, ◌∙◌, ap, ap₂, refl, sym}
 use Prim.Native.Nat.{◌+◌, ◌<◌, ◌≤◌, suc, ℕ}
 use native.Mathlib.Numerals.{add-one}
 use native.Mathlib.Omega.{arith}
-use borrow.Author.Tests.{eq-eqb, le-leb, lt-leb, ne_eqb}
-use lib.Dec.{eqb, leb, leb-suc-suc}
-use lib.ListN.{drop, get_or, length, take}
+use borrow.Author.Tests.{le-leb, lt-leb, ltb-false}
+use lib.Dec.{eqb, leb, leb-suc-suc, ltb}
+use lib.ListN.{drop, length, take}
+use Rattle.std.proofs.lemmas.List.Recursion.{is_position_or_len}
+use Rattle.std.specs.List.{position_or_len}
+use Rattle.std.specs.Option.{unwrap_or}
+use Rattle.std.specs.Prelude.{None, Option, Some}
 use Rattle.numbers.proofs.Fill.{lt-or-le}
-use Rattle.forms.proofs.PartLaws.{part_cons, part_head, part_length, part_none, part_tail}
+use Rattle.forms.proofs.PartLaws.{part_head, part_length, part_tail}
 use Rattle.forms.specs.Reading.{end_of, part, space_in, words_from}
 use Rattle.forms.specs.Words.{joined, words}
 
@@ -24,22 +28,26 @@ space-le (b ∷ bs) = go (eqb b 32) (space-le bs)
     go true h = omega arith
     go false h = omega arith
 
-module _ (l : List ℕ) (from to : ℕ) (k : to ≤ length l) where
-  pub end_here : from < to → get_or l from 0 ≡ 32 → end_of l from to ≡ from
-  end_here h e =
-      ap (λ (xs : List ℕ). from + space_in xs) (part_cons l from to h k) ∙ ap (λ (t : Bool). from + cond t 0 (space_in (part l (from + 1) to) + 1)) (eq-eqb (get_or l from 0) 32 e)
-      ∙ omega arith
+-- which is where std finds it
+pub space_is : (xs : List ℕ) → space_in xs ≡ position_or_len (λ b. eqb b 32) xs
+space_is = is_position_or_len space_in (λ b. eqb b 32) refl (λ b bs. let e : space_in bs + 1 ≡ 1 + space_in bs = omega arith in ap (cond (eqb b 32) 0) e)
 
-  pub end_later : from < to → (get_or l from 0 ≡ 32 → ⊥) → end_of l from to ≡ end_of l (from + 1) to
-  end_later h e =
-      ap (λ (xs : List ℕ). from + space_in xs) (part_cons l from to h k) ∙ ap (λ (t : Bool). from + cond t 0 (space_in (part l (from + 1) to) + 1)) (ne_eqb (get_or l from 0) 32 e)
-      ∙ omega arith
+unwrap_found : (n m : ℕ) → n ≤ m → unwrap_or (cond (ltb n m) (Some n) None) m ≡ n
+unwrap_found n m h = go (ltb n m) refl
+  where
+    go : (t : Bool) → ltb n m ≡ t → unwrap_or (cond t (Some n) None) m ≡ n
+    go true e = refl
+    go false e = omega (arith, ltb-false n m e)
 
-  pub end_last : to ≤ from → end_of l from to ≡ from
-  end_last h = ap (λ (xs : List ℕ). from + space_in xs) (part_none l from to h) ∙ omega arith
+pub end_found : (w : List ℕ) (r : Option ℕ) → r ≡ cond (ltb (position_or_len (λ b. eqb b 32) w) (length w)) (Some (position_or_len (λ b. eqb b 32) w)) None
+    → unwrap_or r (length w) ≡ space_in w
+end_found w r e =
+    ap (λ (o : Option ℕ). unwrap_or o (length w)) e
+    ∙ ap (λ (n : ℕ). unwrap_or (cond (ltb n (length w)) (Some n) None) (length w)) (sym (space_is w))
+    ∙ unwrap_found (space_in w) (length w) (space-le w)
 
-  pub end_le : from ≤ to → end_of l from to ≤ to
-  end_le h = omega (arith, space-le (part l from to), part_length l from to k)
+pub end_le : (l : List ℕ) (from to : ℕ) → to ≤ length l → from ≤ to → end_of l from to ≤ to
+end_le l from to k h = omega (arith, space-le (part l from to), part_length l from to k)
 
 -- ---- the first word and those after it
 

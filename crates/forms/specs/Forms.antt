@@ -1,6 +1,5 @@
 -- The forms of document 01's section 'Edges': `(picture WIDTH HEIGHT DEPTH METHOD)` and `(mb QUANTISER ACPRED TYPE CBPY CBPC HEX)`. Definitions only.
-use Rattle.std.specs.Prelude.{cond, List, [], ◌∷◌, ℕ, ◌-◌, eqb, leb, drop, get_or, length, take}
-use Rattle.std.proofs.Math.Option.{Option, none, some}
+use Rattle.std.specs.Prelude.{cond, List, [], ◌∷◌, ℕ, ◌-◌, eqb, leb, drop, get_or, length, take, Option, None, Some}
 use Rattle.forms.specs.Words.{hex_in, number_in, same, words}
 use Rattle.forms.specs.declared.kind.Kind.{Kind}
 use Rattle.forms.specs.declared.kind.Kind.TheVariants.{Inter, Inter4V, InterQ, Intra, IntraQ, Missing, Skipped}
@@ -33,8 +32,8 @@ kind_word Skipped = 115 ∷ 107 ∷ 105 ∷ 112 ∷ 112 ∷ 101 ∷ 100 ∷ []  
 
 -- the first of some kinds that a word names
 abbrev pub first_named : List Kind → List ℕ → Option Kind
-first_named [] w = none
-first_named (k ∷ ks) w = cond (same w (kind_word k)) (some k) (first_named ks w)
+first_named [] w = None
+first_named (k ∷ ks) w = cond (same w (kind_word k)) (Some k) (first_named ks w)
 
 unfoldable pub kind_in : List ℕ → Option Kind
 kind_in w = first_named (Intra ∷ IntraQ ∷ Inter ∷ InterQ ∷ Inter4V ∷ Missing ∷ Skipped ∷ []) w
@@ -43,8 +42,8 @@ kind_in w = first_named (Intra ∷ IntraQ ∷ Inter ∷ InterQ ∷ Inter4V ∷ M
 
 -- what a word gives to the form, or no form
 abbrev pub given : {A : Type 0} → Option A → (A → Form) → Form
-given none k = malformed
-given (some a) k = k a
+given None k = malformed
+given (Some a) k = k a
 
 -- the next word, read by p, then the rest
 abbrev pub next : {A : Type 0} → (List ℕ → Option A) → (A → List (List ℕ) → Form) → List (List ℕ) → Form
@@ -61,8 +60,8 @@ unfoldable pub method_in : List ℕ → Option ℕ
 method_in w = not_zero (number_in 2 w)
   where
     not_zero : Option ℕ → Option ℕ
-    not_zero none = none
-    not_zero (some n) = cond (eqb n 0) none (some n)
+    not_zero None = None
+    not_zero (Some n) = cond (eqb n 0) None (Some n)
 
 unfoldable pub picture_form : List (List ℕ) → Form
 picture_form = next (number_in 65535) (λ w. next (number_in 65535) (λ h. next (number_in 65535) (λ d. next method_in (λ m. last (picture w h d m)))))

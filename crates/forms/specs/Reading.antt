@@ -1,16 +1,9 @@
 -- What the code's answer to a line is, by the form; and, inside the crate, words by their places in the line. Definitions only.
-use Rattle.std.specs.Prelude.{Bool, cond, false, true, List, [], ◌∷◌, ◌≡◌, ℕ, ◌+◌, ◌-◌, ◌<◌, ◌≤◌, eqb, leb, drop, length, take}
-use Rattle.std.proofs.Math.Option.{Option, none, some}
+use Rattle.std.specs.Prelude.{Bool, cond, false, true, List, [], ◌∷◌, ◌≡◌, ℕ, ◌+◌, ◌-◌, ◌<◌, ◌≤◌, eqb, leb, drop, length, take, None, Some, Option}
 use Rattle.std.proofs.Math.Seq.{paste}
 use Rattle.forms.specs.Forms.{Form, form_of, last, malformed, mb, next, picture}
 use Rattle.forms.specs.Words.{hex_in, number_in, words}
-use Rattle.forms.specs.declared.field.Field.{Field}
-use Rattle.forms.specs.declared.field.Field.TheVariants.{Bad, Value}
-use Rattle.forms.specs.declared.field.Digits.{Digits}
-use Rattle.forms.specs.declared.field.Digits.TheVariants.{Bad as NoNumber, Is as NumberIs}
 use Rattle.forms.specs.declared.kind.Kind.{Kind}
-use Rattle.forms.specs.declared.kind.KindRead.{KindRead}
-use Rattle.forms.specs.declared.kind.KindRead.TheVariants.{Bad as NoKind, Is as KindIs}
 use Rattle.forms.specs.declared.line.Line.{Line}
 use Rattle.forms.specs.declared.line.Line.TheVariants.{Macroblock, Malformed, Picture, TooShort}
 
@@ -48,16 +41,16 @@ words_from l from to = cond (leb from to) (words (part l from to)) []
 
 -- what a reading of one word as a number tells of the words that are left: the first was read as v, and those after it begin at `at`; or there is none, or it is no such number
 abbrev pub field_by : (List ℕ → Option ℕ) → List (List ℕ) → Option ℕ
-field_by p [] = none
+field_by p [] = None
 field_by p (w ∷ ws) = p w
 
 abbrev pub others : List (List ℕ) → List (List ℕ)
 others [] = []
 others (w ∷ ws) = ws
 
-abbrev pub Says : (List ℕ → Option ℕ) → List ℕ → ℕ → ℕ → Field → Type 0
-Says p l from to (Value v at) = (field_by p (words_from l from to) ≡ some v) × ((words_from l at to ≡ others (words_from l from to)) × ((from < at) × (at ≤ to + 1)))
-Says p l from to Bad = field_by p (words_from l from to) ≡ none
+abbrev pub Says : (List ℕ → Option ℕ) → List ℕ → ℕ → ℕ → Option (ℕ × ℕ) → Type 0
+Says p l from to (Some (v, at)) = (field_by p (words_from l from to) ≡ Some v) × ((words_from l at to ≡ others (words_from l from to)) × ((from < at) × (at ≤ to + 1)))
+Says p l from to None = field_by p (words_from l from to) ≡ None
 
 -- where the word at `from` ends: at the first space, or at `to`
 abbrev pub space_in : List ℕ → ℕ
@@ -67,17 +60,9 @@ space_in (b ∷ bs) = cond (eqb b 32) 0 (space_in bs + 1)
 abbrev pub end_of : List ℕ → ℕ → ℕ → ℕ
 end_of l from to = from + space_in (part l from to)
 
-abbrev pub value_read : Option ℕ → Digits
-value_read none = NoNumber
-value_read (some v) = NumberIs v
-
-abbrev pub kind_of : Option Kind → KindRead
-kind_of none = NoKind
-kind_of (some k) = KindIs k
-
 abbrev pub there : {A : Type 0} → Option A → Bool
-there none = false
-there (some a) = true
+there None = false
+there (Some a) = true
 
 -- a macroblock's form from its data on, and from its pattern on
 unfoldable pub data_form : ℕ → ℕ → Kind → ℕ → ℕ → List (List ℕ) → Form

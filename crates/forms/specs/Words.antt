@@ -1,6 +1,5 @@
 -- A line's words: what one space parts; numbers and hexadecimal data as words. Definitions only.
-use Rattle.std.specs.Prelude.{Bool, cond, false, not, true, ◌&&◌, ◌||◌, List, [], ◌∷◌, ℕ, ◌%◌, ◌*◌, ◌+◌, ◌-◌, eqb, leb, length}
-use Rattle.std.proofs.Math.Option.{Option, none, some}
+use Rattle.std.specs.Prelude.{Bool, cond, false, not, true, ◌&&◌, ◌||◌, List, [], ◌∷◌, ℕ, ◌%◌, ◌*◌, ◌+◌, ◌-◌, eqb, leb, length, Option, None, Some}
 use Rattle.numbers.specs.Every.{every}
 
 -- a byte put before the first word
@@ -35,7 +34,7 @@ value_after v (b ∷ bs) = value_after (10 * v + (b - 48)) bs
 
 -- one digit at least, any count of leading zeros, and at most `most`
 unfoldable pub number_in : ℕ → List ℕ → Option ℕ
-number_in most w = cond (not (none_of w) && (every is_digit w && leb (value_after 0 w) most)) (some (value_after 0 w)) none
+number_in most w = cond (not (none_of w) && (every is_digit w && leb (value_after 0 w) most)) (Some (value_after 0 w)) None
 
 -- ---- data, hexadecimal in either case
 
@@ -57,4 +56,4 @@ bytes_of (a ∷ b ∷ bs) = byte_of a b ∷ bytes_of bs
 
 -- an even number of digits, two or more
 unfoldable pub hex_in : List ℕ → Option (List ℕ)
-hex_in w = cond (leb 2 (length w) && (eqb (length w % 2) 0 && every is_hex w)) (some (bytes_of w)) none
+hex_in w = cond (leb 2 (length w) && (eqb (length w % 2) 0 && every is_hex w)) (Some (bytes_of w)) None

@@ -6,27 +6,6 @@ ghost use Rattle.forms.specs.Reading.{part, room_for_data, there};
 ghost use Rattle.forms.specs.Words.{bytes_of, hex_in, hex_of, is_hex};
 ghost use Rattle.numbers.specs.Every.{every};
 
-fn is_hex(b: u8) -> bool
-    ensures { result ≡ is_hex b }
-{
-    if b < 48 {
-        return false;
-    }
-    if b <= 57 {
-        return true;
-    }
-    if b < 65 {
-        return false;
-    }
-    if b <= 70 {
-        return true;
-    }
-    if b < 97 {
-        return false;
-    }
-    b <= 102
-}
-
 // 0 to 15.
 fn hex_value(b: u8) -> u8
     requires { is_hex b ≡ true }
@@ -46,14 +25,7 @@ fn all_hex(line: &[u8], from: usize, to: usize) -> bool
     requires { (from ≤ to) × (to ≤ length line.now) }
     ensures { result ≡ every is_hex (part line.now from to) }
 {
-    let mut k = from;
-    while k < to {
-        if !is_hex(line[k]) {
-            return false;
-        }
-        k += 1;
-    }
-    true
+    line[from..to].iter().all(|b| b.is_ascii_hexdigit())
 }
 
 // The bytes that `n` pairs of digits from `from` on write, into the first `n` of `data`.
@@ -61,6 +33,7 @@ fn decode(line: &[u8], from: usize, n: usize, data: &mut [u8])
     requires { (from + 2 * n ≤ length line.now) × ((n ≤ length «data».old) × ((length line.now ≤ longest) × (every is_hex (part line.now from (from + 2 * n)) ≡ true))) }
     ensures { «data».new ≡ paste «data».old 0 (bytes_of (part line.now from (from + 2 * n))) n }
 {
+    // An index: byte k comes of the digits 2 k and 2 k + 1.
     for k in 0..n {
         let high = hex_value(line[from + 2 * k]);
         let low = hex_value(line[from + 2 * k + 1]);
@@ -74,13 +47,7 @@ pub(crate) fn is_data(line: &[u8], from: usize, to: usize) -> bool
     ensures { result ≡ there (hex_in (part line.now from to)) }
 {
     let n = to - from;
-    if n < 2 {
-        return false;
-    }
-    if n % 2 != 0 {
-        return false;
-    }
-    all_hex(line, from, to)
+    2 <= n && n % 2 == 0 && all_hex(line, from, to)
 }
 
 // The data of a word that is data; its number of bytes.

@@ -1,7 +1,7 @@
 // The words for a macroblock's type.
 ghost use Rattle.std.specs.Prelude.{◌≡◌, ◌≤◌, length};
 ghost use Rattle.forms.specs.Forms.{kind_in};
-ghost use Rattle.forms.specs.Reading.{kind_of, part};
+ghost use Rattle.forms.specs.Reading.{part};
 ghost use Rattle.forms.specs.Words.{same};
 
 // `Missing` is the word none, `Skipped` a macroblock that is not coded.
@@ -16,53 +16,33 @@ pub enum Kind {
     Skipped,
 }
 
-// A kind, or no word for one.
-#[derive(Clone, Copy)]
-pub enum KindRead {
-    Bad,
-    Is(Kind),
-}
-
 // Whether the bytes from `from` up to `to` are a word.
 pub(crate) fn is_word(line: &[u8], from: usize, to: usize, word: &[u8]) -> bool
     requires { (from ≤ to) × (to ≤ length line.now) }
     ensures { result ≡ same (part line.now from to) word.now }
 {
-    if to - from != word.len() {
-        return false;
-    }
-    for k in 0..word.len() {
-        if line[from + k] != word[k] {
-            return false;
-        }
-    }
-    true
+    &line[from..to] == word
 }
 
-pub(crate) fn read_kind(line: &[u8], from: usize, to: usize) -> KindRead
+pub(crate) fn read_kind(line: &[u8], from: usize, to: usize) -> Option<Kind>
     requires { (from ≤ to) × (to ≤ length line.now) }
-    ensures { result ≡ kind_of (kind_in (part line.now from to)) }
+    ensures { result ≡ kind_in (part line.now from to) }
 {
     if is_word(line, from, to, b"intra") {
-        return KindRead::Is(Kind::Intra);
+        Some(Kind::Intra)
+    } else if is_word(line, from, to, b"intraq") {
+        Some(Kind::IntraQ)
+    } else if is_word(line, from, to, b"inter") {
+        Some(Kind::Inter)
+    } else if is_word(line, from, to, b"interq") {
+        Some(Kind::InterQ)
+    } else if is_word(line, from, to, b"inter4v") {
+        Some(Kind::Inter4V)
+    } else if is_word(line, from, to, b"none") {
+        Some(Kind::Missing)
+    } else if is_word(line, from, to, b"skipped") {
+        Some(Kind::Skipped)
+    } else {
+        None
     }
-    if is_word(line, from, to, b"intraq") {
-        return KindRead::Is(Kind::IntraQ);
-    }
-    if is_word(line, from, to, b"inter") {
-        return KindRead::Is(Kind::Inter);
-    }
-    if is_word(line, from, to, b"interq") {
-        return KindRead::Is(Kind::InterQ);
-    }
-    if is_word(line, from, to, b"inter4v") {
-        return KindRead::Is(Kind::Inter4V);
-    }
-    if is_word(line, from, to, b"none") {
-        return KindRead::Is(Kind::Missing);
-    }
-    if is_word(line, from, to, b"skipped") {
-        return KindRead::Is(Kind::Skipped);
-    }
-    KindRead::Bad
 }

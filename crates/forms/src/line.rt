@@ -3,8 +3,7 @@ ghost use Rattle.std.specs.Prelude.{◌≡◌, ◌+◌, ◌≤◌, length};
 ghost use Rattle.forms.specs.Forms.{longest, mb_form, picture_form};
 ghost use Rattle.forms.specs.Reading.{data_after, data_form, data_of, line_of, parsed, pattern_form, room_for_data, words_from};
 
-use crate::field::Field;
-use crate::kind::{Kind, KindRead};
+use crate::kind::Kind;
 
 // A picture: width, height, depth, method. A macroblock: quantiser, ac_pred, type, cbpy, cbpc, and how many bytes of data.
 // `TooShort` (14): fewer than 16,384 bytes were lent for data.
@@ -20,37 +19,22 @@ fn picture(line: &[u8], from: usize, to: usize) -> Line
     requires { (from ≤ to + 1) × ((to ≤ length line.now) × (length line.now ≤ longest)) }
     ensures { result ≡ line_of (picture_form (words_from line.now from to)) }
 {
-    let w = crate::field::number(line, from, to, 65535);
-    match w {
-        Field::Bad => Line::Malformed,
-        Field::Value(width, at_height) => {
-            let h = crate::field::number(line, at_height, to, 65535);
-            match h {
-                Field::Bad => Line::Malformed,
-                Field::Value(height, at_depth) => {
-                    let d = crate::field::number(line, at_depth, to, 65535);
-                    match d {
-                        Field::Bad => Line::Malformed,
-                        Field::Value(depth, at_method) => {
-                            let m = crate::field::number(line, at_method, to, 2);
-                            match m {
-                                Field::Bad => Line::Malformed,
-                                Field::Value(method, after) => {
-                                    if method == 0 {
-                                        return Line::Malformed;
-                                    }
-                                    if after <= to {
-                                        return Line::Malformed;
-                                    }
-                                    Line::Picture(width, height, depth, method)
-                                }
-                            }
-                        }
-                    }
-                }
-            }
-        }
+    let Some((width, at_height)) = crate::field::number(line, from, to, 65535) else {
+        return Line::Malformed;
+    };
+    let Some((height, at_depth)) = crate::field::number(line, at_height, to, 65535) else {
+        return Line::Malformed;
+    };
+    let Some((depth, at_method)) = crate::field::number(line, at_depth, to, 65535) else {
+        return Line::Malformed;
+    };
+    let Some((method, after)) = crate::field::number(line, at_method, to, 2) else {
+        return Line::Malformed;
+    };
+    if method == 0 || after <= to {
+        return Line::Malformed;
     }
+    Line::Picture(width, height, depth, method)
 }
 
 // The last word of a macroblock, its data, after what stands before it.
@@ -69,14 +53,10 @@ fn with_data(
     ensures value { result ≡ line_of (data_form q ac_pred kind cbpy cbpc (words_from line.now from to)) }
     ensures bytes { «data».new ≡ data_of (data_form q ac_pred kind cbpy cbpc (words_from line.now from to)) «data».old }
 {
-    if to < from {
-        return Line::Malformed;
-    }
-    let e = crate::field::word_end(line, from, to);
-    if e < to {
-        return Line::Malformed;
-    }
-    if !crate::hex::is_data(line, from, to) {
+    if to < from
+        || crate::field::word_end(line, from, to) < to
+        || !crate::hex::is_data(line, from, to)
+    {
         return Line::Malformed;
     }
     let n = crate::hex::data_of(line, from, to, data);
@@ -97,19 +77,13 @@ fn with_pattern(
     ensures value { result ≡ line_of (pattern_form q ac_pred kind (words_from line.now from to)) }
     ensures bytes { «data».new ≡ data_of (pattern_form q ac_pred kind (words_from line.now from to)) «data».old }
 {
-    let y = crate::field::number(line, from, to, 255);
-    match y {
-        Field::Bad => Line::Malformed,
-        Field::Value(cbpy, at_cbpc) => {
-            let c = crate::field::number(line, at_cbpc, to, 255);
-            match c {
-                Field::Bad => Line::Malformed,
-                Field::Value(cbpc, at_data) => {
-                    with_data(line, at_data, to, q, ac_pred, kind, cbpy, cbpc, data)
-                }
-            }
-        }
-    }
+    let Some((cbpy, at_cbpc)) = crate::field::number(line, from, to, 255) else {
+        return Line::Malformed;
+    };
+    let Some((cbpc, at_data)) = crate::field::number(line, at_cbpc, to, 255) else {
+        return Line::Malformed;
+    };
+    with_data(line, at_data, to, q, ac_pred, kind, cbpy, cbpc, data)
 }
 
 fn macroblock(line: &[u8], from: usize, to: usize, data: &mut [u8]) -> Line
@@ -117,29 +91,20 @@ fn macroblock(line: &[u8], from: usize, to: usize, data: &mut [u8]) -> Line
     ensures value { result ≡ line_of (mb_form (words_from line.now from to)) }
     ensures bytes { «data».new ≡ data_of (mb_form (words_from line.now from to)) «data».old }
 {
-    let q = crate::field::number(line, from, to, 65535);
-    match q {
-        Field::Bad => Line::Malformed,
-        Field::Value(quantiser, at_flag) => {
-            let a = crate::field::number(line, at_flag, to, 1);
-            match a {
-                Field::Bad => Line::Malformed,
-                Field::Value(ac_pred, at_kind) => {
-                    if to < at_kind {
-                        return Line::Malformed;
-                    }
-                    let e = crate::field::word_end(line, at_kind, to);
-                    let t = crate::kind::read_kind(line, at_kind, e);
-                    match t {
-                        KindRead::Bad => Line::Malformed,
-                        KindRead::Is(kind) => {
-                            with_pattern(line, e + 1, to, quantiser, ac_pred, kind, data)
-                        }
-                    }
-                }
-            }
-        }
+    let Some((quantiser, at_flag)) = crate::field::number(line, from, to, 65535) else {
+        return Line::Malformed;
+    };
+    let Some((ac_pred, at_kind)) = crate::field::number(line, at_flag, to, 1) else {
+        return Line::Malformed;
+    };
+    if to < at_kind {
+        return Line::Malformed;
     }
+    let e = crate::field::word_end(line, at_kind, to);
+    let Some(kind) = crate::kind::read_kind(line, at_kind, e) else {
+        return Line::Malformed;
+    };
+    with_pattern(line, e + 1, to, quantiser, ac_pred, kind, data)
 }
 
 impl Line {
@@ -159,25 +124,16 @@ pub fn parse(line: &[u8], data: &mut [u8]) -> Line
         return Line::TooShort;
     }
     let n = line.len();
-    if Line::LONGEST < n {
-        return Line::Malformed;
-    }
-    if n < 2 {
-        return Line::Malformed;
-    }
-    if line[0] != 40 {
+    if Line::LONGEST < n || n < 2 || line[0] != b'(' || line[n - 1] != b')' {
         return Line::Malformed;
     }
     let to = n - 1;
-    if line[to] != 41 {
-        return Line::Malformed;
-    }
     let e = crate::field::word_end(line, 1, to);
     if crate::kind::is_word(line, 1, e, b"picture") {
-        return picture(line, e + 1, to);
+        picture(line, e + 1, to)
+    } else if crate::kind::is_word(line, 1, e, b"mb") {
+        macroblock(line, e + 1, to, data)
+    } else {
+        Line::Malformed
     }
-    if crate::kind::is_word(line, 1, e, b"mb") {
-        return macroblock(line, e + 1, to, data);
-    }
-    Line::Malformed
 }

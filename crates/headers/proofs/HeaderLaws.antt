@@ -1,7 +1,6 @@
 -- The reader of a header reads its grammar, is stopped where a header breaks off, and refuses by 1, 16 and 17; what a header says is fine. Assumes nothing.
 use mathlib.Core.Bool.{Bool, cond, false, true}
 use mathlib.Core.List.{List}
-use mathlib.Core.Option.{Option}
 use mathlib.Core.Path.{◌≡◌, refl}
 use Prim.Native.Nat.{ℕ, suc, zero, ◌<◌, ◌≤◌}
 use native.Mathlib.Omega.{arith}
@@ -30,12 +29,13 @@ use Rattle.sentences.specs.Sentences.{Sentences}
 use Rattle.assembly.specs.Values.{context_fine}
 use Rattle.assembly.specs.declared.context.MacroblockTextureContext.{MacroblockTextureContext}
 use Rattle.assembly.specs.declared.error.BlockAssemblyError.TheVariants.{NotIntra}
-use Rattle.assembly.specs.declared.error.Checked.TheVariants.{Bad, Fine}
 use Rattle.headers.proofs.McbpcLaws.{coded, mcbpc_cut, mcbpc_reads}
 use Rattle.headers.specs.Fields.{context_with, delta_of, fields_of, header_check, header_of, is_intra, new_quantiser}
 use Rattle.headers.specs.Header.{GoodHeader, GoodMcbpc, GoodRest, Header, Mcbpc, changes_at, header_bits, mcbpc_bits, rest_bits, row_of}
 use Rattle.headers.specs.HeaderReader.{mcbpc_in, one_more, read_header, read_mcbpc, read_rest}
 use Rattle.headers.specs.declared.header.DerivedMbType.TheVariants.{Intra, IntraQ}
+use Rattle.assembly.specs.declared.error.BlockAssemblyError.{BlockAssemblyError}
+use Rattle.std.specs.Prelude.{Err, Ok, Option, Result, ⊤}
 
 -- ---- what follows mcbpc
 
@@ -109,10 +109,10 @@ header_by_bits b = then (read_mcbpc b) _ (mcbpc_by_bits (length b) b) (λ m r. t
 -- ---- what a header says
 
 -- 9 and 10 cannot arise
-pub header-checked : (h : Header) → header_check (header_of h) ≡ Fine
+pub header-checked : (h : Header) → header_check (header_of h) ≡ Ok tt
 header-checked h = go (changes_at (row_of h.0))
   where
-    go : (t : Bool) → cond (is_intra (cond t IntraQ Intra)) Fine (Bad NotIntra) ≡ Fine
+    go : (t : Bool) → ◌≡◌ {A = Result ⊤ BlockAssemblyError} (cond (is_intra (cond t IntraQ Intra)) (Ok tt) (Err NotIntra)) (Ok tt)
     go true = refl
     go false = refl
 

@@ -4,15 +4,15 @@ use mathlib.Core.Path.{◌≡◌, ap₂, refl}
 use Rattle.assembly.proofs.OutcomeLaws.{answered}
 use Rattle.assembly.specs.Outcomes.{checked_outcome}
 use Rattle.assembly.specs.declared.error.BlockAssemblyError.TheVariants.{NotCoded, NotIntra}
-use Rattle.assembly.specs.declared.error.Checked.{Checked}
-use Rattle.assembly.specs.declared.error.Checked.TheVariants.{Bad, Fine}
 use Rattle.headers.specs.Fields.{header_check, header_tests, is_intra}
 use Rattle.headers.specs.Outcomes.{header_due}
 use Rattle.headers.specs.declared.header.MacroblockHeader.{MacroblockHeader}
+use Rattle.std.specs.Prelude.{Err, Ok, Result, ⊤}
+use Rattle.assembly.specs.declared.error.BlockAssemblyError.{BlockAssemblyError}
 
-pub header_by_lem : (h : MacroblockHeader) (a b : Bool) → h.not_coded ≡ a → is_intra h.mb_type ≡ b → header_check h ≡ cond (not a) (cond b Fine (Bad NotIntra)) (Bad NotCoded)
-header_by_lem h a b e f = ap₂ (λ (s t : Bool). cond (not s) (cond t Fine (Bad NotIntra)) (Bad NotCoded)) e f
+pub header_by_lem : (h : MacroblockHeader) (a b : Bool) → h.not_coded ≡ a → is_intra h.mb_type ≡ b → header_check h ≡ cond (not a) (cond b (Ok tt) (Err NotIntra)) (Err NotCoded)
+header_by_lem h a b e f = ap₂ (λ (s t : Bool). cond (not s) (cond t (Ok tt) (Err NotIntra)) (Err NotCoded)) e f
 
 -- 9 and 10 by number
 pub header_due_lem : (h : MacroblockHeader) → checked_outcome (header_check h) ≡ header_due h
-header_due_lem h = answered checked_outcome (λ (k : Checked). k) (λ e. refl) (header_tests h) (refl, (refl, tt))
+header_due_lem h = answered checked_outcome (λ (k : Result ⊤ BlockAssemblyError). k) (λ e. refl) (header_tests h) (refl, (refl, tt))

@@ -1,8 +1,7 @@
 -- A header without stuffing stands in one window: codes by six bits each, fields between and behind them. Assumes nothing.
 use mathlib.Core.Bool.{Bool, cond, false, true}
 use mathlib.Core.List.{List, ◌++◌}
-use mathlib.Core.Option.{Option, none, some}
-use mathlib.Core.Path.{◌≡◌, ap, ap₂, refl, subst, subst⁻¹, sym, ◌∙◌}
+use mathlib.Core.Path.{◌≡◌, ap, ap₂, refl, subst⁻¹, sym, ◌∙◌}
 use Prim.Native.Nat.{ℕ, ◌%◌, ◌*◌, ◌+◌, ◌-◌, ◌/◌, ◌<◌, ◌^◌, ◌≤◌}
 use native.Mathlib.Nat.{mod-lt}
 use native.Mathlib.Omega.{arith}
@@ -24,7 +23,7 @@ use Rattle.headers.proofs.PartLaws.{change, no_change}
 use Rattle.headers.specs.Header.{GoodHeader, Header, changes_at, header_bits, stuffing_bits}
 use Rattle.headers.specs.HeaderReader.{read_header}
 use Rattle.headers.specs.Inside.{SaysParts, flag_in, length_in, parts_in, parts_of}
-use Rattle.headers.specs.declared.parts.PartsRead.TheVariants.{Parts}
+use Rattle.std.specs.Prelude.{Ok, Option, None, Some}
 
 module _ (d : List ℕ) (at m y : ℕ)
     (m_is : m ≡ mcbpc_short (ahead_of d at)) (m-there : m ≡ 0 → ⊥)
@@ -84,7 +83,7 @@ module _ (d : List ℕ) (at m y : ℕ)
   good o h = (first.below, (mod-lt _ (omega arith), (second.below, h)))
 
   there : (len : ℕ) (o : Option ℕ) → len ≤ 32 → take len w ≡ header_bits (header o) → GoodHeader (header o) → at + len ≤ 8 * length d
-      → SaysParts d (Parts (parts_of (header o)) (cursor_at (at + len))) (mapped parts_of (read_header (bits_from d at)))
+      → SaysParts d (Ok (parts_of (header o), cursor_at (at + len))) (mapped parts_of (read_header (bits_from d at)))
   there len o h e g l =
       let r : Bits = bits_from d (at + len) in
       let b : bits_from d at ≡ header_bits (header o) ++ r = window-begins d at len h l ∙ ap (λ (x : Bits). x ++ r) e in
@@ -101,20 +100,20 @@ module _ (d : List ℕ) (at m y : ℕ)
   abbrev long : Bool → ℕ
   long t = cond t (m % 16 + 1 + y % 16) (m % 16 + 1 + y % 16 + 2)
 
-  pub header-there : at + length_in m y ≤ 8 * length d → SaysParts d (Parts (parts_in (ahead_of d at) m y) (cursor_at (at + length_in m y))) (mapped parts_of (read_header (bits_from d at)))
+  pub header-there : at + length_in m y ≤ 8 * length d → SaysParts d (Ok (parts_in (ahead_of d at) m y, cursor_at (at + length_in m y))) (mapped parts_of (read_header (bits_from d at)))
   unfolding stuffing_bits
   header-there = go (ltb m 64) refl
     where
-      go : (t : Bool) → ltb m 64 ≡ t → at + long t ≤ 8 * length d → SaysParts d (Parts (parts_of (header (cond t none (some dquant)))) (cursor_at (at + long t))) (mapped parts_of (read_header (bits_from d at)))
+      go : (t : Bool) → ltb m 64 ≡ t → at + long t ≤ 8 * length d → SaysParts d (Ok (parts_of (header (cond t None (Some dquant))), cursor_at (at + long t))) (mapped parts_of (read_header (bits_from d at)))
       go true e l =
           let h : m / 16 < 4 = let k = ltb-true m 64 e in omega arith in
           let n : m % 16 + 1 + y % 16 ≡ m % 16 + (1 + (y % 16 + 0)) = omega arith in
-          there (m % 16 + 1 + y % 16) none (omega (arith, few)) (ap (λ (k : ℕ). take k w) n ∙ all_bits 0)
-          (good none (subst⁻¹ (λ (t : Bool). GoodOpt t (λ (q : ℕ). q < 4) none) (no_change (m / 16) h) tt)) l
+          there (m % 16 + 1 + y % 16) None (omega (arith, few)) (ap (λ (k : ℕ). take k w) n ∙ all_bits 0)
+          (good None (subst⁻¹ (λ (t : Bool). GoodOpt t (λ (q : ℕ). q < 4) None) (no_change (m / 16) h) tt)) l
       go false e l =
           let h : 4 ≤ m / 16 = let k = ltb-false m 64 e in omega arith in
           let n : m % 16 + 1 + y % 16 + 2 ≡ m % 16 + (1 + (y % 16 + 2)) = omega arith in
           let f : take 2 (drop (skip + y % 16) w) ≡ bin 2 dquant = field-bits w (skip + y % 16) 2 under (window-length d at ∙ (let z : 32 ≡ skip + y % 16 + 2 + under = omega (arith, few) in z)) in
-          there (m % 16 + 1 + y % 16 + 2) (some dquant) (omega (arith, few))
+          there (m % 16 + 1 + y % 16 + 2) (Some dquant) (omega (arith, few))
           (ap (λ (k : ℕ). take k w) n ∙ all_bits 2 ∙ ap (λ (x : Bits). code_bits mcbpc_codes mcbpc_lens (m / 16) ++ (bin 1 flag ++ (code_bits cbpy_codes cbpy_lens (y / 16) ++ x))) f)
-          (good (some dquant) (subst⁻¹ (λ (t : Bool). GoodOpt t (λ (q : ℕ). q < 4) (some dquant)) (change (m / 16) h first.below) (mod-lt _ (omega arith)))) l
+          (good (Some dquant) (subst⁻¹ (λ (t : Bool). GoodOpt t (λ (q : ℕ). q < 4) (Some dquant)) (change (m / 16) h first.below) (mod-lt _ (omega arith)))) l

@@ -1,6 +1,5 @@
 -- The header record of a macroblock (6.2.6, Table B.1), refusals 9 and 10, and what a header says: its fields and the quantiser after it (6.3.6). Definitions only.
-use Rattle.std.specs.Prelude.{Bool, cond, false, not, true, List, [], ◌∷◌, ℕ, eqb, negsuc, pos, ℤ, ◌+ℤ◌}
-use Rattle.std.proofs.Math.Option.{Option, none, some}
+use Rattle.std.specs.Prelude.{Bool, cond, false, not, true, List, [], ◌∷◌, ℕ, eqb, negsuc, pos, ℤ, ◌+ℤ◌, Result, ⊤, Option, None, Some}
 use Rattle.codes.specs.Header.{cbpc_at, cbpy_at}
 use Rattle.ranges.specs.Range.{limited_quantiser}
 use Rattle.assembly.specs.Answer.{first_bad}
@@ -8,7 +7,6 @@ use Rattle.assembly.specs.Pattern.{pattern_of}
 use Rattle.assembly.specs.declared.context.MacroblockTextureContext.{MacroblockTextureContext}
 use Rattle.assembly.specs.declared.error.BlockAssemblyError.{BlockAssemblyError}
 use Rattle.assembly.specs.declared.error.BlockAssemblyError.TheVariants.{NotCoded, NotIntra}
-use Rattle.assembly.specs.declared.error.Checked.{Checked}
 use Rattle.headers.specs.declared.header.DerivedMbType.{DerivedMbType}
 use Rattle.headers.specs.declared.header.DerivedMbType.TheVariants.{Inter, Inter4V, InterQ, Intra, IntraQ, Missing}
 use Rattle.headers.specs.declared.header.MacroblockHeader.{MacroblockHeader}
@@ -27,7 +25,7 @@ is_intra IntraQ = true
 abbrev pub header_tests : MacroblockHeader → List (Bool × BlockAssemblyError)
 header_tests h = (not h.not_coded, NotCoded) ∷ (is_intra h.mb_type, NotIntra) ∷ []
 
-abbrev pub header_check : MacroblockHeader → Checked
+abbrev pub header_check : MacroblockHeader → Result ⊤ BlockAssemblyError
 header_check h = first_bad (header_tests h)
 
 -- which blocks are coded
@@ -53,8 +51,8 @@ delta_by code = cond (eqb code 0) (negsuc 0) (cond (eqb code 1) (negsuc 1) (cond
 
 -- 0 where there is no dquant
 abbrev pub delta_of : Option ℕ → ℤ
-delta_of none = pos 0
-delta_of (some code) = delta_by code
+delta_of None = pos 0
+delta_of (Some code) = delta_by code
 
 -- the quantiser after a header, limited, of the quantiser before it
 abbrev pub new_quantiser : ℕ → Header → ℕ

@@ -1,6 +1,5 @@
 -- The header of a macroblock in an I-VOP (6.2.6, 6.3.6): how it is spelled in bits, and when its parts are good. No reader is named here. Definitions only.
-use Rattle.std.specs.Prelude.{Bool, [], ℕ, suc, zero, ◌<◌, eqb}
-use Rattle.std.proofs.Math.Option.{Option}
+use Rattle.std.specs.Prelude.{Bool, [], ℕ, suc, zero, ◌<◌, eqb, Option}
 use Rattle.bits.specs.Bits.{Bits, bin}
 use Rattle.codes.specs.Header.{cbpy_codes, cbpy_lens, mcbpc_codes, mcbpc_lens, type_at}
 use Rattle.codes.specs.Table.{code_bits}

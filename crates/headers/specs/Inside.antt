@@ -1,6 +1,5 @@
 -- Inside the crate: what the parts of a header say in the reader's terms, where a position stands for the bits from it on. Definitions only.
-use Rattle.std.specs.Prelude.{cond, List, ◌≡◌, ℕ, ◌%◌, ◌*◌, ◌+◌, ◌-◌, ◌/◌, ◌<◌, ◌^◌, ◌≤◌, ltb, nat_abs, pos, ◌+ℤ◌, length}
-use Rattle.std.proofs.Math.Option.{Option, none, some}
+use Rattle.std.specs.Prelude.{cond, List, ◌≡◌, ℕ, ◌%◌, ◌*◌, ◌+◌, ◌-◌, ◌/◌, ◌<◌, ◌^◌, ◌≤◌, ltb, nat_abs, pos, ◌+ℤ◌, length, Err, Ok, Result, Option, None, Some}
 use Rattle.bits.specs.Bits.{bits_from}
 use Rattle.bits.specs.Cursor.{cursor_at}
 use Rattle.fields.specs.Inside.{Says}
@@ -11,19 +10,19 @@ use Rattle.headers.specs.Header.{Header, Rest, row_of}
 use Rattle.headers.specs.HeaderReader.{read_header}
 use Rattle.headers.specs.declared.parse.HeaderFields.{HeaderFields}
 use Rattle.headers.specs.declared.parts.HeaderParts.{HeaderParts}
-use Rattle.headers.specs.declared.parts.PartsRead.{PartsRead}
-use Rattle.headers.specs.declared.parts.PartsRead.TheVariants.{Parts, Refused}
 use Rattle.headers.specs.declared.window.PartsAt.{PartsAt}
+use Rattle.bits.specs.declared.cursor.Cursor.{Cursor}
+use Rattle.fields.specs.declared.error.TextureParseError.{TextureParseError}
 
-abbrev pub said_parts : List ℕ → PartsRead → Res HeaderParts
-said_parts d (Parts p c) = ok p (bits_from d c.bit_pos)
-said_parts d (Refused e) = no e
+abbrev pub said_parts : List ℕ → Result (HeaderParts × Cursor) TextureParseError → Res HeaderParts
+said_parts d (Ok (p, c)) = ok p (bits_from d c.bit_pos)
+said_parts d (Err e) = no e
 
-abbrev pub InsideParts : List ℕ → PartsRead → Type 0
-InsideParts d (Parts p c) = c.bit_pos ≤ 8 * length d
-InsideParts d (Refused e) = Unit {0}
+abbrev pub InsideParts : List ℕ → Result (HeaderParts × Cursor) TextureParseError → Type 0
+InsideParts d (Ok (p, c)) = c.bit_pos ≤ 8 * length d
+InsideParts d (Err e) = Unit {0}
 
-abbrev pub SaysParts : List ℕ → PartsRead → Res HeaderParts → Type 0
+abbrev pub SaysParts : List ℕ → Result (HeaderParts × Cursor) TextureParseError → Res HeaderParts → Type 0
 SaysParts d r m = Says (said_parts d) (InsideParts d) r m
 
 -- the parts: with dquant, with all that follows mcbpc, of a header
@@ -59,11 +58,11 @@ abbrev pub flag_in : ℕ → ℕ → ℕ
 flag_in w m = w / 2 ^ (31 - m % 16) % 2
 
 abbrev pub dquant_in : ℕ → ℕ → ℕ → Option ℕ
-dquant_in w m y = cond (ltb m 64) none (some (w / 2 ^ (29 - m % 16 - y % 16) % 4))
+dquant_in w m y = cond (ltb m 64) None (Some (w / 2 ^ (29 - m % 16 - y % 16) % 4))
 
 abbrev pub parts_in : ℕ → ℕ → ℕ → HeaderParts
 parts_in w m y = parts_by (m / 16) (flag_in w m) (y / 16) (dquant_in w m y)
 
 -- a next position 0 says nothing, any other the header
 abbrev pub PartsSettled : List ℕ → ℕ → PartsAt → Type 0
-PartsSettled d at r = (r.next ≡ 0 → ⊥) → SaysParts d (Parts r.parts (cursor_at r.next)) (mapped parts_of (read_header (bits_from d at)))
+PartsSettled d at r = (r.next ≡ 0 → ⊥) → SaysParts d (Ok (r.parts, cursor_at r.next)) (mapped parts_of (read_header (bits_from d at)))

@@ -1,5 +1,5 @@
 -- What the check and the reading of a header say in document 01's numbers, and what is due. Definitions only.
-use Rattle.std.specs.Prelude.{Bool, not, List, [], ◌∷◌, ℕ, length}
+use Rattle.std.specs.Prelude.{Bool, not, List, [], ◌∷◌, ℕ, length, Err, Ok, Result}
 use Rattle.bits.specs.Bits.{bits_from}
 use Rattle.bits.specs.Cursor.{in_data}
 use Rattle.numbers.specs.Outcome.{Outcome, accepted, checked, done, refused}
@@ -11,8 +11,8 @@ use Rattle.headers.specs.Header.{Header}
 use Rattle.headers.specs.HeaderReader.{read_header}
 use Rattle.headers.specs.declared.header.MacroblockHeader.{MacroblockHeader}
 use Rattle.headers.specs.declared.parse.HeaderFields.{HeaderFields}
-use Rattle.headers.specs.declared.parse.HeaderRead.{HeaderRead}
-use Rattle.headers.specs.declared.parse.HeaderRead.TheVariants.{Read, Refused}
+use Rattle.bits.specs.declared.cursor.Cursor.{Cursor}
+use Rattle.assembly.specs.declared.error.BlockAssemblyError.{BlockAssemblyError}
 
 -- ---- the check of a header record: 9, then 10
 
@@ -25,9 +25,9 @@ header_due h = checked (header_numbers h) done
 -- ---- a header out of bits: 11, 12, then what is read
 
 -- its fields, and the position after it
-abbrev pub header_read_outcome : HeaderRead → Outcome (HeaderFields × ℕ)
-header_read_outcome (Read f c) = accepted (f, c.bit_pos)
-header_read_outcome (Refused e) = refused (number_of e) (figure_of e)
+abbrev pub header_read_outcome : Result (HeaderFields × Cursor) BlockAssemblyError → Outcome (HeaderFields × ℕ)
+header_read_outcome (Ok (f, c)) = accepted (f, c.bit_pos)
+header_read_outcome (Err e) = refused (number_of e) (figure_of e)
 
 abbrev pub header_said : ℕ → Header → ℕ → HeaderFields × ℕ
 header_said q h position = (fields_of q h, position)

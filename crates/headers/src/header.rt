@@ -4,7 +4,7 @@ ghost use Rattle.assembly.specs.Outcomes.{checked_outcome};
 ghost use Rattle.headers.specs.Fields.{header_check, is_intra};
 ghost use Rattle.headers.specs.Outcomes.{header_due};
 
-use assembly::{BlockAssemblyError, Checked};
+use assembly::BlockAssemblyError;
 
 // Table B.1; `Missing` is the Rust's `None`.
 #[derive(Clone, Copy)]
@@ -21,14 +21,7 @@ impl DerivedMbType {
     pub fn is_intra(self) -> bool
         ensures { result ≡ is_intra self }
     {
-        match self {
-            DerivedMbType::Missing => false,
-            DerivedMbType::Inter => false,
-            DerivedMbType::InterQ => false,
-            DerivedMbType::Inter4V => false,
-            DerivedMbType::Intra => true,
-            DerivedMbType::IntraQ => true,
-        }
+        matches!(self, DerivedMbType::Intra | DerivedMbType::IntraQ)
     }
 }
 
@@ -43,16 +36,15 @@ pub struct MacroblockHeader {
 }
 
 // 9, then 10.
-pub fn check_header(header: MacroblockHeader) -> Checked
+pub fn check_header(header: MacroblockHeader) -> Result<(), BlockAssemblyError>
     ensures value { result ≡ header_check header }
     ensures outcome { checked_outcome result ≡ header_due header }
 {
     if header.not_coded {
-        return Checked::Bad(BlockAssemblyError::NotCoded);
+        return Err(BlockAssemblyError::NotCoded);
     }
-    let kind = header.mb_type;
-    if !kind.is_intra() {
-        return Checked::Bad(BlockAssemblyError::NotIntra);
+    if !header.mb_type.is_intra() {
+        return Err(BlockAssemblyError::NotIntra);
     }
-    Checked::Fine
+    Ok(())
 }

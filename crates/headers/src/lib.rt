@@ -11,4 +11,4 @@ mod parts;
 mod window;
 
 pub use header::{DerivedMbType, MacroblockHeader, check_header};
-pub use parse::{HeaderFields, HeaderRead, parse_macroblock_header};
+pub use parse::{HeaderFields, parse_macroblock_header};

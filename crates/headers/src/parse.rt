@@ -9,7 +9,7 @@ ghost use Rattle.headers.specs.Inside.{PartsFine, fields_by};
 ghost use Rattle.headers.specs.Outcomes.{header_read_due, header_read_outcome};
 
 use crate::header::{DerivedMbType, MacroblockHeader};
-use crate::parts::{HeaderParts, PartsRead};
+use crate::parts::HeaderParts;
 use assembly::BlockAssemblyError;
 use bits::Cursor;
 
@@ -21,22 +21,16 @@ pub struct HeaderFields {
     pub quantiser_scale: u32,
 }
 
-// The fields and the cursor after them, or a refusal.
-#[derive(Clone, Copy)]
-pub enum HeaderRead {
-    Read(HeaderFields, Cursor),
-    Refused(BlockAssemblyError),
-}
-
 // The type of a row of mcbpc.
 fn type_of(mcbpc: u32) -> DerivedMbType
     requires { mcbpc < 8 }
     ensures { result ≡ type_by mcbpc }
 {
     if mcbpc < 4 {
-        return DerivedMbType::Intra;
+        DerivedMbType::Intra
+    } else {
+        DerivedMbType::IntraQ
     }
-    DerivedMbType::IntraQ
 }
 
 // What the parts say, with the quantiser before them.
@@ -60,35 +54,38 @@ fn fields_of(p: HeaderParts, quantiser_scale: u32) -> HeaderFields
 }
 
 // Once the state is checked: the header at a cursor, one part after the other.
-fn parse_plainly(data: &[u8], c: Cursor, quantiser_scale: u32) -> HeaderRead
+fn parse_plainly(
+    data: &[u8],
+    c: Cursor,
+    quantiser_scale: u32,
+) -> Result<(HeaderFields, Cursor), BlockAssemblyError>
     requires { Readable «data».now c × (quantiser_scale < 32) }
     ensures { result ≡ header_told «data».now quantiser_scale (read_header (bits_from «data».now c.bit_pos)) }
 {
-    let read = crate::parts::read_parts(data, c);
-    match read {
-        PartsRead::Refused(e) => HeaderRead::Refused(BlockAssemblyError::Texture(e)),
-        PartsRead::Parts(p, next) => {
-            let fields = fields_of(p, quantiser_scale);
-            HeaderRead::Read(fields, next)
-        }
-    }
+    let (p, next) = crate::parts::read_parts(data, c)?;
+    let fields = fields_of(p, quantiser_scale);
+    Ok((fields, next))
 }
 
 // The header at a cursor, with the quantiser before its change: 11, 12, then 1, 16, 17.
-pub fn parse_macroblock_header(data: &[u8], c: Cursor, quantiser_scale: u32) -> HeaderRead
+pub fn parse_macroblock_header(
+    data: &[u8],
+    c: Cursor,
+    quantiser_scale: u32,
+) -> Result<(HeaderFields, Cursor), BlockAssemblyError>
     ensures value { result ≡ header_answer «data».now c.bit_pos quantiser_scale }
     ensures outcome { header_read_outcome result ≡ header_read_due «data».now c.bit_pos quantiser_scale }
 {
     if !fields::readable(data, c) {
-        return HeaderRead::Refused(BlockAssemblyError::OutOfRange);
+        return Err(BlockAssemblyError::OutOfRange);
     }
     if !ranges::Quantiser::fine(quantiser_scale) {
-        return HeaderRead::Refused(BlockAssemblyError::Context);
+        return Err(BlockAssemblyError::Context);
     }
     let one = crate::window::parts_at(data, c.bit_pos);
     if one.next == 0 {
         return parse_plainly(data, c, quantiser_scale);
     }
     let fields = fields_of(one.parts, quantiser_scale);
-    HeaderRead::Read(fields, Cursor { bit_pos: one.next })
+    Ok((fields, Cursor { bit_pos: one.next }))
 }

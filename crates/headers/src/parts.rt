@@ -13,7 +13,7 @@ ghost use Rattle.headers.specs.HeaderReader.{read_header, read_mcbpc, read_rest}
 ghost use Rattle.headers.specs.Inside.{SaysParts, parts_by, parts_of, with_rest};
 
 use bits::Cursor;
-use fields::{CodeKind, Got, TextureParseError};
+use fields::{CodeKind, TextureParseError};
 
 // The rows of mcbpc and cbpy, ac_pred_flag, and what dquant changes the quantiser by: 0 where there is none.
 #[derive(Clone, Copy)]
@@ -24,15 +24,8 @@ pub struct HeaderParts {
     pub dquant_delta: i32,
 }
 
-// The parts and the cursor after them, or a refusal.
-#[derive(Clone, Copy)]
-pub enum PartsRead {
-    Parts(HeaderParts, Cursor),
-    Refused(TextureParseError),
-}
-
 // A code of mcbpc or stuffing: its row.
-fn mcbpc_plainly(data: &[u8], c: Cursor) -> Got
+fn mcbpc_plainly(data: &[u8], c: Cursor) -> Result<(u32, Cursor), TextureParseError>
     ensures { result ≡ code_answer «data».now c.bit_pos mcbpc_codes mcbpc_lens 9 9 (invalid Header) }
 {
     let codes = codes::mcbpc_codes();
@@ -41,26 +34,23 @@ fn mcbpc_plainly(data: &[u8], c: Cursor) -> Got
 }
 
 // The same by six bits, where they tell it.
-fn read_mcbpc(data: &[u8], c: Cursor) -> Got
+fn read_mcbpc(data: &[u8], c: Cursor) -> Result<(u32, Cursor), TextureParseError>
     ensures { result ≡ code_answer «data».now c.bit_pos mcbpc_codes mcbpc_lens 9 9 (invalid Header) }
 {
     if !fields::readable(data, c) {
-        return Got::Refused(TextureParseError::OutOfRange);
+        return Err(TextureParseError::OutOfRange);
     }
     let at = c.bit_pos;
     let e = codes::mcbpc_short(bits::ahead(data, at));
     let next = at + (e % 16) as usize;
-    if e == 0 {
+    if e == 0 || 8 * data.len() < next {
         return mcbpc_plainly(data, c);
     }
-    if 8 * data.len() < next {
-        return mcbpc_plainly(data, c);
-    }
-    Got::Number(e / 16, Cursor { bit_pos: next })
+    Ok((e / 16, Cursor { bit_pos: next }))
 }
 
 // A code of cbpy: its row.
-fn cbpy_plainly(data: &[u8], c: Cursor) -> Got
+fn cbpy_plainly(data: &[u8], c: Cursor) -> Result<(u32, Cursor), TextureParseError>
     ensures { result ≡ code_answer «data».now c.bit_pos cbpy_codes cbpy_lens 6 16 (invalid Header) }
 {
     let codes = codes::cbpy_codes();
@@ -69,59 +59,49 @@ fn cbpy_plainly(data: &[u8], c: Cursor) -> Got
 }
 
 // The same by six bits, where they tell it.
-fn read_cbpy(data: &[u8], c: Cursor) -> Got
+fn read_cbpy(data: &[u8], c: Cursor) -> Result<(u32, Cursor), TextureParseError>
     ensures { result ≡ code_answer «data».now c.bit_pos cbpy_codes cbpy_lens 6 16 (invalid Header) }
 {
     if !fields::readable(data, c) {
-        return Got::Refused(TextureParseError::OutOfRange);
+        return Err(TextureParseError::OutOfRange);
     }
     let at = c.bit_pos;
     let e = codes::cbpy_short(bits::ahead(data, at));
     let next = at + (e % 16) as usize;
-    if e == 0 {
+    if e == 0 || 8 * data.len() < next {
         return cbpy_plainly(data, c);
     }
-    if 8 * data.len() < next {
-        return cbpy_plainly(data, c);
-    }
-    Got::Number(e / 16, Cursor { bit_pos: next })
+    Ok((e / 16, Cursor { bit_pos: next }))
 }
 
 // The row of mcbpc after any number of stuffing codes, each of nine bits.
-fn read_type(data: &[u8], c: Cursor) -> Got
+fn read_type(data: &[u8], c: Cursor) -> Result<(u32, Cursor), TextureParseError>
     requires { Readable «data».now c }
     ensures { SaysNumber «data».now result (mapped row_of (read_mcbpc (bits_from «data».now c.bit_pos))) }
 {
     let mut at = c;
     loop {
-        let g = read_mcbpc(data, at);
-        match g {
-            Got::Refused(e) => {
-                return Got::Refused(e);
-            }
-            Got::Number(row, next) => {
-                if row < 8 {
-                    return Got::Number(row, next);
-                }
-                at = next;
-            }
+        let (row, next) = read_mcbpc(data, at)?;
+        if row < 8 {
+            return Ok((row, next));
         }
+        at = next;
     }
 }
 
 // ac_pred_flag: the next bit.
-fn read_flag(data: &[u8], c: Cursor) -> Got
+fn read_flag(data: &[u8], c: Cursor) -> Result<(u32, Cursor), TextureParseError>
     ensures { result ≡ field_answer «data».now c.bit_pos 1 }
 {
     if !fields::readable(data, c) {
-        return Got::Refused(TextureParseError::OutOfRange);
+        return Err(TextureParseError::OutOfRange);
     }
     let at = c.bit_pos;
     if 8 * data.len() <= at {
-        return Got::Refused(TextureParseError::Truncated);
+        return Err(TextureParseError::Truncated);
     }
     let flag = bits::ahead(data, at) / 2147483648 % 2;
-    Got::Number(flag, Cursor { bit_pos: at + 1 })
+    Ok((flag, Cursor { bit_pos: at + 1 }))
 }
 
 // Table 6-32: what two bits of dquant change the quantiser by.
@@ -129,78 +109,54 @@ pub(crate) fn dquant_value(code: u32) -> i32
     requires { code < 4 }
     ensures { result ≡ delta_by code }
 {
-    if code == 0 {
-        return -1;
+    match code {
+        0 => -1,
+        1 => -2,
+        2 => 1,
+        _ => 2,
     }
-    if code == 1 {
-        return -2;
-    }
-    if code == 2 {
-        return 1;
-    }
-    2
 }
 
 // dquant, where the row of mcbpc has one.
-fn read_dquant(data: &[u8], c: Cursor, mcbpc: u32, ac_pred_flag: u32, cbpy: u32) -> PartsRead
+fn read_dquant(
+    data: &[u8],
+    c: Cursor,
+    mcbpc: u32,
+    ac_pred_flag: u32,
+    cbpy: u32,
+) -> Result<(HeaderParts, Cursor), TextureParseError>
     requires { Readable «data».now c × (mcbpc < 8) }
     ensures { SaysParts «data».now result (mapped (parts_by mcbpc ac_pred_flag cbpy) (read_opt (changes_at mcbpc) (field 2) (bits_from «data».now c.bit_pos))) }
 {
+    let mut parts = HeaderParts {
+        mcbpc,
+        ac_pred_flag,
+        cbpy,
+        dquant_delta: 0,
+    };
     if mcbpc < 4 {
-        return PartsRead::Parts(
-            HeaderParts {
-                mcbpc,
-                ac_pred_flag,
-                cbpy,
-                dquant_delta: 0,
-            },
-            c,
-        );
+        return Ok((parts, c));
     }
-    let g = fields::read_field(data, c, 2);
-    match g {
-        Got::Refused(e) => PartsRead::Refused(e),
-        Got::Number(code, next) => {
-            let dquant_delta = dquant_value(code);
-            PartsRead::Parts(
-                HeaderParts {
-                    mcbpc,
-                    ac_pred_flag,
-                    cbpy,
-                    dquant_delta,
-                },
-                next,
-            )
-        }
-    }
+    let (code, next) = fields::read_field(data, c, 2)?;
+    parts.dquant_delta = dquant_value(code);
+    Ok((parts, next))
 }
 
 // What follows mcbpc.
-fn read_rest(data: &[u8], c: Cursor, mcbpc: u32) -> PartsRead
+fn read_rest(data: &[u8], c: Cursor, mcbpc: u32) -> Result<(HeaderParts, Cursor), TextureParseError>
     requires { Readable «data».now c × (mcbpc < 8) }
     ensures { SaysParts «data».now result (mapped (with_rest mcbpc) (read_rest (changes_at mcbpc) (bits_from «data».now c.bit_pos))) }
 {
-    let g = read_flag(data, c);
-    match g {
-        Got::Refused(e) => PartsRead::Refused(e),
-        Got::Number(ac_pred_flag, next) => {
-            let h = read_cbpy(data, next);
-            match h {
-                Got::Refused(e) => PartsRead::Refused(e),
-                Got::Number(cbpy, after) => read_dquant(data, after, mcbpc, ac_pred_flag, cbpy),
-            }
-        }
-    }
+    let (ac_pred_flag, next) = read_flag(data, c)?;
+    let (cbpy, after) = read_cbpy(data, next)?;
+    read_dquant(data, after, mcbpc, ac_pred_flag, cbpy)
 }
 
 // The whole header, one part after the other.
-pub(crate) fn read_parts(data: &[u8], c: Cursor) -> PartsRead
+pub(crate) fn read_parts(data: &[u8], c: Cursor) -> Result<(HeaderParts, Cursor), TextureParseError>
     requires { Readable «data».now c }
     ensures { SaysParts «data».now result (mapped parts_of (read_header (bits_from «data».now c.bit_pos))) }
 {
-    let g = read_type(data, c);
-    match g {
-        Got::Refused(e) => PartsRead::Refused(e),
-        Got::Number(mcbpc, next) => read_rest(data, next, mcbpc),
-    }
+    let (mcbpc, next) = read_type(data, c)?;
+    read_rest(data, next, mcbpc)
 }

@@ -9,10 +9,7 @@ fn length_in(mcbpc: u32, cbpy: u32) -> u32
     ensures { result ≡ length_in mcbpc cbpy }
 {
     let len = mcbpc % 16 + 1 + cbpy % 16;
-    if mcbpc < 64 {
-        return len;
-    }
-    len + 2
+    if mcbpc < 64 { len } else { len + 2 }
 }
 
 // The parts of such a header that begins a window.
@@ -21,15 +18,11 @@ fn parts_in(window: u32, mcbpc: u32, cbpy: u32) -> HeaderParts
     ensures { result ≡ parts_in window mcbpc cbpy }
 {
     let ac_pred_flag = (window >> (31 - mcbpc % 16)) % 2;
-    if mcbpc < 64 {
-        return HeaderParts {
-            mcbpc: mcbpc / 16,
-            ac_pred_flag,
-            cbpy: cbpy / 16,
-            dquant_delta: 0,
-        };
-    }
-    let dquant_delta = crate::parts::dquant_value((window >> (29 - mcbpc % 16 - cbpy % 16)) % 4);
+    let dquant_delta = if mcbpc < 64 {
+        0
+    } else {
+        crate::parts::dquant_value((window >> (29 - mcbpc % 16 - cbpy % 16)) % 4)
+    };
     HeaderParts {
         mcbpc: mcbpc / 16,
         ac_pred_flag,

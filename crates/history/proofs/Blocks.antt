@@ -2,7 +2,7 @@
 use mathlib.Core.Bool.{Bool, true}
 use mathlib.Core.List.{List, []}
 use mathlib.Core.Logic.{⊎_elim}
-use mathlib.Core.Option.{Option, none, some}
+use Rattle.std.specs.Prelude.{Option, None, Some}
 use mathlib.Core.Path.{◌≡◌, ap, refl, subst, sym, ◌∙◌}
 use Prim.Native.Nat.{ℕ, min, suc, zero, ◌+◌, ◌<◌, ◌≤◌}
 use native.Mathlib.Nat.{not-suc-le-zero}
@@ -43,20 +43,20 @@ pub record Gives (r : List ℤ) (m : Remembered) : Type 0 where
 
 -- both missing, or neither
 abbrev pub Match : Option (List ℤ) → Option Remembered → Type 0
-Match none none = Unit {0}
-Match none (some m) = ⊥
-Match (some r) none = ⊥
-Match (some r) (some m) = Gives r m
+Match None None = Unit {0}
+Match None (Some m) = ⊥
+Match (Some r) None = ⊥
+Match (Some r) (Some m) = Gives r m
 
 pub record Agrees (ar : Around) (n : Neighbourhood) : Type 0 where
   pub left : Match ar.left n.left
   pub above_left : Match ar.above_left n.above_left
   pub above : Match ar.above n.above
 
-match_sound : (o : Option (List ℤ)) (n : Option Remembered) → Match o n → (r : List ℤ) → o ≡ some r → Sound r
-match_sound none n k r e = absurd (let z : ◌≡◌ {A = ℕ} 0 1 = cc in omega arith)
-match_sound (some t) none k r e = absurd k
-match_sound (some t) (some m) k r e = let z : t ≡ r = cc in subst Sound z k.sound
+match_sound : (o : Option (List ℤ)) (n : Option Remembered) → Match o n → (r : List ℤ) → o ≡ Some r → Sound r
+match_sound None n k r e = absurd (let z : ◌≡◌ {A = ℕ} 0 1 = cc in omega arith)
+match_sound (Some t) None k r e = absurd k
+match_sound (Some t) (Some m) k r e = let z : t ≡ r = cc in subst Sound z k.sound
 
 pub agrees_sound : {ar : Around} {n : Neighbourhood} → Agrees ar n → AroundSound ar
 agrees_sound {ar} {n} g =
@@ -69,10 +69,10 @@ agrees_sound {ar} {n} g =
 -- ---- one side
 
 match_side : (depth q : ℕ) → depth ≤ 12 → (o : Option (List ℤ)) (n : Option Remembered) → Match o n → (b : ℕ) → b < 6 → sided depth q o b ≡ side_at depth q n b
-match_side depth q l none none k b h = let e : min depth 12 ≡ depth = omega arith in ap (λ (d : ℕ). side_missing d q) e
-match_side depth q l none (some m) k b h = absurd k
-match_side depth q l (some r) none k b h = absurd k
-match_side depth q l (some r) (some m) k b h = k.sides b h
+match_side depth q l None None k b h = let e : min depth 12 ≡ depth = omega arith in ap (λ (d : ℕ). side_missing d q) e
+match_side depth q l None (Some m) k b h = absurd k
+match_side depth q l (Some r) None k b h = absurd k
+match_side depth q l (Some r) (Some m) k b h = k.sides b h
 
 -- a block of the macroblock's own comes before the block that takes it
 abbrev own_before : ℕ → Source → ℕ → Bool

@@ -17,8 +17,6 @@ use Rattle.assembly.proofs.ContextLaws.{quantiser-fine}
 use Rattle.assembly.specs.Values.{context_fine}
 use Rattle.assembly.specs.declared.context.MacroblockTextureContext.{MacroblockTextureContext}
 use Rattle.assembly.specs.declared.error.BlockAssemblyError.TheVariants.{Complete, Context, OutOfRange, Predictor, TooShort}
-use Rattle.assembly.specs.declared.error.Checked.{Checked}
-use Rattle.assembly.specs.declared.error.Checked.TheVariants.{Bad, Fine}
 use Rattle.macroblock.specs.Answer.{kept_by}
 use Rattle.headers.specs.Fields.{fields_of, header_check, record_by}
 use Rattle.headers.specs.Header.{Header, header_bits}
@@ -37,8 +35,9 @@ use Rattle.picture.specs.Whole.{Bare, state_bare}
 use Rattle.picture_state.specs.Picture.{context_of, onward, picture_of, size_fine}
 use Rattle.picture_state.specs.Ring.{around_due, offset}
 use Rattle.picture_state.specs.State.{state_before, state_by}
+use Rattle.std.specs.Prelude.{Err, Ok, Result, ⊤}
+use Rattle.assembly.specs.declared.error.BlockAssemblyError.{BlockAssemblyError}
 use Rattle.picture.specs.declared.call.PictureDecoded.{PictureDecoded}
-use Rattle.picture.specs.declared.call.PictureDecoded.TheVariants.{Decoded, Refused}
 use Rattle.picture.specs.declared.whole.PictureWholeDecoded.{PictureWholeDecoded}
 use Rattle.picture_state.specs.declared.picture.Picture.{Picture}
 use Rattle.history.proofs.Blocks.{Agrees, Gives, agrees_sound, record_gives, values_same}
@@ -86,9 +85,9 @@ module _ (i : Ideal) (s : List ℤ) (size : size_fine i.width i.height ≡ true)
       let f = quantiser-fine context x.matrix c in
       around_fine i.depth q ar (blank q) f (agrees_sound (agrees (leb-true (192 * i.width) (length s) l))) (blank-sound q f)
 
-  abbrev full : Bool → Bool → Bool → Bool → Bool → Bool → Bool → Checked
+  abbrev full : Bool → Bool → Bool → Bool → Bool → Bool → Bool → Result ⊤ BlockAssemblyError
   full a b c e f g t =
-      cond a (cond b (cond c (cond e (cond f (cond g (cond t (header_check x.header) (Bad Predictor)) (Bad Complete)) (Bad TooShort)) (Bad TooShort)) (Bad Context)) (Bad OutOfRange)) (Bad OutOfRange)
+      cond a (cond b (cond c (cond e (cond f (cond g (cond t (header_check x.header) (Err Predictor)) (Err Complete)) (Err TooShort)) (Err TooShort)) (Err Context)) (Err OutOfRange)) (Err OutOfRange)
 
   passes : (b c e f g t : Bool) → (c ≡ true → f ≡ true → t ≡ true) → full true b c e f g t ≡ full true b c e f g true
   passes b true e true g t k = ap (full true b true e true g) (k refl refl)
@@ -111,7 +110,7 @@ module _ (i : Ideal) (s : List ℤ) (size : size_fine i.width i.height ≡ true)
     fine : context_fine context x.matrix ≡ true
     agree : Agrees ar (around_in i)
 
-  passed : ideal_state (length s) i x ≡ Fine → Passed
+  passed : ideal_state (length s) i x ≡ Ok tt → Passed
   unfolding ideal_state
   passed e =
       let t = all_pass (ideal_tests (length s) i x) e in
@@ -119,13 +118,13 @@ module _ (i : Ideal) (s : List ℤ) (size : size_fine i.width i.height ≡ true)
 
   -- ---- what it is told
 
-  abbrev samples_by : Checked → Res (List Parts) → List ℤ
+  abbrev samples_by : Result ⊤ BlockAssemblyError → Res (List Parts) → List ℤ
   samples_by st y = kept_by st (samples_told x.header x.context.use_intra_dc_vlc context x.matrix ar y x.samples) x.samples
 
-  samples_by_lem : (st : Checked) (y : Res (List Parts)) → ideal_state (length s) i x ≡ st → samples_by st y ≡ kept_by st (samples_ideal (length s) i x y) x.samples
-  samples_by_lem (Bad e) y f = refl
-  samples_by_lem Fine (no e) f = refl
-  samples_by_lem Fine (ok t r) f =
+  samples_by_lem : (st : Result ⊤ BlockAssemblyError) (y : Res (List Parts)) → ideal_state (length s) i x ≡ st → samples_by st y ≡ kept_by st (samples_ideal (length s) i x y) x.samples
+  samples_by_lem (Err e) y f = refl
+  samples_by_lem (Ok tt) (no e) f = refl
+  samples_by_lem (Ok tt) (ok t r) f =
       let g = passed f in
       ap (λ (v : List (List (List ℤ))). samples_after (samples_of_six context v) x.samples) (values_same context x.matrix ar (around_in i) (rows_here (length s) i x t) g.fine g.agree)
 
@@ -135,7 +134,7 @@ module _ (i : Ideal) (s : List ℤ) (size : size_fine i.width i.height ≡ true)
 
   pub samples-is : samples_out p x s ≡ kept_by (ideal_state (length s) i x) (samples_ideal (length s) i x (sentence_here p x)) x.samples
   unfolding samples_out
-  samples-is = ap (λ (st : Checked). samples_with p x st ar) state-is ∙ samples_by_lem (ideal_state (length s) i x) (sentence_here p x) refl
+  samples-is = ap (λ (st : Result ⊤ BlockAssemblyError). samples_with p x st ar) state-is ∙ samples_by_lem (ideal_state (length s) i x) (sentence_here p x) refl
 
   pub told_is : told (record { picture = p; store = s }) (handed x) ≡ ideal (length s) i x
   unfolding ideal
@@ -166,26 +165,26 @@ module _ (i : Ideal) (s : List ℤ) (size : size_fine i.width i.height ≡ true)
   pub stays : Stands (length s) (record { picture = p; store = s }) i
   stays = record { picture = refl; size = size; long = refl; kept = kept }
 
-  abbrev store_by : Checked → Res (List Parts) → List ℤ
+  abbrev store_by : Result ⊤ BlockAssemblyError → Res (List Parts) → List ℤ
   store_by st y = kept_by st (store_told p x.header x.context.use_intra_dc_vlc context x.matrix ar y s) s
 
-  by_state : (st : Checked) (y : Res (List Parts)) → ideal_state (length s) i x ≡ st
+  by_state : (st : Result ⊤ BlockAssemblyError) (y : Res (List Parts)) → ideal_state (length s) i x ≡ st
       → Stands (length s) (record { picture = picture_after p (answer_by st (answer_told p x.bytes x.start y)); store = store_by st y }) (with_list (added_to (length s) i x st y))
-  by_state (Bad e) y f = stays
-  by_state Fine (no e) f = stays
-  by_state Fine (ok t r) f =
+  by_state (Err e) y f = stays
+  by_state (Ok tt) (no e) f = stays
+  by_state (Ok tt) (ok t r) f =
       let g = passed f in
       added t (remembered context x.matrix (around_in i) (rows_here (length s) i x t)) (record_gives context x.matrix ar (around_in i) (rows_here (length s) i x t) g.fine g.agree)
 
   store_is : store_out p x s ≡ store_with p x (ideal_state (length s) i x) ar s
   unfolding store_out
-  store_is = ap (λ (st : Checked). store_with p x st ar s) state-is
+  store_is = ap (λ (st : Result ⊤ BlockAssemblyError). store_with p x st ar s) state-is
 
   pub stands_on : Stands (length s) (next (record { picture = p; store = s }) (handed x)) (onward_from (length s) i x)
   unfolding onward_from
   stands_on =
       let j = onward_from (length s) i x in
-      subst (λ (a : PictureDecoded). Stands (length s) (record { picture = picture_after p a; store = store_out p x s }) j) (sym answer-is)
+      subst (λ (a : Result PictureDecoded BlockAssemblyError). Stands (length s) (record { picture = picture_after p a; store = store_out p x s }) j) (sym answer-is)
       (subst (λ (t : List ℤ). Stands (length s) (record { picture = picture_after p (answer_with p x (ideal_state (length s) i x)); store = t }) j) (sym store_is)
       (by_state (ideal_state (length s) i x) (sentence_here p x) refl))
 
@@ -202,9 +201,9 @@ module _ (i : Ideal) (s : List ℤ) (size : size_fine i.width i.height ≡ true)
   abbrev some : Input
   some = given x.bytes x.start (record_by 0 0 0) x.context x.matrix x.samples
 
-  abbrev full_bare : Bool → Bool → Bool → Bool → Bool → Bool → Bool → Checked
+  abbrev full_bare : Bool → Bool → Bool → Bool → Bool → Bool → Bool → Result ⊤ BlockAssemblyError
   full_bare a b c e f g t =
-      cond a (cond b (cond c (cond e (cond f (cond g (cond t Fine (Bad Predictor)) (Bad Complete)) (Bad TooShort)) (Bad TooShort)) (Bad Context)) (Bad OutOfRange)) (Bad OutOfRange)
+      cond a (cond b (cond c (cond e (cond f (cond g (cond t (Ok tt) (Err Predictor)) (Err Complete)) (Err TooShort)) (Err TooShort)) (Err Context)) (Err OutOfRange)) (Err OutOfRange)
 
   passes_bare : (b c e f g t : Bool) → (c ≡ true → f ≡ true → t ≡ true) → full_bare true b c e f g t ≡ full_bare true b c e f g true
   passes_bare b true e true g t k = ap (full_bare true b true e true g) (k refl refl)
@@ -223,30 +222,30 @@ module _ (i : Ideal) (s : List ℤ) (size : size_fine i.width i.height ≡ true)
       ap (λ (a : Bool). full_bare a b c e f g t) size ∙ passes_bare b c e f g t (neighbours i s size kept some)
 
   -- by the state and the header
-  module _ (st : Checked) (f : bare_state (length s) i x ≡ st) where
+  module _ (st : Result ⊤ BlockAssemblyError) (f : bare_state (length s) i x ≡ st) where
     state_then : state_bare now x s ≡ st
     state_then = bare-is ∙ f
 
     answer_by_lem : W.answer_out now x s ≡ W.whole_by now x st (W.whole_told now x (W.whole_here now x))
     unfolding W.answer_out
-    answer_by_lem = ap (λ (k : Checked). W.whole_by now x k (W.whole_told now x (W.whole_here now x))) state_then
+    answer_by_lem = ap (λ (k : Result ⊤ BlockAssemblyError). W.whole_by now x k (W.whole_told now x (W.whole_here now x))) state_then
 
     samples_then_lem : W.samples_out now x s ≡ kept_by st (W.samples_whole now x s (W.whole_here now x)) x.samples
     unfolding W.samples_out
-    samples_then_lem = ap (λ (k : Checked). kept_by k (W.samples_whole now x s (W.whole_here now x)) x.samples) state_then
+    samples_then_lem = ap (λ (k : Result ⊤ BlockAssemblyError). kept_by k (W.samples_whole now x s (W.whole_here now x)) x.samples) state_then
 
     store_then : W.store_out now x s ≡ kept_by st (W.store_whole now x s (W.whole_here now x)) s
     unfolding W.store_out
-    store_then = ap (λ (k : Checked). kept_by k (W.store_whole now x s (W.whole_here now x)) s) state_then
+    store_then = ap (λ (k : Result ⊤ BlockAssemblyError). kept_by k (W.store_whole now x s (W.whole_here now x)) s) state_then
 
-  told_by_lem : (st : Checked) (y : Res Header) → bare_state (length s) i x ≡ st → header_here (length s) i x ≡ y
+  told_by_lem : (st : Result ⊤ BlockAssemblyError) (y : Res Header) → bare_state (length s) i x ≡ st → header_here (length s) i x ≡ y
       → whole_decoded (W.answer_out now x s) (W.samples_out now x s) ≡ told_bare (length s) i x st y
-  told_by_lem (Bad e) y f g = ap₂ whole_decoded (answer_by_lem (Bad e) f) (samples_then_lem (Bad e) f)
-  told_by_lem Fine (no e) f g =
+  told_by_lem (Err e) y f g = ap₂ whole_decoded (answer_by_lem (Err e) f) (samples_then_lem (Err e) f)
+  told_by_lem (Ok tt) (no e) f g =
       let z = whole-not now x g in
-      ap₂ whole_decoded (answer_by_lem Fine f ∙ ap (W.whole_told now x) z) (samples_then_lem Fine f ∙ ap (W.samples_whole now x s) z)
-  told_by_lem Fine (ok h r) f g =
-      let w = with_header_is now x s (state_then Fine f) h r g in
+      ap₂ whole_decoded (answer_by_lem (Ok tt) f ∙ ap (W.whole_told now x) z) (samples_then_lem (Ok tt) f ∙ ap (W.samples_whole now x s) z)
+  told_by_lem (Ok tt) (ok h r) f g =
+      let w = with_header_is now x s (state_then (Ok tt) f) h r g in
       ap₂ whole_decoded (w.answer ∙ ap (W.with_header (length (header_bits h)) (fields_of scale h)) (answer-is i s size kept (W.behind x h))) (w.samples ∙ samples-is i s size kept (W.behind x h))
 
   pub told-bare : told (record { picture = now; store = s }) (in_bits x) ≡ told_bare (length s) i x (bare_state (length s) i x) (header_here (length s) i x)
@@ -254,21 +253,21 @@ module _ (i : Ideal) (s : List ℤ) (size : size_fine i.width i.height ≡ true)
 
   -- what it leaves
 
-  same-picture : (n : ℕ) (fs : HeaderFields) (a : PictureDecoded) → picture_after_whole now (W.with_header n fs a) ≡ picture_after now a
-  same-picture n fs (Decoded m c k q) = refl
-  same-picture n fs (Refused e) = refl
+  same-picture : (n : ℕ) (fs : HeaderFields) (a : Result PictureDecoded BlockAssemblyError) → picture_after_whole now (W.with_header n fs a) ≡ picture_after now a
+  same-picture n fs (Ok d) = refl
+  same-picture n fs (Err e) = refl
 
-  abbrev left : PictureWholeDecoded → List ℤ → State
+  abbrev left : Result PictureWholeDecoded BlockAssemblyError → List ℤ → State
   left a t = record { picture = picture_after_whole now a; store = t }
 
-  by_header : (st : Checked) (y : Res Header) → bare_state (length s) i x ≡ st → header_here (length s) i x ≡ y
+  by_header : (st : Result ⊤ BlockAssemblyError) (y : Res Header) → bare_state (length s) i x ≡ st → header_here (length s) i x ≡ y
       → Stands (length s) (left (W.answer_out now x s) (W.store_out now x s)) (onward_bare (length s) i x st y)
-  by_header (Bad e) y f g = subst₂ (λ (a : PictureWholeDecoded) (t : List ℤ). Stands (length s) (left a t) i) (sym (answer_by_lem (Bad e) f)) (sym (store_then (Bad e) f)) (stays i s size kept some)
-  by_header Fine (no e) f g =
+  by_header (Err e) y f g = subst₂ (λ (a : Result PictureWholeDecoded BlockAssemblyError) (t : List ℤ). Stands (length s) (left a t) i) (sym (answer_by_lem (Err e) f)) (sym (store_then (Err e) f)) (stays i s size kept some)
+  by_header (Ok tt) (no e) f g =
       let z = whole-not now x g in
-      subst₂ (λ (a : PictureWholeDecoded) (t : List ℤ). Stands (length s) (left a t) i) (sym (answer_by_lem Fine f ∙ ap (W.whole_told now x) z)) (sym (store_then Fine f ∙ ap (W.store_whole now x s) z)) (stays i s size kept some)
-  by_header Fine (ok h r) f g =
-      let w = with_header_is now x s (state_then Fine f) h r g in
+      subst₂ (λ (a : Result PictureWholeDecoded BlockAssemblyError) (t : List ℤ). Stands (length s) (left a t) i) (sym (answer_by_lem (Ok tt) f ∙ ap (W.whole_told now x) z)) (sym (store_then (Ok tt) f ∙ ap (W.store_whole now x s) z)) (stays i s size kept some)
+  by_header (Ok tt) (ok h r) f g =
+      let w = with_header_is now x s (state_then (Ok tt) f) h r g in
       let n = length (header_bits h) in
       subst₂ (λ (a : Picture) (t : List ℤ). Stands (length s) (record { picture = a; store = t }) (onward_from (length s) i (W.behind x h)))
       (sym (ap (picture_after_whole now) w.answer ∙ same-picture n (fields_of scale h) (answer_out now (W.behind x h) s))) (sym w.kept)

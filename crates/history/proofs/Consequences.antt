@@ -2,7 +2,6 @@
 use mathlib.Core.Bool.{Bool, cond, false, true}
 use mathlib.Core.List.{List, [], ◌++◌, ◌∷◌}
 use mathlib.Core.Logic.{◌⊎◌, ⊎_elim}
-use mathlib.Core.Option.{none}
 use mathlib.Core.Path.{◌≡◌, ap, ap₂, refl, subst⁻¹, sym, ◌∙◌}
 use Prim.Native.Nat.{ℕ, ◌*◌, ◌+◌, ◌<◌, ◌≤◌}
 use native.Mathlib.Nat.{mod-eq_of_lt}
@@ -23,30 +22,24 @@ use Rattle.assembly.specs.Values.{context_fine, levels_of, values_of}
 use Rattle.assembly.specs.declared.context.MacroblockTextureContext.{MacroblockTextureContext}
 use Rattle.assembly.specs.declared.error.BlockAssemblyError.{BlockAssemblyError}
 use Rattle.assembly.specs.declared.error.BlockAssemblyError.TheVariants.{Complete, Context, OutOfRange, TooShort}
-use Rattle.assembly.specs.declared.error.Checked.{Checked}
-use Rattle.assembly.specs.declared.error.Checked.TheVariants.{Bad, Fine}
 use Rattle.macroblock.specs.Answer.{kept_by, told as told_alone}
 use Rattle.headers.specs.Fields.{header_check}
 use Rattle.headers.specs.Header.{Header}
 use Rattle.macroblock.specs.Six.{block_at, values_of_six}
-use Rattle.macroblock.specs.declared.decode.MacroblockDecoded.{MacroblockDecoded}
-use Rattle.macroblock.specs.declared.decode.MacroblockDecoded.TheVariants.{Decoded as AloneDecoded, Refused as AloneRefused}
 use Rattle.neighbours.specs.Neighbours.{Around, found, predictors}
 use Rattle.record.specs.Record.{record_at}
 use Rattle.picture.specs.Call.{Input, answer_by, answer_out, answer_told, answer_with, around_here, context_here, samples_out, samples_told, sentence_here, state_here, store_out, store_told}
 use Rattle.macroblock.specs.Whole.{Whole}
 use Rattle.picture.specs.Whole as W
 use Rattle.picture.specs.Whole.{Bare}
-use Rattle.picture.specs.declared.whole.PictureWholeDecoded.{PictureWholeDecoded}
-use Rattle.picture.specs.declared.whole.PictureWholeDecoded.TheVariants.{Decoded as WholeDecoded, Refused as WholeRefused}
 use Rattle.picture_state.specs.Picture.{onward, open_of, picture_of}
 use Rattle.picture_state.specs.Ring.{around_due, offset}
 use Rattle.picture.specs.Serial.{record_up_to, values_in_turn}
-use Rattle.picture.specs.declared.call.PictureDecoded.{PictureDecoded}
-use Rattle.picture.specs.declared.call.PictureDecoded.TheVariants.{Decoded, Refused}
 use Rattle.picture_state.specs.declared.picture.Picture.{Picture}
-use Rattle.picture_state.specs.declared.picture.PictureOpened.{PictureOpened}
-use Rattle.picture_state.specs.declared.picture.PictureOpened.TheVariants.{Opened, Refused as Unopened}
+use Rattle.std.specs.Prelude.{Err, Ok, Result, ⊤, None}
+use Rattle.macroblock.specs.declared.decode.MacroblockDecoded.{MacroblockDecoded}
+use Rattle.picture.specs.declared.whole.PictureWholeDecoded.{PictureWholeDecoded}
+use Rattle.picture.specs.declared.call.PictureDecoded.{PictureDecoded}
 use Rattle.history.proofs.Longer.{longer}
 use Rattle.history.proofs.Runs.{history}
 use Rattle.history.specs.History.{State, next, picture_after, picture_after_whole, picture_opened, told}
@@ -56,18 +49,18 @@ use Rattle.history.specs.Step.{Step, Told, after_all, decoded, handed, in_bits, 
 
 -- ---- a refused step leaves no trace
 
-module _ (p : Picture) (x : Input) (s : List ℤ) {e : BlockAssemblyError} (q : answer_out p x s ≡ Refused e) where
+module _ (p : Picture) (x : Input) (s : List ℤ) {e : BlockAssemblyError} (q : answer_out p x s ≡ Err e) where
   abbrev samples_read : Res (List Parts) → List ℤ
   samples_read y = samples_told x.header x.context.use_intra_dc_vlc (context_here p x) x.matrix (around_here p x s) y x.samples
 
   abbrev store_read : Res (List Parts) → List ℤ
   store_read y = store_told p x.header x.context.use_intra_dc_vlc (context_here p x) x.matrix (around_here p x s) y s
 
-  untouched : (st : Checked) (y : Res (List Parts)) → answer_by st (answer_told p x.bytes x.start y) ≡ Refused e
+  untouched : (st : Result ⊤ BlockAssemblyError) (y : Res (List Parts)) → answer_by st (answer_told p x.bytes x.start y) ≡ Err e
       → (kept_by st (samples_read y) x.samples ≡ x.samples) × (kept_by st (store_read y) s ≡ s)
-  untouched (Bad n) y k = (refl, refl)
-  untouched Fine (no n) k = (refl, refl)
-  untouched Fine (ok t r) k = absurd (let z : ◌≡◌ {A = ℕ} 0 1 = cc in omega arith)
+  untouched (Err n) y k = (refl, refl)
+  untouched (Ok tt) (no n) k = (refl, refl)
+  untouched (Ok tt) (ok t r) k = absurd (let z : ◌≡◌ {A = ℕ} 0 1 = cc in omega arith)
 
   pub samples-kept : samples_out p x s ≡ x.samples
   unfolding answer_out samples_out
@@ -78,12 +71,12 @@ module _ (p : Picture) (x : Input) (s : List ℤ) {e : BlockAssemblyError} (q : 
   store_kept = (untouched (state_here p x s) (sentence_here p x) q).1
 
 -- the same of a call whose header is in its bits
-module _ (p : Picture) (x : Bare) (s : List ℤ) {e : BlockAssemblyError} (q : W.answer_out p x s ≡ WholeRefused e) where
-  untouched_whole : (st : Checked) (y : Res Whole) → W.whole_by p x st (W.whole_told p x y) ≡ WholeRefused e
+module _ (p : Picture) (x : Bare) (s : List ℤ) {e : BlockAssemblyError} (q : W.answer_out p x s ≡ Err e) where
+  untouched_whole : (st : Result ⊤ BlockAssemblyError) (y : Res Whole) → W.whole_by p x st (W.whole_told p x y) ≡ Err e
       → (kept_by st (W.samples_whole p x s y) x.samples ≡ x.samples) × (kept_by st (W.store_whole p x s y) s ≡ s)
-  untouched_whole (Bad n) y k = (refl, refl)
-  untouched_whole Fine (no n) k = (refl, refl)
-  untouched_whole Fine (ok t r) k = absurd (let z : ◌≡◌ {A = ℕ} 0 1 = cc in omega arith)
+  untouched_whole (Err n) y k = (refl, refl)
+  untouched_whole (Ok tt) (no n) k = (refl, refl)
+  untouched_whole (Ok tt) (ok t r) k = absurd (let z : ◌≡◌ {A = ℕ} 0 1 = cc in omega arith)
 
   pub whole-samples-kept : W.samples_out p x s ≡ x.samples
   unfolding W.answer_out W.samples_out
@@ -95,25 +88,25 @@ module _ (p : Picture) (x : Bare) (s : List ℤ) {e : BlockAssemblyError} (q : W
 
 -- told a number
 abbrev pub Refusal : Told → Type 0
-Refusal (opened (Opened p)) = ⊥
-Refusal (opened (Unopened e)) = Unit {0}
-Refusal (decoded (Decoded n c k p) samples) = ⊥
-Refusal (decoded (Refused e) samples) = Unit {0}
-Refusal (whole_decoded (WholeDecoded n c k p f) samples) = ⊥
-Refusal (whole_decoded (WholeRefused e) samples) = Unit {0}
+Refusal (opened (Ok p)) = ⊥
+Refusal (opened (Err e)) = Unit {0}
+Refusal (decoded (Ok d) samples) = ⊥
+Refusal (decoded (Err e) samples) = Unit {0}
+Refusal (whole_decoded (Ok d) samples) = ⊥
+Refusal (whole_decoded (Err e) samples) = Unit {0}
 
 module _ (s : State) where
-  same-opened : (o : PictureOpened) → Refusal (opened o) → picture_opened s.picture o ≡ s.picture
-  same-opened (Opened p) k = absurd k
-  same-opened (Unopened e) k = refl
+  same-opened : (o : Result Picture BlockAssemblyError) → Refusal (opened o) → picture_opened s.picture o ≡ s.picture
+  same-opened (Ok p) k = absurd k
+  same-opened (Err e) k = refl
 
-  same-decoded : (x : Input) (a : PictureDecoded) (t : List ℤ) → answer_out s.picture x s.store ≡ a → Refusal (decoded a t) → next s (handed x) ≡ s
-  same-decoded x (Decoded n c m p) t e k = absurd k
-  same-decoded x (Refused n) t e k = λ i. record { picture = picture_after s.picture (e i); store = store_kept s.picture x s.store e i }
+  same-decoded : (x : Input) (a : Result PictureDecoded BlockAssemblyError) (t : List ℤ) → answer_out s.picture x s.store ≡ a → Refusal (decoded a t) → next s (handed x) ≡ s
+  same-decoded x (Ok d) t e k = absurd k
+  same-decoded x (Err n) t e k = λ i. record { picture = picture_after s.picture (e i); store = store_kept s.picture x s.store e i }
 
-  same_whole : (x : Bare) (a : PictureWholeDecoded) (t : List ℤ) → W.answer_out s.picture x s.store ≡ a → Refusal (whole_decoded a t) → next s (in_bits x) ≡ s
-  same_whole x (WholeDecoded n c m p f) t e k = absurd k
-  same_whole x (WholeRefused n) t e k = λ i. record { picture = picture_after_whole s.picture (e i); store = whole-store-kept s.picture x s.store e i }
+  same_whole : (x : Bare) (a : Result PictureWholeDecoded BlockAssemblyError) (t : List ℤ) → W.answer_out s.picture x s.store ≡ a → Refusal (whole_decoded a t) → next s (in_bits x) ≡ s
+  same_whole x (Ok d) t e k = absurd k
+  same_whole x (Err n) t e k = λ i. record { picture = picture_after_whole s.picture (e i); store = whole-store-kept s.picture x s.store e i }
 
   pub state-kept : (x : Step) → Refusal (told s x) → next s x ≡ s
   state-kept (opening w h depth method) k = λ i. record { picture = same-opened (open_of w h depth method) k i; store = s.store }
@@ -155,20 +148,20 @@ module _ (ys : List Step) (x : Step) (xs : List Step) (s : State) where
 
 module _ (room : ℕ) (i : Ideal) (x : Input) (full : i.width * i.height ≤ length i.accepted)
     (a : in_data (length x.bytes) x.start ≡ true) (b : context_fine (context_here (picture_now i) x) x.matrix ≡ true) (c : 384 ≤ length x.samples) (d : 192 * i.width ≤ room) where
-  complete-state : ideal_state room i x ≡ Bad Complete
+  complete-state : ideal_state room i x ≡ Err Complete
   unfolding ideal_state
   complete-state =
       ap₂ (λ (s t : Bool). tests s t (leb 384 (length x.samples)) (leb (192 * i.width) room) (ltb (length i.accepted) (i.width * i.height))) a b
       ∙ ap₂ (λ (s t : Bool). tests true true s t (ltb (length i.accepted) (i.width * i.height))) (le-leb 384 (length x.samples) c) (le-leb (192 * i.width) room d)
       ∙ ap (tests true true true true) (le-ltb (length i.accepted) (i.width * i.height) full)
     where
-      tests : Bool → Bool → Bool → Bool → Bool → Checked
-      tests s t u r v = cond s (cond t (cond u (cond r (cond v (header_check x.header) (Bad Complete)) (Bad TooShort)) (Bad TooShort)) (Bad Context)) (Bad OutOfRange)
+      tests : Bool → Bool → Bool → Bool → Bool → Result ⊤ BlockAssemblyError
+      tests s t u r v = cond s (cond t (cond u (cond r (cond v (header_check x.header) (Err Complete)) (Err TooShort)) (Err TooShort)) (Err Context)) (Err OutOfRange)
 
-  pub complete : ideal room i x ≡ decoded (Refused Complete) x.samples
+  pub complete : ideal room i x ≡ decoded (Err Complete) x.samples
   unfolding ideal
   complete =
-      ap (λ (st : Checked). decoded (answer_with (picture_now i) x st) (kept_by st (samples_ideal room i x (sentence_here (picture_now i) x)) x.samples)) complete-state
+      ap (λ (st : Result ⊤ BlockAssemblyError). decoded (answer_with (picture_now i) x st) (kept_by st (samples_ideal room i x (sentence_here (picture_now i) x)) x.samples)) complete-state
 
 -- ---- never more
 
@@ -180,25 +173,25 @@ module _ (room : ℕ) where
   unfolding onward_from ideal_state
   at_most_call i x l = go (ideal_state room i x) (sentence_here (picture_now i) x) due
     where
-      due : ideal_state room i x ≡ Fine → length i.accepted < i.width * i.height
+      due : ideal_state room i x ≡ Ok tt → length i.accepted < i.width * i.height
       due e = ltb-true (length i.accepted) (i.width * i.height) (all_pass (ideal_tests room i x) e).1.1.1.1.0
 
       one_more_lem : (m : Remembered) → length i.accepted < i.width * i.height → length (i.accepted ++ (m ∷ [])) ≤ i.width * i.height
       one_more_lem m k = omega (arith, longer i.accepted m)
 
-      go : (st : Checked) (y : Res (List Parts)) → (st ≡ Fine → length i.accepted < i.width * i.height) → length (added_to room i x st y) ≤ i.width * i.height
-      go (Bad e) y f = l
-      go Fine (no e) f = l
-      go Fine (ok t r) f = one_more_lem _ (f refl)
+      go : (st : Result ⊤ BlockAssemblyError) (y : Res (List Parts)) → (st ≡ Ok tt → length i.accepted < i.width * i.height) → length (added_to room i x st y) ≤ i.width * i.height
+      go (Err e) y f = l
+      go (Ok tt) (no e) f = l
+      go (Ok tt) (ok t r) f = one_more_lem _ (f refl)
 
-  at_most_bare : (i : Ideal) (x : Bare) (st : Checked) (y : Res Header) → AtMost i → AtMost (onward_bare room i x st y)
-  at_most_bare i x (Bad e) y l = l
-  at_most_bare i x Fine (no e) l = l
-  at_most_bare i x Fine (ok h r) l = at_most_call i (W.behind x h) l
+  at_most_bare : (i : Ideal) (x : Bare) (st : Result ⊤ BlockAssemblyError) (y : Res Header) → AtMost i → AtMost (onward_bare room i x st y)
+  at_most_bare i x (Err e) y l = l
+  at_most_bare i x (Ok tt) (no e) l = l
+  at_most_bare i x (Ok tt) (ok h r) l = at_most_call i (W.behind x h) l
 
-  at_most_opened : (i : Ideal) (w h depth : ℕ) (method : Bool) (o : PictureOpened) → AtMost i → AtMost (reopened i w h depth method o)
-  at_most_opened i w h depth method (Opened p) l = omega arith
-  at_most_opened i w h depth method (Unopened e) l = l
+  at_most_opened : (i : Ideal) (w h depth : ℕ) (method : Bool) (o : Result Picture BlockAssemblyError) → AtMost i → AtMost (reopened i w h depth method o)
+  at_most_opened i w h depth method (Ok p) l = omega arith
+  at_most_opened i w h depth method (Err e) l = l
 
   at_most_next : (i : Ideal) (x : Step) → AtMost i → AtMost (ideal_next room i x)
   at_most_next i (opening w h depth method) l = at_most_opened i w h depth method (open_of w h depth method) l
@@ -211,7 +204,7 @@ module _ (room : ℕ) where
   at_most_after (x ∷ xs) i l = at_most_after xs (ideal_next room i x) (at_most_next i x l)
 
 -- after any run the picture has accepted at most width times height
-pub at_most : (w h depth : ℕ) (method : Bool) (p : Picture) → open_of w h depth method ≡ Opened p → (store : List ℤ) (xs : List Step)
+pub at_most : (w h depth : ℕ) (method : Bool) (p : Picture) → open_of w h depth method ≡ Ok p → (store : List ℤ) (xs : List Step)
     → let q = (after_all told next (record { picture = p; store = store }) xs).picture in q.accepted ≤ q.width * q.height
 at_most w h depth method p e store xs =
     subst⁻¹ (λ (q : Picture). q.accepted ≤ q.width * q.height) (history w h depth method p e store xs).picture
@@ -221,7 +214,7 @@ at_most w h depth method p e store xs =
 
 -- no macroblock around
 abbrev nothing : Around
-nothing = record { left = none; above_left = none; above = none }
+nothing = record { left = None; above_left = None; above = None }
 
 pub first_around : (w h depth q : ℕ) (method : Bool) (s : List ℤ) → 1 ≤ w → around_due (picture_of w h depth method 0) q s ≡ nothing
 unfolding around_due
@@ -235,9 +228,9 @@ first_around w h depth q method s l =
     }) (mod-eq_of_lt l) (lt-leb w 0 l)
 
 -- the same bits are taken, with the same events of each spelling, and the same refusals of the bits
-abbrev pub with_picture : Picture → MacroblockDecoded → PictureDecoded
-with_picture p (AloneDecoded n c k) = Decoded n c k (onward p)
-with_picture p (AloneRefused e) = Refused e
+abbrev pub with_picture : Picture → Result MacroblockDecoded BlockAssemblyError → Result PictureDecoded BlockAssemblyError
+with_picture p (Ok d) = Ok (record { bits = d.bits; next = d.next; spellings = d.spellings; picture = onward p })
+with_picture p (Err e) = Err e
 
 pub same_reading : (p : Picture) (d : List ℕ) (at : ℕ) (y : Res (List Parts)) → answer_told p d at y ≡ with_picture p (told_alone d at y)
 same_reading p d at (ok s r) = refl

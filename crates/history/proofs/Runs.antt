@@ -11,23 +11,23 @@ use Rattle.ranges.specs.Range.{depth_fine}
 use Rattle.assembly.specs.declared.error.BlockAssemblyError.TheVariants.{Context, OutOfRange}
 use Rattle.picture_state.specs.Picture.{open_of, picture_of, size_fine}
 use Rattle.picture_state.specs.declared.picture.Picture.{Picture}
-use Rattle.picture_state.specs.declared.picture.PictureOpened.{PictureOpened}
-use Rattle.picture_state.specs.declared.picture.PictureOpened.TheVariants.{Opened, Refused as Unopened}
 use Rattle.history.proofs.Calls.{Stands, stands_bare, stands_on, told-bare, told_is}
 use Rattle.history.proofs.Places.{Kept}
 use Rattle.history.specs.History.{History, State, next, picture_opened, told}
 use Rattle.history.specs.Ideal.{Ideal, blank_ideal, ideal, ideal_next, ideal_told, onward_from, reopened}
 use Rattle.history.specs.Step.{Step, Told, after_all, handed, in_bits, opening, told_all}
+use Rattle.std.specs.Prelude.{Err, Ok, Result}
+use Rattle.assembly.specs.declared.error.BlockAssemblyError.{BlockAssemblyError}
 
 -- ---- an opening
 
-opened : (a b : Bool) (p q : Picture) → cond a (cond b (Opened p) (Unopened Context)) (Unopened OutOfRange) ≡ Opened q → (a ≡ true) × (p ≡ q)
+opened : (a b : Bool) (p q : Picture) → cond a (cond b (Ok p) (Err Context)) (Err OutOfRange) ≡ Ok q → (a ≡ true) × (p ≡ q)
 opened true true p q e = (refl, cc)
 opened true false p q e = absurd (let z : ◌≡◌ {A = ℕ} 0 1 = cc in omega arith)
 opened false b p q e = absurd (let z : ◌≡◌ {A = ℕ} 0 1 = cc in omega arith)
 
 -- an accepted one, whatever the store holds
-stands_first : (w h depth : ℕ) (method : Bool) (p : Picture) → open_of w h depth method ≡ Opened p
+stands_first : (w h depth : ℕ) (method : Bool) (p : Picture) → open_of w h depth method ≡ Ok p
     → (s : List ℤ) → Stands (length s) (record { picture = p; store = s }) (blank_ideal w h depth method)
 stands_first w h depth method p e s =
     let o = opened (size_fine w h) (depth_fine depth) (picture_of w h depth method 0) p e in
@@ -36,10 +36,10 @@ stands_first w h depth method p e s =
 -- ---- a step
 
 module _ (room : ℕ) (s : State) (i : Ideal) (H : Stands room s i) where
-  stands_opened : (w h depth : ℕ) (method : Bool) (o : PictureOpened) → open_of w h depth method ≡ o
+  stands_opened : (w h depth : ℕ) (method : Bool) (o : Result Picture BlockAssemblyError) → open_of w h depth method ≡ o
       → Stands room (record { picture = picture_opened s.picture o; store = s.store }) (reopened i w h depth method o)
-  stands_opened w h depth method (Opened p) e = subst (λ (r : ℕ). Stands r (record { picture = p; store = s.store }) (blank_ideal w h depth method)) H.long (stands_first w h depth method p e s.store)
-  stands_opened w h depth method (Unopened n) e = record { picture = H.picture; size = H.size; long = H.long; kept = H.kept }
+  stands_opened w h depth method (Ok p) e = subst (λ (r : ℕ). Stands r (record { picture = p; store = s.store }) (blank_ideal w h depth method)) H.long (stands_first w h depth method p e s.store)
+  stands_opened w h depth method (Err n) e = record { picture = H.picture; size = H.size; long = H.long; kept = H.kept }
 
   kept_here : 192 * i.width ≤ length s.store → Kept i.width s.store i.accepted
   kept_here l = H.kept (omega (arith, H.long))

@@ -1,15 +1,12 @@
 -- A run of openings and calls on a picture and one store, each as its contract says; and the promise on it. Definitions only.
-use Rattle.std.specs.Prelude.{Bool, List, ◌≡◌, ℕ, ℤ, length}
+use Rattle.std.specs.Prelude.{Bool, List, ◌≡◌, ℕ, ℤ, length, Err, Ok, Result}
 use Rattle.picture.specs.Call.{answer_out, samples_out, store_out}
 use Rattle.picture.specs.Whole as W
 use Rattle.picture_state.specs.Picture.{open_of}
-use Rattle.picture.specs.declared.call.PictureDecoded.{PictureDecoded}
-use Rattle.picture.specs.declared.call.PictureDecoded.TheVariants.{Decoded, Refused}
-use Rattle.picture.specs.declared.whole.PictureWholeDecoded.{PictureWholeDecoded}
-use Rattle.picture.specs.declared.whole.PictureWholeDecoded.TheVariants.{Decoded as WholeDecoded, Refused as WholeRefused}
 use Rattle.picture_state.specs.declared.picture.Picture.{Picture}
-use Rattle.picture_state.specs.declared.picture.PictureOpened.{PictureOpened}
-use Rattle.picture_state.specs.declared.picture.PictureOpened.TheVariants.{Opened, Refused as Unopened}
+use Rattle.picture.specs.declared.call.PictureDecoded.{PictureDecoded}
+use Rattle.assembly.specs.declared.error.BlockAssemblyError.{BlockAssemblyError}
+use Rattle.picture.specs.declared.whole.PictureWholeDecoded.{PictureWholeDecoded}
 use Rattle.history.specs.Ideal.{Ideal, blank_ideal, ideal_next, ideal_told, picture_now}
 use Rattle.history.specs.Step.{Step, Told, after_all, decoded, handed, in_bits, opened, opening, told_all, whole_decoded}
 
@@ -19,17 +16,17 @@ pub record State : Type 0 where
   pub store : List ℤ
 
 -- the picture handed back, or the one before a refusal
-abbrev pub picture_opened : Picture → PictureOpened → Picture
-picture_opened p (Opened q) = q
-picture_opened p (Unopened e) = p
+abbrev pub picture_opened : Picture → Result Picture BlockAssemblyError → Picture
+picture_opened p (Ok q) = q
+picture_opened p (Err e) = p
 
-abbrev pub picture_after : Picture → PictureDecoded → Picture
-picture_after p (Decoded n c k q) = q
-picture_after p (Refused e) = p
+abbrev pub picture_after : Picture → Result PictureDecoded BlockAssemblyError → Picture
+picture_after p (Ok d) = d.picture
+picture_after p (Err e) = p
 
-abbrev pub picture_after_whole : Picture → PictureWholeDecoded → Picture
-picture_after_whole p (WholeDecoded n c k q f) = q
-picture_after_whole p (WholeRefused e) = p
+abbrev pub picture_after_whole : Picture → Result PictureWholeDecoded BlockAssemblyError → Picture
+picture_after_whole p (Ok d) = d.picture
+picture_after_whole p (Err e) = p
 
 abbrev pub told : State → Step → Told
 told s (opening w h depth method) = opened (open_of w h depth method)
@@ -49,5 +46,5 @@ pub record Same (s : State) (i : Ideal) (xs : List Step) : Type 0 where
 -- from an opening, on any store, whatever it holds and however long it is
 abbrev pub History : Type 0
 History =
-    (w h depth : ℕ) (method : Bool) (p : Picture) → open_of w h depth method ≡ Opened p
+    (w h depth : ℕ) (method : Bool) (p : Picture) → open_of w h depth method ≡ Ok p
     → (store : List ℤ) (xs : List Step) → Same (record { picture = p; store = store }) (blank_ideal w h depth method) xs

@@ -1,5 +1,5 @@
 -- The ideal picture: the list of the macroblocks accepted since its opening, neighbours looked up in it by column and row. Of a store it knows the length alone, which 14 asks for; 13 cannot arise. Definitions only.
-use Rattle.std.specs.Prelude.{Bool, cond, false, List, [], ◌++◌, ◌∷◌, ℕ, ◌%◌, ◌*◌, ◌+◌, ◌-◌, ◌/◌, leb, ltb, ℤ, get_or, length}
+use Rattle.std.specs.Prelude.{Bool, cond, false, List, [], ◌++◌, ◌∷◌, ℕ, ◌%◌, ◌*◌, ◌+◌, ◌-◌, ◌/◌, leb, ltb, ℤ, get_or, length, Err, Ok, Result, ⊤}
 use Rattle.bits.specs.Bits.{bits_from}
 use Rattle.bits.specs.Cursor.{in_data}
 use Rattle.samples.specs.Samples.{macroblock_samples, samples_after}
@@ -10,8 +10,6 @@ use Rattle.block_reader.specs.Rows.{rows_of}
 use Rattle.assembly.specs.Values.{context_fine}
 use Rattle.assembly.specs.declared.error.BlockAssemblyError.{BlockAssemblyError}
 use Rattle.assembly.specs.declared.error.BlockAssemblyError.TheVariants.{Complete, Context, OutOfRange, Texture, TooShort}
-use Rattle.assembly.specs.declared.error.Checked.{Checked}
-use Rattle.assembly.specs.declared.error.Checked.TheVariants.{Bad, Fine}
 use Rattle.macroblock.specs.Answer.{kept_by}
 use Rattle.headers.specs.Fields.{fields_of, header_tests, pattern_by}
 use Rattle.headers.specs.Header.{Header, header_bits}
@@ -20,15 +18,12 @@ use Rattle.macroblock.specs.Six.{samples_of_six}
 use Rattle.neighbours.specs.Neighbours.{found}
 use Rattle.picture.specs.Call.{Input, answer_with, context_here, sentence_here}
 use Rattle.picture.specs.Whole.{Bare, bare, behind, with_header}
-use Rattle.picture.specs.declared.call.PictureDecoded.{PictureDecoded}
-use Rattle.picture.specs.declared.whole.PictureWholeDecoded.TheVariants.{Refused as WholeRefused}
 use Rattle.picture_state.specs.Sizes.{store_for}
 use Rattle.picture_state.specs.Picture.{context_of, open_of, picture_of}
 use Rattle.picture_state.specs.declared.picture.Picture.{Picture}
-use Rattle.picture_state.specs.declared.picture.PictureOpened.{PictureOpened}
-use Rattle.picture_state.specs.declared.picture.PictureOpened.TheVariants.{Opened, Refused as Unopened}
 use Rattle.history.specs.Remembered.{Neighbourhood, Remembered, remembered, values_of_all}
 use Rattle.history.specs.Step.{Step, Told, decoded, handed, in_bits, opened, opening, whole_decoded}
+use Rattle.picture.specs.declared.call.PictureDecoded.{PictureDecoded}
 
 -- size, depth and method as opened, and what was accepted since
 pub record Ideal : Type 0 where
@@ -79,7 +74,7 @@ module _ (room : ℕ) (i : Ideal) (x : Input) where
   abbrev pub ideal_tests : List (Bool × BlockAssemblyError)
   ideal_tests = bare_tests room i (bare x.bytes x.start x.context x.matrix x.samples) ++ header_tests x.header
 
-  unfoldable pub ideal_state : Checked
+  unfoldable pub ideal_state : Result ⊤ BlockAssemblyError
   ideal_state = first_bad ideal_tests
 
   -- the 64 places of each block of a sentence
@@ -91,7 +86,7 @@ module _ (room : ℕ) (i : Ideal) (x : Input) where
   samples_ideal (no e) = x.samples
 
   -- what it is told, and what its samples hold
-  abbrev pub answer_ideal : PictureDecoded
+  abbrev pub answer_ideal : Result PictureDecoded BlockAssemblyError
   answer_ideal = answer_with (picture_now i) x ideal_state
 
   abbrev pub samples_then : List ℤ
@@ -101,10 +96,10 @@ module _ (room : ℕ) (i : Ideal) (x : Input) where
   ideal = decoded answer_ideal samples_then
 
   -- what was accepted after it
-  abbrev pub added_to : Checked → Res (List Parts) → List Remembered
-  added_to (Bad e) y = i.accepted
-  added_to Fine (no e) = i.accepted
-  added_to Fine (ok s r) = i.accepted ++ (remembered (context_here (picture_now i) x) x.matrix (around_in i) (rows_here s) ∷ [])
+  abbrev pub added_to : Result ⊤ BlockAssemblyError → Res (List Parts) → List Remembered
+  added_to (Err e) y = i.accepted
+  added_to (Ok tt) (no e) = i.accepted
+  added_to (Ok tt) (ok s r) = i.accepted ++ (remembered (context_here (picture_now i) x) x.matrix (around_in i) (rows_here s) ∷ [])
 
   unfoldable pub onward_from : Ideal
   onward_from = record { width = i.width; height = i.height; depth = i.depth; method = i.method; accepted = added_to ideal_state (sentence_here (picture_now i) x) }
@@ -112,29 +107,29 @@ module _ (room : ℕ) (i : Ideal) (x : Input) where
 -- ---- a call whose header is in its bits: the tests that ask no header, the header, then the call behind it
 
 module _ (room : ℕ) (i : Ideal) (x : Bare) where
-  unfoldable pub bare_state : Checked
+  unfoldable pub bare_state : Result ⊤ BlockAssemblyError
   bare_state = first_bad (bare_tests room i x)
 
   abbrev pub header_here : Res Header
   header_here = read_header (bits_from x.bytes x.start)
 
-  abbrev pub told_bare : Checked → Res Header → Told
-  told_bare (Bad e) y = whole_decoded (WholeRefused e) x.samples
-  told_bare Fine (no e) = whole_decoded (WholeRefused (Texture e)) x.samples
-  told_bare Fine (ok h r) =
+  abbrev pub told_bare : Result ⊤ BlockAssemblyError → Res Header → Told
+  told_bare (Err e) y = whole_decoded (Err e) x.samples
+  told_bare (Ok tt) (no e) = whole_decoded (Err (Texture e)) x.samples
+  told_bare (Ok tt) (ok h r) =
       whole_decoded (with_header (length (header_bits h)) (fields_of x.context.quantiser_scale h) (answer_ideal room i (behind x h))) (samples_then room i (behind x h))
 
-  abbrev pub onward_bare : Checked → Res Header → Ideal
-  onward_bare (Bad e) y = i
-  onward_bare Fine (no e) = i
-  onward_bare Fine (ok h r) = onward_from room i (behind x h)
+  abbrev pub onward_bare : Result ⊤ BlockAssemblyError → Res Header → Ideal
+  onward_bare (Err e) y = i
+  onward_bare (Ok tt) (no e) = i
+  onward_bare (Ok tt) (ok h r) = onward_from room i (behind x h)
 
 -- ---- a step
 
 -- an accepted opening begins a picture anew; a refused one leaves the open picture
-abbrev pub reopened : Ideal → ℕ → ℕ → ℕ → Bool → PictureOpened → Ideal
-reopened i w h depth method (Opened p) = blank_ideal w h depth method
-reopened i w h depth method (Unopened e) = i
+abbrev pub reopened : Ideal → ℕ → ℕ → ℕ → Bool → Result Picture BlockAssemblyError → Ideal
+reopened i w h depth method (Ok p) = blank_ideal w h depth method
+reopened i w h depth method (Err e) = i
 
 module _ (room : ℕ) where
   abbrev pub ideal_told : Ideal → Step → Told

@@ -1,6 +1,5 @@
 -- What the paper remembers of an accepted macroblock, its levels, dequantised DCs and quantiser, and what later blocks take of it (7.4.3). No store and no record of numbers. Definitions only.
-use Rattle.std.specs.Prelude.{false, true, List, [], ◌++◌, ◌∷◌, ℕ, suc, zero, ◌+◌, ℤ, pos, get_or, replicate}
-use Rattle.std.proofs.Math.Option.{Option, none, some}
+use Rattle.std.specs.Prelude.{false, true, List, [], ◌++◌, ◌∷◌, ℕ, suc, zero, ◌+◌, ℤ, pos, get_or, replicate, Option, None, Some}
 use Rattle.numbers.specs.Grid.{build, cell}
 use Rattle.prediction.specs.Prediction.{default_dc}
 use Rattle.prediction.specs.declared.predictor.BlockPredictors.{BlockPredictors}
@@ -35,8 +34,8 @@ abbrev pub side_missing : ℕ → ℕ → Side
 side_missing depth q = record { has = false; dc = default_dc depth; qp = q; row = replicate 7 (pos 0); column = replicate 7 (pos 0) }
 
 abbrev pub side_at : ℕ → ℕ → Option Remembered → ℕ → Side
-side_at depth q none b = side_missing depth q
-side_at depth q (some m) b = side_in m b
+side_at depth q None b = side_missing depth q
+side_at depth q (Some m) b = side_in m b
 
 -- the three macroblocks around one, where they are not missing
 pub record Neighbourhood : Type 0 where
@@ -46,7 +45,7 @@ pub record Neighbourhood : Type 0 where
 
 -- the macroblock that a neighbour lies in, with the macroblock's own blocks so far
 abbrev pub among : Neighbourhood → Remembered → Source → Option Remembered
-among n own Own = some own
+among n own Own = Some own
 among n own Left = n.left
 among n own AboveLeft = n.above_left
 among n own Above = n.above

@@ -1,10 +1,11 @@
 -- What a run is made of: openings and calls, and what each is told. Definitions only.
-use Rattle.std.specs.Prelude.{Bool, List, [], ◌∷◌, ℕ, ℤ}
+use Rattle.std.specs.Prelude.{Bool, List, [], ◌∷◌, ℕ, ℤ, Result}
 use Rattle.picture.specs.Call.{Input}
 use Rattle.picture.specs.Whole.{Bare}
 use Rattle.picture.specs.declared.call.PictureDecoded.{PictureDecoded}
+use Rattle.assembly.specs.declared.error.BlockAssemblyError.{BlockAssemblyError}
 use Rattle.picture.specs.declared.whole.PictureWholeDecoded.{PictureWholeDecoded}
-use Rattle.picture_state.specs.declared.picture.PictureOpened.{PictureOpened}
+use Rattle.picture_state.specs.declared.picture.Picture.{Picture}
 
 pub data Step : Type 0 where
   -- width, height, depth, method
@@ -15,9 +16,9 @@ pub data Step : Type 0 where
 
 -- the answer; of a macroblock the samples as well
 pub data Told : Type 0 where
-  opened : PictureOpened → Told
-  decoded : PictureDecoded → List ℤ → Told
-  whole_decoded : PictureWholeDecoded → List ℤ → Told
+  opened : Result Picture BlockAssemblyError → Told
+  decoded : Result PictureDecoded BlockAssemblyError → List ℤ → Told
+  whole_decoded : Result PictureWholeDecoded BlockAssemblyError → List ℤ → Told
 
 -- a run of steps over states of any kind: what each step is told, and the state after all
 module _ {S : Type 0} (told : S → Step → Told) (next : S → Step → S) where

@@ -13,26 +13,26 @@ use Rattle.numbers.specs.Every.{every}
 use Rattle.numbers.specs.Outcome.{Outcome, accepted, checked, refused}
 use Rattle.ranges.proofs.DepthLaws.{samples-are, values-are}
 use Rattle.ranges.specs.Range.{depth_fine, highest, limits_outcome, lowest, saturation_limits, value_limits, within}
-use Rattle.ranges.specs.declared.DepthLimits.{DepthLimits}
-use Rattle.ranges.specs.declared.DepthLimits.TheVariants.{Are, OutOfRange}
 use Rattle.rounding.specs.declared.HalfIntegerRounding.{HalfIntegerRounding}
 use Rattle.exact_transform.specs.Exact.{Modest}
 use Rattle.idct.specs.Limits.{idct_outcome, in_bounds, values_fine}
 use Rattle.idct.specs.ShortWays.{samples_in}
-use Rattle.idct.specs.declared.limits.IdctAnswer.TheVariants.{DepthOutOfRange, Transformed, ValueOutOfLimits}
 use Rattle.idct.proofs.Refusals.{modest, zero-inside}
+use Rattle.std.specs.Prelude.{Err, None, Ok, Option, Some}
+use Rattle.idct.specs.declared.limits.IdctError.TheVariants.{DepthOutOfRange}
+use Rattle.idct.specs.declared.limits.IdctError.TheVariants.{ValueOutOfLimits}
 
 -- ---- the arms
 
-module _ (d : ℕ) (r : DepthLimits) (e : limits_outcome r ≡ value_limits d) where
-  depth-found : (lo hi : ℤ) → r ≡ Are lo hi → depth_fine d ≡ true
+module _ (d : ℕ) (r : Option (ℤ × ℤ)) (e : limits_outcome r ≡ value_limits d) where
+  depth-found : (lo hi : ℤ) → r ≡ Some (lo, hi) → depth_fine d ≡ true
   depth-found lo hi g = go (depth_fine d) (sym (ap limits_outcome g) ∙ e)
     where
       go : (b : Bool) → ◌≡◌ {A = Outcome (ℤ × ℤ)} (accepted (lo, hi)) (cond b (accepted (lowest (d + 3), highest (d + 3))) (refused 12 0)) → b ≡ true
       go true k = refl
       go false k = let n : ◌≡◌ {A = ℕ} 0 1 = cc in absurd (omega arith)
 
-  pub depth_lost : r ≡ OutOfRange → depth_fine d ≡ false
+  pub depth_lost : r ≡ None → depth_fine d ≡ false
   depth_lost g = go (depth_fine d) (sym (ap limits_outcome g) ∙ e)
     where
       go : (b : Bool) → ◌≡◌ {A = Outcome (ℤ × ℤ)} (refused 12 0) (cond b (accepted (lowest (d + 3), highest (d + 3))) (refused 12 0)) → b ≡ false
@@ -40,7 +40,7 @@ module _ (d : ℕ) (r : DepthLimits) (e : limits_outcome r ≡ value_limits d) w
       go false k = refl
 
   -- the limits, as the machine reads them back
-  pub limits_told : (lo hi : ℤ) → r ≡ Are lo hi → mag lo < 2 ^ hbits w32 → mag hi < 2 ^ hbits w32
+  pub limits_told : (lo hi : ℤ) → r ≡ Some (lo, hi) → mag lo < 2 ^ hbits w32 → mag hi < 2 ^ hbits w32
       → (depth_fine d ≡ true) × (to_z w32 (of_z w32 lo) ≡ lowest (d + 3)) × (to_z w32 (of_z w32 hi) ≡ highest (d + 3))
   limits_told lo hi g a b =
       let f = depth-found lo hi g in
@@ -48,7 +48,7 @@ module _ (d : ℕ) (r : DepthLimits) (e : limits_outcome r ≡ value_limits d) w
       (f, held lo a ∙ k.0, held hi b ∙ k.1)
 
 -- the least and the greatest sample
-module _ (d : ℕ) (r : DepthLimits) (f : depth_fine d ≡ true) (e : limits_outcome r ≡ saturation_limits d) (lo hi : ℤ) (g : r ≡ Are lo hi) where
+module _ (d : ℕ) (r : Option (ℤ × ℤ)) (f : depth_fine d ≡ true) (e : limits_outcome r ≡ saturation_limits d) (lo hi : ℤ) (g : r ≡ Some (lo, hi)) where
   pub bottom_told : mag lo < 2 ^ hbits w32 → to_z w32 (of_z w32 lo) ≡ lowest d
   bottom_told b = held lo b ∙ (samples-are d r f e lo hi g).0
 
@@ -61,13 +61,13 @@ module _ (d : ℕ) (b : Bool) where
   abbrev due : Outcome (Unit {0})
   due = checked ((depth_fine d, 12) ∷ (b, 13) ∷ []) (accepted tt)
 
-  pub no-depth : depth_fine d ≡ false → idct_outcome DepthOutOfRange ≡ due
+  pub no-depth : depth_fine d ≡ false → idct_outcome (Err DepthOutOfRange) ≡ due
   no-depth e = simp e
 
-  pub no_value : depth_fine d ≡ true → b ≡ false → idct_outcome ValueOutOfLimits ≡ due
+  pub no_value : depth_fine d ≡ true → b ≡ false → idct_outcome (Err ValueOutOfLimits) ≡ due
   no_value e g = simp (e, g)
 
-  pub all_taken : depth_fine d ≡ true → b ≡ true → idct_outcome Transformed ≡ due
+  pub all_taken : depth_fine d ≡ true → b ≡ true → idct_outcome (Ok tt) ≡ due
   all_taken e g = simp (e, g)
 
 -- ---- tests within the limits of values

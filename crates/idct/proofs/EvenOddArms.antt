@@ -20,8 +20,7 @@ use Rattle.exact_transform.specs.Exact.{Modest}
 use Rattle.exact_transform.specs.Transform.{whole}
 use Rattle.exact_transform.proofs.EvenOddBounds.{both_sure}
 use Rattle.idct.specs.ShortWays.{ToldHalf, samples_in}
-use Rattle.idct.specs.declared.short.KeptRows.{KeptRows}
-use Rattle.idct.specs.declared.short.KeptRows.TheVariants.{Are, OutOfLimits}
+use Rattle.std.specs.Prelude.{None, Option, Some}
 
 by_halves : (P : ℕ → Type 0) → ((k : ℕ) → k < 4 → P (2 * k + 0)) → ((k : ℕ) → k < 4 → P (2 * k + 1)) → (i : ℕ) → i < 8 → P i
 by_halves P e o zero h = e 0 (omega arith)
@@ -38,14 +37,14 @@ pub all_within : (l : List (List ℤ)) (least most : ℤ) → length l ≡ 8 →
     → every (every (within least most)) l ≡ true
 all_within l least most n e o = every_in (every (within least most)) [] l (λ (i : ℕ) (h : i < length l). by_halves (λ (j : ℕ). every (within least most) (get_or l j []) ≡ true) e o i (omega (arith, n, h)))
 
-module _ (p : ℕ) (l : List (List ℤ)) (lo hi least most : ℤ) (terms : List (List Float)) (which : List ℕ) (r : KeptRows) (a : lo ≡ least) (b : hi ≡ most) (t : ToldHalf p l lo hi terms which r) where
-  pub half-within : (n : ℕ) → r ≡ Are n → (k : ℕ) → k < 4 → every (within least most) (get_or l (2 * k + p) []) ≡ true
+module _ (p : ℕ) (l : List (List ℤ)) (lo hi least most : ℤ) (terms : List (List Float)) (which : List ℕ) (r : Option ℕ) (a : lo ≡ least) (b : hi ≡ most) (t : ToldHalf p l lo hi terms which r) where
+  pub half-within : (n : ℕ) → r ≡ Some n → (k : ℕ) → k < 4 → every (within least most) (get_or l (2 * k + p) []) ≡ true
   half-within n e k h = sym (λ i. every (within (a i) (b i)) (get_or l (2 * k + p) [])) ∙ (subst (ToldHalf p l lo hi terms which) e t).0 k h
 
-  pub half-kept : (n : ℕ) → r ≡ Are n → Half p l 4 terms which n
+  pub half-kept : (n : ℕ) → r ≡ Some n → Half p l 4 terms which n
   half-kept n e = (subst (ToldHalf p l lo hi terms which) e t).1
 
-  pub half-not : r ≡ OutOfLimits → every (every (within least most)) l ≡ false
+  pub half-not : r ≡ None → every (every (within least most)) l ≡ false
   half-not e = sym (λ i. every (every (within (a i) (b i))) l) ∙ subst (ToldHalf p l lo hi terms which) e t
 
 -- the samples by near numbers that are the rule's

@@ -28,8 +28,8 @@ use Rattle.exact_transform.specs.Exact.{Modest, Near, exact}
 use Rattle.exact_transform.specs.Transform.{whole}
 use Rattle.exact_transform.proofs.Bounds.{whole-near}
 use Rattle.idct.specs.Limits.{idct_outcome, in_bounds, values_fine}
-use Rattle.idct.specs.declared.limits.IdctAnswer.{IdctAnswer}
-use Rattle.idct.specs.declared.limits.IdctAnswer.TheVariants.{Transformed}
+use Rattle.std.specs.Prelude.{Ok, Result, ⊤}
+use Rattle.idct.specs.declared.limits.IdctError.{IdctError}
 
 -- ---- one value
 
@@ -58,7 +58,7 @@ module _ (d : ℕ) (l : List (List ℤ)) where
   abbrev pub due : Outcome (Unit {0})
   due = checked ((depth_fine d, 12) ∷ (values_fine d l, 13) ∷ []) (accepted tt)
 
-  pub transformed : depth_fine d ≡ true → values_fine d l ≡ true → idct_outcome Transformed ≡ due
+  pub transformed : depth_fine d ≡ true → values_fine d l ≡ true → idct_outcome (Ok tt) ≡ due
   transformed e g = simp (e, g)
 
 -- ---- for callers: a block whose cells are within a depth's limits is taken
@@ -83,7 +83,7 @@ pub taken-near : (d : ℕ) (l : List (List ℤ)) → depth_fine d ≡ true → v
 taken-near d l e g m y x p q = whole-near l (modest d l e g) y x p q m
 
 -- what an answer is due to
-fine-told : (d : ℕ) (l : List (List ℤ)) → idct_outcome Transformed ≡ due d l → (depth_fine d ≡ true) × (values_fine d l ≡ true)
+fine-told : (d : ℕ) (l : List (List ℤ)) → idct_outcome (Ok tt) ≡ due d l → (depth_fine d ≡ true) × (values_fine d l ≡ true)
 fine-told d l = go (depth_fine d) (values_fine d l)
   where
     go : (a b : Bool) → ◌≡◌ {A = Outcome (Unit {0})} (accepted tt) (checked ((a, 12) ∷ (b, 13) ∷ []) (accepted tt)) → (a ≡ true) × (b ≡ true)
@@ -91,5 +91,5 @@ fine-told d l = go (depth_fine d) (values_fine d l)
     go true false e = let n : ◌≡◌ {A = ℕ} 0 1 = cc in absurd (omega arith)
     go false b e = let n : ◌≡◌ {A = ℕ} 0 1 = cc in absurd (omega arith)
 
-pub answer-near : (d : ℕ) (l : List (List ℤ)) (m : HalfIntegerRounding) (r : IdctAnswer) → idct_outcome r ≡ due d l → r ≡ Transformed → (y x : ℕ) → y < 8 → x < 8 → Near (whole m l y x) (exact l y x)
+pub answer-near : (d : ℕ) (l : List (List ℤ)) (m : HalfIntegerRounding) (r : Result ⊤ IdctError) → idct_outcome r ≡ due d l → r ≡ Ok tt → (y x : ℕ) → y < 8 → x < 8 → Near (whole m l y x) (exact l y x)
 answer-near d l m r e t y x p q = let f = fine-told d l (sym (ap idct_outcome t) ∙ e) in taken-near d l f.0 f.1 m y x p q

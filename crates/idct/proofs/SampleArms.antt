@@ -8,13 +8,11 @@ use Rattle.numbers.specs.Limit.{clamp_z}
 use Rattle.numbers.specs.Outcome.{Outcome, accepted, refused}
 use Rattle.ranges.proofs.DepthLaws.{samples-are}
 use Rattle.ranges.specs.Range.{depth_fine, highest, limits_outcome, lowest, saturation_limits}
-use Rattle.ranges.specs.declared.DepthLimits.{DepthLimits}
-use Rattle.ranges.specs.declared.DepthLimits.TheVariants.{Are, OutOfRange}
 use Rattle.idct.specs.Limits.{sample_outcome, saturated}
-use Rattle.idct.specs.declared.limits.IdctSample.TheVariants as sample
+use Rattle.std.specs.Prelude.{None, Option, Some}
 
-module _ (d : ℕ) (v : ℤ) (r : DepthLimits) (e : limits_outcome r ≡ saturation_limits d) where
-  pub sample_is : (lo hi z : ℤ) → r ≡ Are lo hi → z ≡ clamp_z v lo hi → sample_outcome (sample.Is z) ≡ cond (depth_fine d) (accepted (saturated d v)) (refused 12 0)
+module _ (d : ℕ) (v : ℤ) (r : Option (ℤ × ℤ)) (e : limits_outcome r ≡ saturation_limits d) where
+  pub sample_is : (lo hi z : ℤ) → r ≡ Some (lo, hi) → z ≡ clamp_z v lo hi → sample_outcome (Some z) ≡ cond (depth_fine d) (accepted (saturated d v)) (refused 12 0)
   unfolding saturated
   sample_is lo hi z g h = go (depth_fine d) refl (sym (ap limits_outcome g) ∙ e)
     where
@@ -23,7 +21,7 @@ module _ (d : ℕ) (v : ℤ) (r : DepthLimits) (e : limits_outcome r ≡ saturat
       go true f k = let p = samples-are d r f e lo hi g in ap accepted (h ∙ (λ i. clamp_z v (p.0 i) (p.1 i)))
       go false f k = let n : ◌≡◌ {A = ℕ} 0 1 = cc in absurd (omega arith)
 
-  pub sample_refused : r ≡ OutOfRange → sample_outcome sample.DepthOutOfRange ≡ cond (depth_fine d) (accepted (saturated d v)) (refused 12 0)
+  pub sample_refused : r ≡ None → sample_outcome None ≡ cond (depth_fine d) (accepted (saturated d v)) (refused 12 0)
   sample_refused g = go (depth_fine d) (sym (ap limits_outcome g) ∙ e)
     where
       go : (b : Bool) → ◌≡◌ {A = Outcome (ℤ × ℤ)} (refused 12 0) (cond b (accepted (lowest d, highest d)) (refused 12 0)) → refused 12 0 ≡ cond b (accepted (saturated d v)) (refused 12 0)

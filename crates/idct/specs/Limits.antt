@@ -1,13 +1,12 @@
 -- What the transform takes (7.4.4.4), gives (7.4.5) and refuses: a depth out of range (12), then a value outside the depth's limits (13). Definitions only.
-use Rattle.std.specs.Prelude.{Bool, List, ℕ, ◌+◌, ℤ}
+use Rattle.std.specs.Prelude.{Bool, List, ℕ, ◌+◌, ℤ, Err, None, Ok, Option, Result, Some, ⊤}
 use Rattle.numbers.specs.Every.{every}
 use Rattle.numbers.specs.Limit.{clamp_z}
 use Rattle.numbers.specs.Outcome.{Outcome, accepted, refused}
 use Rattle.ranges.specs.Range.{highest, lowest, within}
-use Rattle.idct.specs.declared.limits.IdctAnswer.{IdctAnswer}
-use Rattle.idct.specs.declared.limits.IdctAnswer.TheVariants.{Transformed, DepthOutOfRange, ValueOutOfLimits}
-use Rattle.idct.specs.declared.limits.IdctSample.{IdctSample}
-use Rattle.idct.specs.declared.limits.IdctSample.TheVariants as sample
+use Rattle.idct.specs.declared.limits.IdctError.{IdctError}
+use Rattle.idct.specs.declared.limits.IdctError.TheVariants.{DepthOutOfRange}
+use Rattle.idct.specs.declared.limits.IdctError.TheVariants.{ValueOutOfLimits}
 
 -- z brought into -2 ^ b .. 2 ^ b - 1
 unfoldable pub saturated : ℕ → ℤ → ℤ
@@ -24,24 +23,24 @@ values_fine depth l = every (every (in_bounds (depth + 3))) l
 -- ---- answers
 
 -- what an answer tells: a block, which stands beside it, or a refusal
-abbrev pub idct_outcome : IdctAnswer → Outcome (Unit {0})
-idct_outcome Transformed = accepted tt
-idct_outcome DepthOutOfRange = refused 12 0
-idct_outcome ValueOutOfLimits = refused 13 0
+abbrev pub idct_outcome : Result ⊤ IdctError → Outcome (Unit {0})
+idct_outcome (Ok tt) = accepted tt
+idct_outcome (Err DepthOutOfRange) = refused 12 0
+idct_outcome (Err ValueOutOfLimits) = refused 13 0
 
 -- document 01's number of an answer; 0 where nothing was refused
-abbrev pub number_of : IdctAnswer → ℕ
-number_of Transformed = 0
-number_of DepthOutOfRange = 12
-number_of ValueOutOfLimits = 13
+abbrev pub number_of : Result ⊤ IdctError → ℕ
+number_of (Ok tt) = 0
+number_of (Err DepthOutOfRange) = 12
+number_of (Err ValueOutOfLimits) = 13
 
 -- what the lent block holds afterwards: a refusal leaves it as it was
-abbrev pub block_after : IdctAnswer → List (List ℤ) → List (List ℤ) → List (List ℤ)
-block_after Transformed new old = new
-block_after DepthOutOfRange new old = old
-block_after ValueOutOfLimits new old = old
+abbrev pub block_after : Result ⊤ IdctError → List (List ℤ) → List (List ℤ) → List (List ℤ)
+block_after (Ok tt) new old = new
+block_after (Err DepthOutOfRange) new old = old
+block_after (Err ValueOutOfLimits) new old = old
 
 -- the whole number that an answer tells, or 12
-abbrev pub sample_outcome : IdctSample → Outcome ℤ
-sample_outcome (sample.Is z) = accepted z
-sample_outcome sample.DepthOutOfRange = refused 12 0
+abbrev pub sample_outcome : Option ℤ → Outcome ℤ
+sample_outcome (Some z) = accepted z
+sample_outcome None = refused 12 0

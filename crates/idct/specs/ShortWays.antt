@@ -1,5 +1,5 @@
 -- Inside the crate: what the contracts of its inner functions say of the parts and the shorter ways of the transform. Definitions only.
-use Rattle.std.specs.Prelude.{false, true, List, [], ◌≡◌, ℕ, ◌+◌, ◌*◌, ◌≤◌, ◌<◌, T, Float, ℤ, pos, nat_abs, get_or, length}
+use Rattle.std.specs.Prelude.{false, true, List, [], ◌≡◌, ℕ, ◌+◌, ◌*◌, ◌≤◌, ◌<◌, T, Float, ℤ, pos, nat_abs, get_or, length, None, Option, Some}
 use Rattle.std.specs.Float.{fin, nan, binary64}
 use Rattle.std.specs.Float.Ieee.{add, in_signed, mul, of_int, to_signed}
 use Rattle.numbers.specs.Every.{every}
@@ -11,8 +11,6 @@ use Rattle.rounding.specs.declared.HalfIntegerRounding.{HalfIntegerRounding}
 use Rattle.cosines.specs.Cosines.{c_f, cos_f}
 use Rattle.exact_transform.specs.EvenOdd.{Half, sum_of_kept}
 use Rattle.exact_transform.specs.Transform.{whole}
-use Rattle.idct.specs.declared.short.KeptRows.{KeptRows}
-use Rattle.idct.specs.declared.short.KeptRows.TheVariants.{Are, OutOfLimits}
 
 -- x is a whole number that an i32 holds, at most 2 ^ 20 in size
 abbrev pub Castable : Float → Type 0
@@ -54,9 +52,9 @@ pub record Kept (l : List (List ℤ)) (v : ℕ) (terms : List (List Float)) (whi
   pub sums : (y x : ℕ) → y < 8 → x < 8 → sum_of_kept terms which n y x ≡ sum_of_rows l v y x
 
 -- what an answer tells of the rows 2 k + p, by even and odd halves: each of their values is within lo .. hi, and n rows were kept; or one value of l is not
-abbrev pub ToldHalf : ℕ → List (List ℤ) → ℤ → ℤ → List (List Float) → List ℕ → KeptRows → Type 0
-ToldHalf p l lo hi terms which (Are n) = ((k : ℕ) → k < 4 → every (within lo hi) (get_or l (2 * k + p) []) ≡ true) × Half p l 4 terms which n
-ToldHalf p l lo hi terms which OutOfLimits = every (every (within lo hi)) l ≡ false
+abbrev pub ToldHalf : ℕ → List (List ℤ) → ℤ → ℤ → List (List Float) → List ℕ → Option ℕ → Type 0
+ToldHalf p l lo hi terms which (Some n) = ((k : ℕ) → k < 4 → every (within lo hi) (get_or l (2 * k + p) []) ≡ true) × Half p l 4 terms which n
+ToldHalf p l lo hi terms which None = every (every (within lo hi)) l ≡ false
 
 -- ---- samples
 

@@ -6,9 +6,9 @@ ghost use Rattle.idct.specs.Clipped.{clipped, dc_and_last, dc_block};
 ghost use Rattle.idct.specs.Limits.{block_after, idct_outcome, in_bounds, values_fine};
 
 use crate::depth::at_depth;
-use crate::limits::IdctAnswer;
+use crate::limits::IdctError;
 use crate::rows::{dc_pass, ruled_sample};
-use ranges::{Depth, DepthLimits};
+use ranges::Depth;
 use rounding::HalfIntegerRounding;
 
 // The samples of `coefficients` into `out`. A depth outside its bounds is refused (12), then a value
@@ -18,7 +18,7 @@ pub fn idct_8x8_clipped(
     bits_per_pixel: u32,
     rounding: HalfIntegerRounding,
     out: &mut [[i32; 8]; 8],
-) -> IdctAnswer
+) -> Result<(), IdctError>
     ensures result_value { idct_outcome result ≡ checked ((depth_fine bits_per_pixel, 12) ∷ (values_fine bits_per_pixel coefficients, 13) ∷ []) (accepted tt) }
     ensures block { out.new ≡ block_after result (clipped rounding bits_per_pixel coefficients) out.old }
 {
@@ -31,27 +31,23 @@ pub fn idct_dc_clipped(
     bits_per_pixel: u32,
     rounding: HalfIntegerRounding,
     out: &mut [[i32; 8]; 8],
-) -> IdctAnswer
+) -> Result<(), IdctError>
     ensures result_value { idct_outcome result ≡ checked ((depth_fine bits_per_pixel, 12) ∷ (in_bounds (bits_per_pixel + 3) dc, 13) ∷ []) (accepted tt) }
     ensures block { out.new ≡ block_after result (clipped rounding bits_per_pixel (dc_block dc)) out.old }
 {
-    match Depth::value_limits(bits_per_pixel) {
-        DepthLimits::OutOfRange => IdctAnswer::DepthOutOfRange,
-        DepthLimits::Are(least, most) => {
-            if !ranges::inside(dc, least, most) {
-                return IdctAnswer::ValueOutOfLimits;
-            }
-            match Depth::saturation_limits(bits_per_pixel) {
-                DepthLimits::Are(_, hi) => {
-                    let value = dc_pass(dc_pass(dc as f64));
-                    let sample = ruled_sample(value, 0, hi, rounding);
-                    *out = [[sample; 8]; 8];
-                    IdctAnswer::Transformed
-                }
-                DepthLimits::OutOfRange => IdctAnswer::DepthOutOfRange,
-            }
-        }
+    let Some((least, most)) = Depth::value_limits(bits_per_pixel) else {
+        return Err(IdctError::DepthOutOfRange);
+    };
+    if !ranges::inside(dc, least, most) {
+        return Err(IdctError::ValueOutOfLimits);
     }
+    let Some((_, hi)) = Depth::saturation_limits(bits_per_pixel) else {
+        return Err(IdctError::DepthOutOfRange);
+    };
+    let value = dc_pass(dc_pass(dc as f64));
+    let sample = ruled_sample(value, 0, hi, rounding);
+    *out = [[sample; 8]; 8];
+    Ok(())
 }
 
 // The same of a DC and 1 at (7, 7). Its values are within the limits where the DC is.
@@ -60,7 +56,7 @@ pub fn idct_dc_and_last_clipped(
     bits_per_pixel: u32,
     rounding: HalfIntegerRounding,
     out: &mut [[i32; 8]; 8],
-) -> IdctAnswer
+) -> Result<(), IdctError>
     ensures result_value { idct_outcome result ≡ checked ((depth_fine bits_per_pixel, 12) ∷ (in_bounds (bits_per_pixel + 3) dc, 13) ∷ []) (accepted tt) }
     ensures block { out.new ≡ block_after result (clipped rounding bits_per_pixel (dc_and_last dc)) out.old }
 {

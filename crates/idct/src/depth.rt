@@ -5,10 +5,10 @@ ghost use Rattle.ranges.specs.Range.{depth_fine, highest, lowest};
 ghost use Rattle.idct.specs.Limits.{block_after, idct_outcome, values_fine};
 ghost use Rattle.idct.specs.ShortWays.{samples_in};
 
-use crate::limits::IdctAnswer;
+use crate::limits::IdctError;
 use crate::short::transform;
 use cosines::half_table;
-use ranges::{Depth, DepthLimits};
+use ranges::Depth;
 use rounding::HalfIntegerRounding;
 
 // The least sample: `lo`, or 0.
@@ -26,23 +26,21 @@ pub(crate) fn at_depth(
     signed: bool,
     rounding: HalfIntegerRounding,
     out: &mut [[i32; 8]; 8],
-) -> IdctAnswer
+) -> Result<(), IdctError>
     requires { length f.now ≡ 8 }
     ensures result_value { idct_outcome result ≡ checked ((depth_fine bits_per_pixel, 12) ∷ (values_fine bits_per_pixel f.now, 13) ∷ []) (accepted tt) }
     ensures block { out.new ≡ block_after result (samples_in rounding (cond signed (lowest bits_per_pixel) (pos 0)) (highest bits_per_pixel) f.now) out.old }
 {
-    match Depth::value_limits(bits_per_pixel) {
-        DepthLimits::OutOfRange => IdctAnswer::DepthOutOfRange,
-        DepthLimits::Are(least, most) => match Depth::saturation_limits(bits_per_pixel) {
-            DepthLimits::OutOfRange => IdctAnswer::DepthOutOfRange,
-            DepthLimits::Are(lo, hi) => {
-                let table = half_table();
-                let low = least_sample(signed, lo);
-                if !transform(f, &table, low, hi, rounding, least, most, out) {
-                    return IdctAnswer::ValueOutOfLimits;
-                }
-                IdctAnswer::Transformed
-            }
-        },
+    let Some((least, most)) = Depth::value_limits(bits_per_pixel) else {
+        return Err(IdctError::DepthOutOfRange);
+    };
+    let Some((lo, hi)) = Depth::saturation_limits(bits_per_pixel) else {
+        return Err(IdctError::DepthOutOfRange);
+    };
+    let table = half_table();
+    let low = least_sample(signed, lo);
+    if !transform(f, &table, low, hi, rounding, least, most, out) {
+        return Err(IdctError::ValueOutOfLimits);
     }
+    Ok(())
 }

@@ -14,12 +14,13 @@ ghost use Rattle.idct.specs.ShortWays.{Castable, dc_pass, idct1d, row_terms};
 
 use cosines::c;
 use eights::{add_term, both_terms, four_terms, halves, row_in, scaled};
-use rounding::{HalfIntegerRounding, Rounded, round_to_integer};
+use rounding::{HalfIntegerRounding, round_to_integer};
 
 // Whether a row has zeros only.
 pub(crate) fn zero_row(row: [i32; 8]) -> bool
     ensures { result ≡ every is_zero row }
 {
+    // no early end: no test waits for another
     let mut some: i32 = 0;
     for u in 0..8 {
         some = some | row[u];
@@ -104,6 +105,7 @@ pub(crate) fn clipped_row(near: [f64; 8], lo: i32, hi: i32) -> [i32; 8]
     let mut out = [0i32; 8];
     for x in 0..8 {
         let n = near[x] as i32;
+        // not `i32::clamp`, which asks that `lo` be at most `hi`
         out[x] = numbers::clamp(n, lo, hi);
     }
     out
@@ -116,8 +118,8 @@ pub(crate) fn ruled_sample(value: f64, lo: i32, hi: i32, rounding: HalfIntegerRo
 {
     let rounded = round_to_integer(value, rounding);
     match rounded {
-        Rounded::OutOfLimits => lo,
-        Rounded::Is(n) => numbers::clamp(n, lo, hi),
+        None => lo,
+        Some(n) => numbers::clamp(n, lo, hi),
     }
 }
 

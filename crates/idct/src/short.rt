@@ -21,13 +21,6 @@ use rounding::HalfIntegerRounding;
 
 // ---- by even and odd halves
 
-// How many rows are kept: those with a value that is not zero.
-#[derive(Clone, Copy)]
-enum KeptRows {
-    Are(usize),
-    OutOfLimits,
-}
-
 // The first pass over the even rows: the terms of those that are kept, by their even and odd terms, and
 // which rows they are. A value outside least..=most ends it.
 fn even_rows(
@@ -37,7 +30,7 @@ fn even_rows(
     most: i32,
     terms: &mut [[f64; 8]; 4],
     which: &mut [usize; 4],
-) -> KeptRows
+) -> Option<usize>
     requires { (table.now ≡ half_table) × (length f.now ≡ 8) × (length terms.old ≡ 4) × (length which.old ≡ 4) × (within least most (pos 0) ≡ true) }
     ensures { ToldHalf 0 f.now least most terms.new which.new result }
 {
@@ -47,14 +40,14 @@ fn even_rows(
         let row = f[v];
         if !zero_row(row) {
             if !row_within(row, least, most) {
-                return KeptRows::OutOfLimits;
+                return None;
             }
             paired_terms(&f[v], v, table, &mut terms[n]);
             which[n] = v;
             n += 1;
         }
     }
-    KeptRows::Are(n)
+    Some(n)
 }
 
 // The same for the odd rows: one function for both would not be unrolled.
@@ -65,7 +58,7 @@ fn odd_rows(
     most: i32,
     terms: &mut [[f64; 8]; 4],
     which: &mut [usize; 4],
-) -> KeptRows
+) -> Option<usize>
     requires { (table.now ≡ half_table) × (length f.now ≡ 8) × (length terms.old ≡ 4) × (length which.old ≡ 4) × (within least most (pos 0) ≡ true) }
     ensures { ToldHalf 1 f.now least most terms.new which.new result }
 {
@@ -75,14 +68,14 @@ fn odd_rows(
         let row = f[v];
         if !zero_row(row) {
             if !row_within(row, least, most) {
-                return KeptRows::OutOfLimits;
+                return None;
             }
             paired_terms(&f[v], v, table, &mut terms[n]);
             which[n] = v;
             n += 1;
         }
     }
-    KeptRows::Are(n)
+    Some(n)
 }
 
 // The sums of the second pass at y, over the rows that are kept of a half.
@@ -259,21 +252,16 @@ pub(crate) fn transform(
 {
     let mut evens = [[0.0f64; 8]; 4];
     let mut even = [0usize; 4];
-    match even_rows(f, table, least, most, &mut evens, &mut even) {
-        KeptRows::OutOfLimits => false,
-        KeptRows::Are(m) => {
-            let mut odds = [[0.0f64; 8]; 4];
-            let mut odd = [0usize; 4];
-            match odd_rows(f, table, least, most, &mut odds, &mut odd) {
-                KeptRows::OutOfLimits => false,
-                KeptRows::Are(n) => {
-                    if near_samples(&evens, &even, m, &odds, &odd, n, table, lo, hi, out) {
-                        return true;
-                    }
-                    slow(f, lo, hi, rounding, out);
-                    true
-                }
-            }
-        }
+    let Some(m) = even_rows(f, table, least, most, &mut evens, &mut even) else {
+        return false;
+    };
+    let mut odds = [[0.0f64; 8]; 4];
+    let mut odd = [0usize; 4];
+    let Some(n) = odd_rows(f, table, least, most, &mut odds, &mut odd) else {
+        return false;
+    };
+    if !near_samples(&evens, &even, m, &odds, &odd, n, table, lo, hi, out) {
+        slow(f, lo, hi, rounding, out);
     }
+    true
 }

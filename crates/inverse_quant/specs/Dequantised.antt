@@ -1,13 +1,13 @@
 -- Inverse quantisation of a block (7.4.4): F' by either method, F, and what is refused. Definitions only.
-use Rattle.std.specs.Prelude.{Bool, cond, ◌&&◌, List, ℕ, eqb, ℤ}
+use Rattle.std.specs.Prelude.{Bool, cond, ◌&&◌, List, ℕ, eqb, ℤ, Result, ⊤}
 use Rattle.numbers.specs.Every.{every}
 use Rattle.numbers.specs.Grid.{block, cell, cell_n}
 use Rattle.mismatch.specs.Mismatch.{mismatched}
 use Rattle.coefficients.specs.Level.{block_fine}
 use Rattle.prediction.specs.Refusal.{first_bad}
-use Rattle.prediction.specs.declared.refusal.Stage.{Stage}
 use Rattle.dequantise.specs.Methods.{context_fine, intra_dc, limited_f, method1, method2, non_zero}
 use Rattle.dequantise.specs.declared.context.InverseQuantContext.{InverseQuantContext}
+use Rattle.prediction.specs.declared.refusal.CoefficientError.{CoefficientError}
 
 -- the place of an intra block's DC
 abbrev pub is_dc : Bool → ℕ → ℕ → Bool
@@ -42,8 +42,8 @@ dequantised2 ctx qf = f_prime2 ctx qf
 
 -- ---- what is refused
 
-abbrev pub answer1 : InverseQuantContext → List (List ℕ) → List (List ℤ) → Stage
+abbrev pub answer1 : InverseQuantContext → List (List ℕ) → List (List ℤ) → Result ⊤ CoefficientError
 answer1 ctx w qf = first_bad (context_fine ctx && every (every non_zero) w) (block_fine qf)
 
-abbrev pub answer2 : InverseQuantContext → List (List ℤ) → Stage
+abbrev pub answer2 : InverseQuantContext → List (List ℤ) → Result ⊤ CoefficientError
 answer2 ctx qf = first_bad (context_fine ctx) (block_fine qf)

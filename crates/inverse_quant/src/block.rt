@@ -13,7 +13,7 @@ use crate::rows::{block_fine, fill1, fill2};
 use crate::value::saturate_fprime;
 use dequantise::{InverseQuantContext, context_fine, matrix_fine};
 use mismatch::last_value;
-use prediction::{CoefficientError, Stage, Value};
+use prediction::CoefficientError;
 
 // The first value: the DC's rule in an intra block, which is never refused here, else `value`, which is the method's.
 fn first_value(level: i32, value: i32, ctx: InverseQuantContext) -> i32
@@ -25,10 +25,9 @@ fn first_value(level: i32, value: i32, ctx: InverseQuantContext) -> i32
     }
     let component = ctx.component;
     let q = ctx.quantiser_scale;
-    let dc = dequantise::inverse_quant_intra_dc(level, component, q, ctx.short_video_header);
-    match dc {
-        Value::Refused(_) => 0,
-        Value::Is(z) => saturate_fprime(z, ctx.bits_per_pixel),
+    match dequantise::inverse_quant_intra_dc(level, component, q, ctx.short_video_header) {
+        Err(_) => 0,
+        Ok(z) => saturate_fprime(z, ctx.bits_per_pixel),
     }
 }
 
@@ -39,12 +38,12 @@ fn rows1(
     ctx: InverseQuantContext,
     control: bool,
     out: &mut [[i32; 8]; 8],
-) -> Stage
+) -> Result<(), CoefficientError>
     requires { ContextGood ctx × (length qf.now ≡ 8) }
     ensures { (result ≡ first_bad true (block_fine qf.now)) × (out.new ≡ after (first_bad true (block_fine qf.now)) (dequantised1 control ctx w.now qf.now) out.old) }
 {
     if !block_fine(qf) {
-        return Stage::Refused(CoefficientError::HandedIn);
+        return Err(CoefficientError::HandedIn);
     }
     *out = [[0i32; 8]; 8];
     let filled = fill1(qf, w, ctx, out);
@@ -52,21 +51,25 @@ fn rows1(
     let sum = filled - out[0][0] + dc;
     out[0][0] = dc;
     out[7][7] = last_value(control, sum, out[7][7]);
-    Stage::Done
+    Ok(())
 }
 
 // 7.4.4 by method 2 into `out`; or 13, and `out` as it was.
-fn rows2(qf: &[[i32; 8]; 8], ctx: InverseQuantContext, out: &mut [[i32; 8]; 8]) -> Stage
+fn rows2(
+    qf: &[[i32; 8]; 8],
+    ctx: InverseQuantContext,
+    out: &mut [[i32; 8]; 8],
+) -> Result<(), CoefficientError>
     requires { ContextGood ctx × (length qf.now ≡ 8) }
     ensures { (result ≡ first_bad true (block_fine qf.now)) × (out.new ≡ after (first_bad true (block_fine qf.now)) (dequantised2 ctx qf.now) out.old) }
 {
     if !block_fine(qf) {
-        return Stage::Refused(CoefficientError::HandedIn);
+        return Err(CoefficientError::HandedIn);
     }
     *out = [[0i32; 8]; 8];
     fill2(qf, ctx, out);
     out[0][0] = first_value(qf[0][0], out[0][0], ctx);
-    Stage::Done
+    Ok(())
 }
 
 // 7.4.4 by method 1, with or without mismatch control, or by method 2, into `out`; or 12 or 13, and `out` as it was.
@@ -77,22 +80,20 @@ pub fn inverse_quant_rows(
     method1: bool,
     control: bool,
     out: &mut [[i32; 8]; 8],
-) -> Stage
+) -> Result<(), CoefficientError>
     ensures value { (result ≡ answer_by method1 ctx w qf) × (out.new ≡ after (answer_by method1 ctx w qf) (dequantised_by method1 control ctx w qf) out.old) }
     ensures outcome { stage_outcome result ≡ due_by method1 ctx w qf }
 {
     if !context_fine(ctx) {
-        return Stage::Refused(CoefficientError::Context);
+        return Err(CoefficientError::Context);
     }
-    let levels = &qf;
     if !method1 {
-        return rows2(levels, ctx, out);
+        return rows2(&qf, ctx, out);
     }
     if !matrix_fine(w) {
-        return Stage::Refused(CoefficientError::Context);
+        return Err(CoefficientError::Context);
     }
-    let weights = &w;
-    rows1(levels, weights, ctx, control, out)
+    rows1(&qf, &w, ctx, control, out)
 }
 
 // 7.4.4 by method 1, with mismatch control.
@@ -101,7 +102,7 @@ pub fn inverse_quant_method1(
     w: [[u8; 8]; 8],
     ctx: InverseQuantContext,
     out: &mut [[i32; 8]; 8],
-) -> Stage
+) -> Result<(), CoefficientError>
     ensures value { (result ≡ answer1 ctx w qf) × (out.new ≡ after (answer1 ctx w qf) (dequantised1 true ctx w qf) out.old) }
     ensures outcome { stage_outcome result ≡ due1 ctx w qf }
 {
@@ -114,7 +115,7 @@ pub fn inverse_quant_method1_no_mismatch(
     w: [[u8; 8]; 8],
     ctx: InverseQuantContext,
     out: &mut [[i32; 8]; 8],
-) -> Stage
+) -> Result<(), CoefficientError>
     ensures value { (result ≡ answer1 ctx w qf) × (out.new ≡ after (answer1 ctx w qf) (dequantised1 false ctx w qf) out.old) }
     ensures outcome { stage_outcome result ≡ due1 ctx w qf }
 {
@@ -126,7 +127,7 @@ pub fn inverse_quant_method2(
     qf: [[i32; 8]; 8],
     ctx: InverseQuantContext,
     out: &mut [[i32; 8]; 8],
-) -> Stage
+) -> Result<(), CoefficientError>
     ensures value { (result ≡ answer2 ctx qf) × (out.new ≡ after (answer2 ctx qf) (dequantised2 ctx qf) out.old) }
     ensures outcome { stage_outcome result ≡ due2 ctx qf }
 {

@@ -12,8 +12,8 @@ fn row_zero(row: [i32; 8]) -> bool
     ensures { result ≡ every is_zero row }
 {
     let mut some: i32 = 0;
-    for u in 0..8 {
-        some = some | row[u];
+    for x in &row {
+        some |= *x;
     }
     some == 0
 }
@@ -24,6 +24,7 @@ fn row1(levels: [i32; 8], weights: [u8; 8], ctx: InverseQuantContext) -> [i32; 8
     ensures { result ≡ row_by1 ctx weights levels }
 {
     let mut row = [0i32; 8];
+    // an index: three rows go together
     for u in 0..8 {
         row[u] = value1(levels[u], weights[u], ctx);
     }
@@ -36,6 +37,7 @@ fn row2(levels: [i32; 8], ctx: InverseQuantContext) -> [i32; 8]
     ensures { result ≡ row_by2 ctx levels }
 {
     let mut row = [0i32; 8];
+    // an index, as in `row1`
     for u in 0..8 {
         row[u] = value2(levels[u], ctx);
     }
@@ -48,6 +50,7 @@ fn added(sums: [i32; 8], row: [i32; 8]) -> [i32; 8]
     ensures { result ≡ with_row sums row }
 {
     let mut out = [0i32; 8];
+    // an index: three rows go together
     for u in 0..8 {
         out[u] = sums[u] + row[u];
     }
@@ -60,8 +63,8 @@ pub(crate) fn sum_of(sums: [i32; 8]) -> i32
     ensures { result ≡ sum_z sums }
 {
     let mut sum: i32 = 0;
-    for u in 0..8 {
-        sum += sums[u];
+    for x in &sums {
+        sum += *x;
     }
     sum
 }
@@ -91,8 +94,7 @@ pub(crate) fn put2(levels: [i32; 8], ctx: InverseQuantContext, row: &mut [i32; 8
     requires { LevelsRow levels × ContextGood ctx × (row.old ≡ zeros) }
     ensures { row.new ≡ row_by2 ctx levels }
 {
-    if row_zero(levels) {
-        return;
+    if !row_zero(levels) {
+        *row = row2(levels, ctx);
     }
-    *row = row2(levels, ctx);
 }

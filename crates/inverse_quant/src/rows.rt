@@ -14,10 +14,8 @@ pub(crate) fn block_fine(qf: &[[i32; 8]; 8]) -> bool
     ensures { result ≡ block_fine qf.now }
 {
     let mut fine = true;
-    for v in 0..8 {
-        let row = qf[v];
-        let levels = dequantise::row_fine(row);
-        fine = fine & levels;
+    for row in qf {
+        fine &= dequantise::row_fine(*row);
     }
     fine
 }
@@ -33,6 +31,7 @@ pub(crate) fn fill1(
     ensures { (f.new ≡ rows_by1 ctx w.now qf.now) × (result ≡ sum_of (rows_by1 ctx w.now qf.now)) }
 {
     let mut sums = [0i32; 8];
+    // an index: three blocks go together
     for v in 0..8 {
         let levels = qf[v];
         let weights = w[v];
@@ -47,6 +46,7 @@ pub(crate) fn fill2(qf: &[[i32; 8]; 8], ctx: InverseQuantContext, f: &mut [[i32;
     requires { ContextGood ctx × (length qf.now ≡ 8) × (block_fine qf.now ≡ true) × (f.old ≡ build 8 (λ (v : ℕ). zeros)) }
     ensures { f.new ≡ rows_by2 ctx qf.now }
 {
+    // an index: two blocks go together
     for v in 0..8 {
         let levels = qf[v];
         put2(levels, ctx, &mut f[v]);

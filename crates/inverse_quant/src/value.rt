@@ -4,7 +4,7 @@ ghost use Rattle.dequantise.specs.Methods.{limited_f, method1, method2, signum};
 ghost use Rattle.inverse_quant.specs.ByRows.{ContextGood};
 
 use dequantise::InverseQuantContext;
-use ranges::{Depth, DepthLimits};
+use ranges::Depth;
 
 // The product of a level, its weight and the quantiser, at most 2048 * 255 * 31. So it is exact in an f32, as is each product on the
 // way, and four are taken at a time; 0 is added so that no -0 is left.
@@ -21,10 +21,9 @@ pub(crate) fn saturate_fprime(value: i32, bits_per_pixel: u32) -> i32
     requires { (4 ≤ bits_per_pixel) × (bits_per_pixel ≤ 12) }
     ensures { result ≡ limited_f bits_per_pixel value }
 {
-    let limits = Depth::value_limits(bits_per_pixel);
-    match limits {
-        DepthLimits::OutOfRange => value,
-        DepthLimits::Are(lo, hi) => numbers::clamp(value, lo, hi),
+    match Depth::value_limits(bits_per_pixel) {
+        None => value,
+        Some((lo, hi)) => numbers::clamp(value, lo, hi),
     }
 }
 
@@ -33,13 +32,11 @@ fn signed_as(level: i32, n: i32) -> i32
     requires { nat_abs n ≤ 31 }
     ensures { (result ≡ signum level *ℤ n) × (nat_abs result ≤ 31) }
 {
-    if level < 0 {
-        return -n;
+    match level {
+        ..0 => -n,
+        0 => 0,
+        1.. => n,
     }
-    if level == 0 {
-        return 0;
-    }
-    n
 }
 
 // By method 1 in a macroblock that is not intra, limited.

@@ -29,8 +29,6 @@ use Rattle.assembly.specs.Values.{context_fine}
 use Rattle.assembly.specs.declared.context.MacroblockTextureContext.{MacroblockTextureContext}
 use Rattle.assembly.specs.declared.error.BlockAssemblyError.{BlockAssemblyError}
 use Rattle.assembly.specs.declared.error.BlockAssemblyError.TheVariants.{TooShort}
-use Rattle.assembly.specs.declared.error.Checked.{Checked}
-use Rattle.assembly.specs.declared.error.Checked.TheVariants.{Bad, Fine}
 use Rattle.macroblock.proofs.DemandLaws.{Call, demand, stopped_of}
 use Rattle.macroblock.proofs.SixLaws.{values_six_fine}
 use Rattle.macroblock.proofs.StateLaws.{StateFine, state-fine}
@@ -39,13 +37,13 @@ use Rattle.macroblock.specs.Answer.{answer_by, kept_by, macroblock_answer, sampl
 use Rattle.headers.specs.Fields.{header_tests, pattern_by}
 use Rattle.headers.specs.Outcomes.{header_numbers}
 use Rattle.macroblock.specs.Outcomes.{bits_said, macroblock_due, macroblock_outcome}
-use Rattle.macroblock.specs.declared.decode.MacroblockDecoded.{MacroblockDecoded}
-use Rattle.macroblock.specs.declared.decode.MacroblockDecoded.TheVariants.{Decoded, Refused}
 use Rattle.headers.specs.declared.header.MacroblockHeader.{MacroblockHeader}
+use Rattle.std.specs.Prelude.{Err, Ok, Result, ⊤}
+use Rattle.macroblock.specs.declared.decode.MacroblockDecoded.{MacroblockDecoded}
 
 module _ (d : List ℕ) (at : ℕ) (h : MacroblockHeader) (dc_coded rev : Bool) (x : MacroblockTextureContext) (p : BlockPredictors) (w : List (List ℕ)) (old : List ℤ) where
   -- what the public contract says
-  abbrev pub Meets : MacroblockDecoded → List ℤ → Type 0
+  abbrev pub Meets : Result MacroblockDecoded BlockAssemblyError → List ℤ → Type 0
   Meets r out =
       (r ≡ macroblock_answer d at h dc_coded rev x p w old)
       × ((out ≡ samples_out d at h dc_coded rev x p w old)
@@ -53,35 +51,35 @@ module _ (d : List ℕ) (at : ℕ) (h : MacroblockHeader) (dc_coded rev : Bool) 
       × ((macroblock_outcome r ≡ macroblock_due d at h dc_coded rev x p w (length old)) × StoppedAlone d at h dc_coded rev x p w (length old) r)))
 
   -- the answer by number
-  by_number : {r : MacroblockDecoded} → r ≡ macroblock_answer d at h dc_coded rev x p w old → macroblock_outcome r ≡ macroblock_due d at h dc_coded rev x p w (length old)
+  by_number : {r : Result MacroblockDecoded BlockAssemblyError} → r ≡ macroblock_answer d at h dc_coded rev x p w old → macroblock_outcome r ≡ macroblock_due d at h dc_coded rev x p w (length old)
   unfolding macroblock_answer state_of
   by_number e =
       ap macroblock_outcome e
-      ∙ answered macroblock_outcome (λ (k : Checked). answer_by k (told d at (sentence_of d at h dc_coded rev))) (λ e. refl)
+      ∙ answered macroblock_outcome (λ (k : Result ⊤ BlockAssemblyError). answer_by k (told d at (sentence_of d at h dc_coded rev))) (λ e. refl)
       (tests_of d at x p w ++ ((leb 384 (length old), TooShort) ∷ header_tests h)) (refl, (refl, (refl, (refl, (refl, (refl, tt))))))
       ∙ ap (checked ((in_data (length d) at, 11) ∷ (context_fine x w, 12) ∷ (predictors_fine p, 13) ∷ (leb 384 (length old), 14) ∷ header_numbers h))
       (read_by macroblock_outcome (told d at) (bits_said at) d (λ a r. refl) (λ e. refl) (sentence_of d at h dc_coded rev))
 
-  pub refused : {e : BlockAssemblyError} → state_of d at h x p w (length old) ≡ Bad e → Meets (Refused e) old
+  pub refused : {e : BlockAssemblyError} → state_of d at h x p w (length old) ≡ Err e → Meets (Err e) old
   unfolding macroblock_answer samples_out
   refused {e} q =
-      let a = sym (ap (λ (s : Checked). answer_by s (told d at (sentence_of d at h dc_coded rev))) q) in (
+      let a = sym (ap (λ (s : Result ⊤ BlockAssemblyError). answer_by s (told d at (sentence_of d at h dc_coded rev))) q) in (
         a,
         (
-          sym (ap (λ (s : Checked). kept_by s (samples_told h dc_coded x p w (sentence_of d at h dc_coded rev) old) old) q),
+          sym (ap (λ (s : Result ⊤ BlockAssemblyError). kept_by s (samples_told h dc_coded x p w (sentence_of d at h dc_coded rev) old) old) q),
           (λ f. absurd (let z : ◌≡◌ {A = ℕ} 0 1 = cc in omega arith), (by_number a, λ f. absurd (let z : ◌≡◌ {A = ℕ} 0 1 = cc in omega arith))),
         ),
       )
 
-  module _ (q : state_of d at h x p w (length old) ≡ Fine) (r : MacroblockDecoded) (out : List ℤ)
+  module _ (q : state_of d at h x p w (length old) ≡ Ok tt) (r : Result MacroblockDecoded BlockAssemblyError) (out : List ℤ)
       (e : r ≡ told d at (sentence_of d at h dc_coded rev)) (f : out ≡ samples_told h dc_coded x p w (sentence_of d at h dc_coded rev) old) where
     fine : StateFine d at x p w (length old)
     fine = state-fine d at h x p w (length old) q
 
-    length-is : (n : ℕ) (c : Cursor) (k : Spellings) → c ≡ cursor_at (at + n) → Decoded (c.bit_pos - at) c k ≡ Decoded n (cursor_at (at + n)) k
+    length-is : (n : ℕ) (c : Cursor) (k : Spellings) → c ≡ cursor_at (at + n) → ◌≡◌ {A = Result MacroblockDecoded BlockAssemblyError} (Ok (record { bits = c.bit_pos - at; next = c; spellings = k })) (Ok (record { bits = n; next = cursor_at (at + n); spellings = k }))
     length-is n c counts g =
         let k : c.bit_pos - at ≡ n = let m = ap (λ (y : Cursor). y.bit_pos) g in omega arith in
-        ap₂ (λ (m : ℕ) (y : Cursor). Decoded m y counts) k g
+        ap₂ (λ (m : ℕ) (y : Cursor). Ok (record { bits = m; next = y; spellings = counts })) k g
 
     call : Call (read_macroblock dc_coded rev (pattern_by h)) d at x (values_alone h dc_coded x p w) (Accepted r) (Told at r) old out
     unfolding sentence_of
@@ -100,10 +98,10 @@ module _ (d : List ℕ) (at : ℕ) (h : MacroblockHeader) (dc_coded rev : Bool) 
     pub whole : Meets r out
     unfolding macroblock_answer samples_out sentence_of
     whole =
-        let a = e ∙ sym (ap (λ (s : Checked). answer_by s (told d at (sentence_of d at h dc_coded rev))) q) in (
+        let a = e ∙ sym (ap (λ (s : Result ⊤ BlockAssemblyError). answer_by s (told d at (sentence_of d at h dc_coded rev))) q) in (
           a,
           (
-            f ∙ sym (ap (λ (s : Checked). kept_by s (samples_told h dc_coded x p w (sentence_of d at h dc_coded rev) old) old) q),
+            f ∙ sym (ap (λ (s : Result ⊤ BlockAssemblyError). kept_by s (samples_told h dc_coded x p w (sentence_of d at h dc_coded rev) old) old) q),
             (
               λ _. demand (read_macroblock dc_coded rev (pattern_by h)) d at (macroblock_bits (pattern_by h)) (GoodMacroblock dc_coded rev (pattern_by h)) (macroblock_sentences dc_coded rev (pattern_by h)) x (values_alone h dc_coded x p w) (Accepted r) (Told at r) old out
                   (in_data_yes (length d) at fine.inside).1 (depth-fine x w fine.context) (λ s i l. values_six_fine x p w (rows_of dc_coded (pattern_by h) s) i l) fine.roomy call,

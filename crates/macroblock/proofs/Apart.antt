@@ -17,8 +17,6 @@ use Rattle.assembly.proofs.Apart.{Told, after-told, answers-apart, fine, first_t
 use Rattle.assembly.specs.Answer.{tests_of}
 use Rattle.assembly.specs.declared.context.MacroblockTextureContext.{MacroblockTextureContext}
 use Rattle.assembly.specs.declared.error.BlockAssemblyError.TheVariants.{TooShort}
-use Rattle.assembly.specs.declared.error.Checked.{Checked}
-use Rattle.assembly.specs.declared.error.Checked.TheVariants.{Bad}
 use Rattle.macroblock.specs.Answer.{answer_by, macroblock_answer, room_of, sentence_of, state_of, told}
 use Rattle.headers.proofs.HeaderLaws.{header_by_bits}
 use Rattle.headers.specs.Fields.{header_tests, pattern_by, pattern_in}
@@ -27,34 +25,34 @@ use Rattle.headers.specs.declared.parse.HeaderFields.{HeaderFields}
 use Rattle.macroblock.specs.Outcomes.{macroblock_outcome}
 use Rattle.macroblock.specs.WholeAnswer.{whole_answer, whole_by, whole_of, whole_outcome, whole_told}
 use Rattle.macroblock.specs.WholeReader.{read_whole}
-use Rattle.macroblock.specs.declared.decode.MacroblockDecoded.{MacroblockDecoded}
-use Rattle.macroblock.specs.declared.decode.MacroblockDecoded.TheVariants.{Decoded, Refused}
-use Rattle.macroblock.specs.declared.whole.WholeDecoded.{WholeDecoded}
-use Rattle.macroblock.specs.declared.whole.WholeDecoded.TheVariants.{Decoded as WholeIs, Refused as WholeRefused}
 use Rattle.headers.specs.declared.header.MacroblockHeader.{MacroblockHeader}
+use Rattle.std.specs.Prelude.{Err, Ok, Result, ⊤}
+use Rattle.assembly.specs.declared.error.BlockAssemblyError.{BlockAssemblyError}
+use Rattle.macroblock.specs.declared.decode.MacroblockDecoded.{MacroblockDecoded}
+use Rattle.macroblock.specs.declared.whole.WholeDecoded.{WholeDecoded}
 
 -- what is read of a macroblock is refused by 1 to 8 or 17
 pub sentence_by_bits : (d : List ℕ) (at : ℕ) (h : MacroblockHeader) (dc_coded rev : Bool) → ByBits (sentence_of d at h dc_coded rev)
 unfolding sentence_of
 sentence_by_bits d at h dc_coded rev = macroblock_by_bits dc_coded rev (pattern_by h) (bits_from d at)
 
-abbrev pub decoded : ℕ × (ℕ × Spellings) → MacroblockDecoded
-decoded a = Decoded a.0 (cursor_at a.1.0) a.1.1
+abbrev pub decoded : ℕ × (ℕ × Spellings) → Result MacroblockDecoded BlockAssemblyError
+decoded a = Ok (record { bits = a.0; next = cursor_at a.1.0; spellings = a.1.1 })
 
-pub macroblock-apart : (r s : MacroblockDecoded) → Told decoded Refused r → Told decoded Refused s → macroblock_outcome r ≡ macroblock_outcome s → r ≡ s
-macroblock-apart = answers-apart decoded Refused macroblock_outcome (λ a. refl) (λ e. refl)
+pub macroblock-apart : (r s : Result MacroblockDecoded BlockAssemblyError) → Told decoded Err r → Told decoded Err s → macroblock_outcome r ≡ macroblock_outcome s → r ≡ s
+macroblock-apart = answers-apart decoded Err macroblock_outcome (λ a. refl) (λ e. refl)
 
 module _ (d : List ℕ) (at : ℕ) (h : MacroblockHeader) (dc_coded rev : Bool) (x : MacroblockTextureContext) (p : BlockPredictors) (w : List (List ℕ)) where
-  state-told : (room : ℕ) → Told fine Bad (state_of d at h x p w room)
+  state-told : (room : ℕ) → Told fine Err (state_of d at h x p w room)
   unfolding state_of
   state-told room = first_told (tests_of d at x p w ++ ((leb 384 room, TooShort) ∷ header_tests h)) (tt, (tt, (tt, (tt, (tt, (tt, tt))))))
 
-  pub macroblock-told : (old : List ℤ) → Told decoded Refused (macroblock_answer d at h dc_coded rev x p w old)
+  pub macroblock-told : (old : List ℤ) → Told decoded Err (macroblock_answer d at h dc_coded rev x p w old)
   unfolding macroblock_answer
   macroblock-told old =
       let y = sentence_of d at h dc_coded rev in
-      after-told decoded Refused (λ (k : Checked). answer_by k (told d at y)) (λ e. refl)
-      (read_told decoded Refused (told d at) (λ s r. taken (_, (_, _)) refl) (λ e. refl) y (sentence_by_bits d at h dc_coded rev))
+      after-told decoded Err (λ (k : Result ⊤ BlockAssemblyError). answer_by k (told d at y)) (λ e. refl)
+      (read_told decoded Err (told d at) (λ s r. taken (_, (_, _)) refl) (λ e. refl) y (sentence_by_bits d at h dc_coded rev))
       (state_of d at h x p w (length old)) (state-told (length old))
 
 -- ---- a whole macroblock
@@ -63,15 +61,15 @@ module _ (d : List ℕ) (at : ℕ) (h : MacroblockHeader) (dc_coded rev : Bool) 
 pub whole_by_bits : (dc_coded rev : Bool) (b : Bits) → ByBits (read_whole dc_coded rev b)
 whole_by_bits dc_coded rev b = then (read_header b) _ (header_by_bits b) (λ h r. then (read_macroblock dc_coded rev (pattern_in h) r) _ (macroblock_by_bits dc_coded rev (pattern_in h) r) (λ s r. tt))
 
-abbrev pub wholly : ℕ × (ℕ × (Spellings × HeaderFields)) → WholeDecoded
-wholly a = WholeIs a.0 (cursor_at a.1.0) a.1.1.0 a.1.1.1
+abbrev pub wholly : ℕ × (ℕ × (Spellings × HeaderFields)) → Result WholeDecoded BlockAssemblyError
+wholly a = Ok (record { bits = a.0; next = cursor_at a.1.0; spellings = a.1.1.0; fields = a.1.1.1 })
 
-pub whole_apart : (r s : WholeDecoded) → Told wholly WholeRefused r → Told wholly WholeRefused s → whole_outcome r ≡ whole_outcome s → r ≡ s
-whole_apart = answers-apart wholly WholeRefused whole_outcome (λ a. refl) (λ e. refl)
+pub whole_apart : (r s : Result WholeDecoded BlockAssemblyError) → Told wholly Err r → Told wholly Err s → whole_outcome r ≡ whole_outcome s → r ≡ s
+whole_apart = answers-apart wholly Err whole_outcome (λ a. refl) (λ e. refl)
 
-pub whole-told : (d : List ℕ) (at : ℕ) (dc_coded rev : Bool) (x : MacroblockTextureContext) (p : BlockPredictors) (w : List (List ℕ)) (old : List ℤ) → Told wholly WholeRefused (whole_answer d at dc_coded rev x p w old)
+pub whole-told : (d : List ℕ) (at : ℕ) (dc_coded rev : Bool) (x : MacroblockTextureContext) (p : BlockPredictors) (w : List (List ℕ)) (old : List ℤ) → Told wholly Err (whole_answer d at dc_coded rev x p w old)
 unfolding whole_answer whole_of room_of
 whole-told d at dc_coded rev x p w old =
-    after-told wholly WholeRefused (λ (k : Checked). whole_by k (whole_told d at x.quantiser_scale (whole_of d at dc_coded rev))) (λ e. refl)
-    (read_told wholly WholeRefused (whole_told d at x.quantiser_scale) (λ m r. taken (_, (_, (_, _))) refl) (λ e. refl) (whole_of d at dc_coded rev) (whole_by_bits dc_coded rev (bits_from d at)))
+    after-told wholly Err (λ (k : Result ⊤ BlockAssemblyError). whole_by k (whole_told d at x.quantiser_scale (whole_of d at dc_coded rev))) (λ e. refl)
+    (read_told wholly Err (whole_told d at x.quantiser_scale) (λ m r. taken (_, (_, (_, _))) refl) (λ e. refl) (whole_of d at dc_coded rev) (whole_by_bits dc_coded rev (bits_from d at)))
     (room_of d at x p w (length old)) (first_told (tests_of d at x p w ++ ((leb 384 (length old), TooShort) ∷ [])) (tt, (tt, (tt, (tt, tt)))))

@@ -11,8 +11,6 @@ use Rattle.samples.specs.Samples.{samples_after}
 use Rattle.sentences.specs.Macroblock.{Parts}
 use Rattle.fields.specs.Reader.{Res}
 use Rattle.fields.specs.declared.error.TextureParseError.{TextureParseError}
-use Rattle.texture.specs.declared.list.EventsRead.{EventsRead}
-use Rattle.texture.specs.declared.list.EventsRead.TheVariants.{Read, Refused as Unread}
 use Rattle.block.proofs.RowLaws.{SixRead, six_read, six_refused}
 use Rattle.block_reader.specs.Rows.{blocks_answer, rows_after}
 use Rattle.coefficients.specs.Level.{places_fine, predictors_fine}
@@ -20,18 +18,18 @@ use Rattle.prediction.specs.declared.predictor.BlockPredictors.{BlockPredictors}
 use Rattle.assembly.specs.Values.{context_fine}
 use Rattle.assembly.specs.declared.context.MacroblockTextureContext.{MacroblockTextureContext}
 use Rattle.assembly.specs.declared.error.BlockAssemblyError.TheVariants.{Texture}
-use Rattle.assembly.specs.declared.error.Checked.TheVariants.{Fine}
 use Rattle.headers.specs.Fields.{pattern_by}
 use Rattle.headers.specs.declared.header.MacroblockHeader.{MacroblockHeader}
 use Rattle.window_reader.specs.Ends.{ends_of}
 use Rattle.macroblock.proofs.StateLaws.{StateFine, state-fine}
 use Rattle.macroblock.specs.Answer.{samples_told, sentence_of, state_of, told}
 use Rattle.macroblock.specs.Six.{samples_of_six, values_of_six}
+use Rattle.std.specs.Prelude.{Err, Ok, Result}
 use Rattle.macroblock.specs.declared.decode.MacroblockDecoded.{MacroblockDecoded}
-use Rattle.macroblock.specs.declared.decode.MacroblockDecoded.TheVariants.{Decoded, Refused}
+use Rattle.assembly.specs.declared.error.BlockAssemblyError.{BlockAssemblyError}
 
 module _ (d : List ℕ) (at : ℕ) (header : MacroblockHeader) (dc_coded rev : Bool) (x : MacroblockTextureContext) (p : BlockPredictors) (w : List (List ℕ)) (old : List ℤ)
-    (q : state_of d at header x p w (length old) ≡ Fine) (pattern : List Bool) (e : pattern ≡ pattern_by header) (answer : EventsRead) (f : answer ≡ blocks_answer d at pattern dc_coded rev) where
+    (q : state_of d at header x p w (length old) ≡ Ok tt) (pattern : List Bool) (e : pattern ≡ pattern_by header) (answer : Result (Cursor × Spellings) TextureParseError) (f : answer ≡ blocks_answer d at pattern dc_coded rev) where
   fine : StateFine d at x p w (length old)
   fine = state-fine d at header x p w (length old) q
 
@@ -39,34 +37,34 @@ module _ (d : List ℕ) (at : ℕ) (header : MacroblockHeader) (dc_coded rev : B
   answered = f ∙ ap (λ (ps : List Bool). blocks_answer d at ps dc_coded rev) e
 
   -- what is told, and what the samples hold
-  abbrev Tells : MacroblockDecoded → List ℤ → Type 0
+  abbrev Tells : Result MacroblockDecoded BlockAssemblyError → List ℤ → Type 0
   Tells r out = (r ≡ told d at (sentence_of d at header dc_coded rev)) × (out ≡ samples_told header dc_coded x p w (sentence_of d at header dc_coded rev) old)
 
   -- no sentence
-  pub unread : {n : TextureParseError} → answer ≡ Unread n → Tells (Refused (Texture n)) old
+  pub unread : {n : TextureParseError} → answer ≡ Err n → Tells (Err (Texture n)) old
   unfolding sentence_of
   unread k =
       let n = six_refused d at (pattern_by header) dc_coded rev fine.inside answer answered k in
       (sym (ap (told d at) n), sym (ap (λ (y : Res (List Parts)). samples_told header dc_coded x p w y old) n))
 
   -- a sentence, up to `next`
-  module _ (rows before : List (List ℤ)) (g : rows ≡ rows_after d at pattern dc_coded rev before) (next : Cursor) (counts : Spellings) (k : answer ≡ Read next counts) where
+  module _ (rows before : List (List ℤ)) (g : rows ≡ rows_after d at pattern dc_coded rev before) (next : Cursor) (counts : Spellings) (k : answer ≡ Ok (next, counts)) where
     read : SixRead d at (pattern_by header) dc_coded rev rows next counts
     read = six_read d at (pattern_by header) dc_coded rev fine.inside answer answered rows before (g ∙ ap (λ (ps : List Bool). rows_after d at ps dc_coded rev before) e) k
 
     pub forward : at ≤ next.bit_pos
     forward = read.onward
 
-    pub told-read : Decoded (next.bit_pos - at) next counts ≡ told d at (sentence_of d at header dc_coded rev)
+    pub told-read : Ok (record { bits = next.bit_pos - at; next = next; spellings = counts }) ≡ told d at (sentence_of d at header dc_coded rev)
     unfolding sentence_of
-    told-read = ap₂ (λ (y : Cursor) (m : Spellings). Decoded (y.bit_pos - at) y m) read.place read.counts_are ∙ sym (ap (told d at) read.read)
+    told-read = ap₂ (λ (y : Cursor) (m : Spellings). Ok (record { bits = y.bit_pos - at; next = y; spellings = m })) read.place read.counts_are ∙ sym (ap (told d at) read.read)
 
     pub six_ready : (ends : List ℕ) → ends ≡ ends_of rows
         → (384 ≤ length old) × (context_fine x w ≡ true) × (predictors_fine p ≡ true) × (ends ≡ ends_of rows) × ((i : ℕ) → i < 6 → (places_fine (get_or rows i []) ≡ true) × (length (get_or rows i []) ≡ 64))
     six_ready ends m = (fine.roomy, fine.context, fine.predictors, m, λ i l. (read.fine i l, read.long i l))
 
     -- with its samples
-    pub decoded : (out : List ℤ) → out ≡ samples_after (samples_of_six x (values_of_six x p w rows)) old → Tells (Decoded (next.bit_pos - at) next counts) out
+    pub decoded : (out : List ℤ) → out ≡ samples_after (samples_of_six x (values_of_six x p w rows)) old → Tells (Ok (record { bits = next.bit_pos - at; next = next; spellings = counts })) out
     unfolding sentence_of
     decoded out b =
         let values = ap (values_of_six x p w) read.rows_are in

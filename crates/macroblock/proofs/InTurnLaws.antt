@@ -1,7 +1,7 @@
 -- A macroblock's reading is the block's taken six times, and so are its values and its counts. Assumes nothing.
 use mathlib.Core.Bool.{Bool}
 use mathlib.Core.List.{List, [], ◌∷◌}
-use mathlib.Core.Option.{none}
+use Rattle.std.specs.Prelude.{None}
 use mathlib.Core.Path.{◌≡◌, ap, refl, sym, ◌∙◌}
 use Prim.Native.Nat.{ℕ, suc, zero, ◌*◌, ◌<◌, ◌≤◌}
 use native.Mathlib.Omega.{arith}
@@ -53,12 +53,12 @@ module _ (d : List ℕ) (dc_coded rev : Bool) where
 
 -- the values of each block are those that the block's reading gives
 pub six_values : (d : List ℕ) (h : MacroblockHeader) (dc_coded : Bool) (x : MacroblockTextureContext) (p : BlockPredictors) (w : List (List ℕ)) (a b c e f g : Parts) (i : ℕ) → i < 6
-    → let s = a ∷ b ∷ c ∷ e ∷ f ∷ g ∷ [] in block_at (values_alone h dc_coded x p w s) i ≡ values_in d (component_at i) dc_coded x p w (get_or s i (none, none))
+    → let s = a ∷ b ∷ c ∷ e ∷ f ∷ g ∷ [] in block_at (values_alone h dc_coded x p w s) i ≡ values_in d (component_at i) dc_coded x p w (get_or s i (None, None))
 unfolding values_of_six
 six_values d h dc_coded x p w a b c e f g i l =
     get_or-build 6 _ i [] l ∙ ap (λ (qfs : List ℤ). values_of (component_at i) x w (levels_of (component_at i) x p qfs)) (row i l)
   where
-    row : (i : ℕ) → i < 6 → get_or (rows_of dc_coded (pattern_by h) (a ∷ b ∷ c ∷ e ∷ f ∷ g ∷ [])) i [] ≡ qfs_of (component_at i) dc_coded (get_or (a ∷ b ∷ c ∷ e ∷ f ∷ g ∷ []) i (none, none))
+    row : (i : ℕ) → i < 6 → get_or (rows_of dc_coded (pattern_by h) (a ∷ b ∷ c ∷ e ∷ f ∷ g ∷ [])) i [] ≡ qfs_of (component_at i) dc_coded (get_or (a ∷ b ∷ c ∷ e ∷ f ∷ g ∷ []) i (None, None))
     row zero l = refl
     row (suc zero) l = refl
     row (suc (suc zero)) l = refl

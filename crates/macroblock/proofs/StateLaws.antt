@@ -15,10 +15,10 @@ use Rattle.assembly.specs.Values.{context_fine}
 use Rattle.assembly.specs.declared.context.MacroblockTextureContext.{MacroblockTextureContext}
 use Rattle.assembly.specs.declared.error.BlockAssemblyError.{BlockAssemblyError}
 use Rattle.assembly.specs.declared.error.BlockAssemblyError.TheVariants.{TooShort}
-use Rattle.assembly.specs.declared.error.Checked.TheVariants.{Bad, Fine}
 use Rattle.macroblock.specs.Answer.{room_of, state_of}
 use Rattle.headers.specs.Fields.{header_check, header_tests}
 use Rattle.headers.specs.declared.header.MacroblockHeader.{MacroblockHeader}
+use Rattle.std.specs.Prelude.{Err, Ok}
 
 pub record StateFine (d : List ℕ) (at : ℕ) (x : MacroblockTextureContext) (p : BlockPredictors) (w : List (List ℕ)) (room : ℕ) : Type 0 where
   pub inside : in_data (length d) at ≡ true
@@ -28,15 +28,15 @@ pub record StateFine (d : List ℕ) (at : ℕ) (x : MacroblockTextureContext) (p
 
 -- without a header
 module _ (d : List ℕ) (at : ℕ) (x : MacroblockTextureContext) (p : BlockPredictors) (w : List (List ℕ)) (room : ℕ) where
-  pub room_bad : {e : BlockAssemblyError} → check_of d at x p w ≡ Bad e → room_of d at x p w room ≡ Bad e
+  pub room_bad : {e : BlockAssemblyError} → check_of d at x p w ≡ Err e → room_of d at x p w room ≡ Err e
   unfolding room_of
   room_bad q = bad_first (tests_of d at x p w) ((leb 384 room, TooShort) ∷ []) q
 
-  pub room_after : (r : Bool) → check_of d at x p w ≡ Fine → leb 384 room ≡ r → room_of d at x p w room ≡ cond r Fine (Bad TooShort)
+  pub room_after : (r : Bool) → check_of d at x p w ≡ Ok tt → leb 384 room ≡ r → room_of d at x p w room ≡ cond r (Ok tt) (Err TooShort)
   unfolding room_of
-  room_after r q e = fine_first (tests_of d at x p w) ((leb 384 room, TooShort) ∷ []) q ∙ ap (λ (t : Bool). cond t Fine (Bad TooShort)) e
+  room_after r q e = fine_first (tests_of d at x p w) ((leb 384 room, TooShort) ∷ []) q ∙ ap (λ (t : Bool). cond t (Ok tt) (Err TooShort)) e
 
-  pub room_fine : room_of d at x p w room ≡ Fine → StateFine d at x p w room
+  pub room_fine : room_of d at x p w room ≡ Ok tt → StateFine d at x p w room
   unfolding room_of
   room_fine q =
       let t = all_pass (tests_of d at x p w ++ ((leb 384 room, TooShort) ∷ [])) q in
@@ -44,15 +44,15 @@ module _ (d : List ℕ) (at : ℕ) (x : MacroblockTextureContext) (p : BlockPred
 
 -- and then the header
 module _ (d : List ℕ) (at : ℕ) (h : MacroblockHeader) (x : MacroblockTextureContext) (p : BlockPredictors) (w : List (List ℕ)) (room : ℕ) where
-  pub state-bad : {e : BlockAssemblyError} → room_of d at x p w room ≡ Bad e → state_of d at h x p w room ≡ Bad e
+  pub state-bad : {e : BlockAssemblyError} → room_of d at x p w room ≡ Err e → state_of d at h x p w room ≡ Err e
   unfolding room_of state_of
   state-bad q = bad_first (tests_of d at x p w ++ ((leb 384 room, TooShort) ∷ [])) (header_tests h) q
 
-  pub state-after : room_of d at x p w room ≡ Fine → state_of d at h x p w room ≡ header_check h
+  pub state-after : room_of d at x p w room ≡ Ok tt → state_of d at h x p w room ≡ header_check h
   unfolding room_of state_of
   state-after q = fine_first (tests_of d at x p w ++ ((leb 384 room, TooShort) ∷ [])) (header_tests h) q
 
-  pub state-fine : state_of d at h x p w room ≡ Fine → StateFine d at x p w room
+  pub state-fine : state_of d at h x p w room ≡ Ok tt → StateFine d at x p w room
   unfolding state_of
   state-fine q =
       let t = all_pass (tests_of d at x p w ++ ((leb 384 room, TooShort) ∷ header_tests h)) q in

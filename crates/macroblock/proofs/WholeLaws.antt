@@ -9,6 +9,7 @@ use Rattle.bits.specs.Bits.{bits_from}
 use Rattle.bits.specs.declared.cursor.Cursor.{Cursor}
 use Rattle.prediction.specs.declared.predictor.BlockPredictors.{BlockPredictors}
 use Rattle.events.specs.declared.spelling.Spellings.{Spellings}
+use Rattle.numbers.proofs.Parts.{ok_part}
 use Rattle.fields.proofs.ReadLaws.{bind_by}
 use Rattle.fields.specs.Answer.{after}
 use Rattle.fields.specs.Reader.{Res, bind, no, ok}
@@ -34,9 +35,8 @@ use Rattle.macroblock.specs.Answer.{samples_told, sentence_of, told}
 use Rattle.macroblock.specs.Whole.{GoodWhole, Whole, whole_bits}
 use Rattle.macroblock.specs.WholeAnswer.{context_in, samples_whole, whole_of, whole_told}
 use Rattle.macroblock.specs.WholeReader.{read_whole}
+use Rattle.std.specs.Prelude.{Err, Ok, Result}
 use Rattle.macroblock.specs.declared.decode.MacroblockDecoded.{MacroblockDecoded}
-use Rattle.macroblock.specs.declared.decode.MacroblockDecoded.TheVariants.{Decoded as BlocksDecoded, Refused as BlocksRefused}
-use Rattle.macroblock.specs.declared.whole.WholeDecoded.TheVariants.{Decoded, Refused}
 
 module _ (dc_coded rev : Bool) where
   blocks_read : (h : Header) → Reads (read_macroblock dc_coded rev (pattern_in h)) (macroblock_bits (pattern_in h)) (GoodMacroblock dc_coded rev (pattern_in h))
@@ -72,23 +72,24 @@ module _ (dc_coded rev : Bool) where
       whole-behind = bind_by _ k.read
 
       -- what the blocks' reading is told, with the header in front
-      module _ (r : MacroblockDecoded) (e : r ≡ told d next.bit_pos blocks) where
-        pub behind-refused : {x : BlockAssemblyError} → r ≡ BlocksRefused x → Refused x ≡ whole_told d at q (whole_of d at dc_coded rev)
+      module _ (r : Result MacroblockDecoded BlockAssemblyError) (e : r ≡ told d next.bit_pos blocks) where
+        pub behind-refused : {x : BlockAssemblyError} → r ≡ Err x → Err x ≡ whole_told d at q (whole_of d at dc_coded rev)
         behind-refused {x} f = go blocks (sym f ∙ e) ∙ sym (ap (whole_told d at q) whole-behind)
           where
-            go : (y : Res (List Parts)) → BlocksRefused x ≡ told d next.bit_pos y → Refused x ≡ whole_told d at q (joined h y)
+            go : (y : Res (List Parts)) → Err x ≡ told d next.bit_pos y → Err x ≡ whole_told d at q (joined h y)
             go (ok s u) z = absurd (let n : ◌≡◌ {A = ℕ} 0 1 = cc in omega arith)
-            go (no n) z = let m : x ≡ Texture n = cc in ap Refused m
+            go (no n) z = let m : x ≡ Texture n = cc in ap Err m
 
-        module _ {n : ℕ} {c : Cursor} {counts : Spellings} (f : r ≡ BlocksDecoded n c counts) where
-          pub behind-decoded : Decoded (c.bit_pos - at) c counts fs ≡ whole_told d at q (whole_of d at dc_coded rev)
+        module _ {n : ℕ} {c : Cursor} {counts : Spellings} (f : r ≡ Ok (record { bits = n; next = c; spellings = counts })) where
+          pub behind-decoded : Ok (record { bits = c.bit_pos - at; next = c; spellings = counts; fields = fs }) ≡ whole_told d at q (whole_of d at dc_coded rev)
           behind-decoded = go blocks (sym f ∙ e) ∙ sym (ap (whole_told d at q) whole-behind)
             where
-              go : (y : Res (List Parts)) → BlocksDecoded n c counts ≡ told d next.bit_pos y → Decoded (c.bit_pos - at) c counts fs ≡ whole_told d at q (joined h y)
+              go : (y : Res (List Parts)) → Ok (record { bits = n; next = c; spellings = counts }) ≡ told d next.bit_pos y → Ok (record { bits = c.bit_pos - at; next = c; spellings = counts; fields = fs }) ≡ whole_told d at q (joined h y)
               go (ok s u) z =
-                  let m : c ≡ after d u = cc in
-                  let t : counts ≡ counts_in s = cc in
-                  λ i. Decoded ((m i).bit_pos - at) (m i) (t i) (k.says i)
+                  let o = ok_part z in
+                  let m = ap (λ (x : MacroblockDecoded). x.next) o in
+                  let t = ap (λ (x : MacroblockDecoded). x.spellings) o in
+                  λ i. Ok (record { bits = (m i).bit_pos - at; next = m i; spellings = t i; fields = k.says i })
               go (no x) z = absurd (let n : ◌≡◌ {A = ℕ} 0 1 = cc in omega arith)
 
           -- its end is not before its start
@@ -96,9 +97,9 @@ module _ (dc_coded rev : Bool) where
           unfolding sentence_of
           behind_forward = go blocks refl (sym f ∙ e)
             where
-              go : (y : Res (List Parts)) → blocks ≡ y → BlocksDecoded n c counts ≡ told d next.bit_pos y → at ≤ c.bit_pos
+              go : (y : Res (List Parts)) → blocks ≡ y → Ok (record { bits = n; next = c; spellings = counts }) ≡ told d next.bit_pos y → at ≤ c.bit_pos
               go (ok s u) g z =
-                  let m : c ≡ after d u = cc in
+                  let m = ap (λ (x : MacroblockDecoded). x.next) (ok_part z) in
                   let p = (macroblock_sentences dc_coded rev (pattern_in h)).position d next.bit_pos k.inside s u g in
                   let l = ap (λ (y : Cursor). y.bit_pos) (m ∙ p) in
                   let o = ap (λ (y : Cursor). y.bit_pos) k.place in

@@ -1,5 +1,5 @@
 -- What the answers of a macroblock say in document 01's numbers, and what is due of one read alone. Definitions only.
-use Rattle.std.specs.Prelude.{Bool, List, ◌∷◌, ℕ, ◌-◌, leb, length}
+use Rattle.std.specs.Prelude.{Bool, List, ◌∷◌, ℕ, ◌-◌, leb, length, Err, Ok, Result}
 use Rattle.numbers.specs.Outcome.{Outcome, accepted, checked, refused}
 use Rattle.bits.specs.Cursor.{in_data}
 use Rattle.coefficients.specs.Level.{predictors_fine}
@@ -14,14 +14,14 @@ use Rattle.assembly.specs.Values.{context_fine}
 use Rattle.assembly.specs.declared.context.MacroblockTextureContext.{MacroblockTextureContext}
 use Rattle.macroblock.specs.Answer.{sentence_of}
 use Rattle.headers.specs.Outcomes.{header_numbers}
-use Rattle.macroblock.specs.declared.decode.MacroblockDecoded.{MacroblockDecoded}
-use Rattle.macroblock.specs.declared.decode.MacroblockDecoded.TheVariants.{Decoded, Refused}
 use Rattle.headers.specs.declared.header.MacroblockHeader.{MacroblockHeader}
+use Rattle.macroblock.specs.declared.decode.MacroblockDecoded.{MacroblockDecoded}
+use Rattle.assembly.specs.declared.error.BlockAssemblyError.{BlockAssemblyError}
 
 -- the number of bits taken, the position after them and the number of events of each spelling
-abbrev pub macroblock_outcome : MacroblockDecoded → Outcome (ℕ × (ℕ × Spellings))
-macroblock_outcome (Decoded n c k) = accepted (n, (c.bit_pos, k))
-macroblock_outcome (Refused e) = refused (number_of e) (figure_of e)
+abbrev pub macroblock_outcome : Result MacroblockDecoded BlockAssemblyError → Outcome (ℕ × (ℕ × Spellings))
+macroblock_outcome (Ok d) = accepted (d.bits, (d.next.bit_pos, d.spellings))
+macroblock_outcome (Err e) = refused (number_of e) (figure_of e)
 
 -- how many bits a sentence that begins at `at` takes, by the position after it, that position, and its events of each spelling
 abbrev pub bits_said : ℕ → List Parts → ℕ → ℕ × (ℕ × Spellings)

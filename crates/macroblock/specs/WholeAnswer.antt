@@ -1,5 +1,5 @@
 -- What is answered of a whole macroblock read alone, what its lent samples hold afterwards, demand 3 of it, and what is told where it breaks off. Definitions only.
-use Rattle.std.specs.Prelude.{Bool, List, [], ◌∷◌, ◌≡◌, ℕ, ◌+◌, ◌-◌, T, leb, ℤ, length}
+use Rattle.std.specs.Prelude.{Bool, List, [], ◌∷◌, ◌≡◌, ℕ, ◌+◌, ◌-◌, T, leb, ℤ, length, Err, Ok, Result, ⊤}
 use Rattle.numbers.specs.Outcome.{Outcome, accepted, checked, refused}
 use Rattle.bits.specs.Bits.{bits_from}
 use Rattle.bits.specs.Cursor.{cursor_at, in_data}
@@ -18,8 +18,6 @@ use Rattle.assembly.specs.Answer.{figure_of, number_of}
 use Rattle.assembly.specs.Values.{context_fine}
 use Rattle.assembly.specs.declared.context.MacroblockTextureContext.{MacroblockTextureContext}
 use Rattle.assembly.specs.declared.error.BlockAssemblyError.TheVariants.{Texture}
-use Rattle.assembly.specs.declared.error.Checked.{Checked}
-use Rattle.assembly.specs.declared.error.Checked.TheVariants.{Bad, Fine}
 use Rattle.headers.specs.Fields.{context_with, fields_of, header_of}
 use Rattle.headers.specs.Header.{Header}
 use Rattle.headers.specs.declared.parse.HeaderFields.{HeaderFields}
@@ -28,10 +26,9 @@ use Rattle.macroblock.specs.Demand.{Demand3}
 use Rattle.macroblock.specs.Six.{samples_of_six}
 use Rattle.macroblock.specs.Whole.{GoodWhole, Whole, whole_bits}
 use Rattle.macroblock.specs.WholeReader.{read_whole}
+use Rattle.assembly.specs.declared.error.BlockAssemblyError.{BlockAssemblyError}
 use Rattle.macroblock.specs.declared.decode.MacroblockDecoded.{MacroblockDecoded}
-use Rattle.macroblock.specs.declared.decode.MacroblockDecoded.TheVariants.{Decoded as BlocksDecoded, Refused as BlocksRefused}
 use Rattle.macroblock.specs.declared.whole.WholeDecoded.{WholeDecoded}
-use Rattle.macroblock.specs.declared.whole.WholeDecoded.TheVariants.{Decoded, Refused}
 
 -- what the reader makes of the bits from the start to the end of the data
 unfoldable pub whole_of : List ℕ → ℕ → Bool → Bool → Res Whole
@@ -47,51 +44,51 @@ values_whole dc_coded x p w m = values_alone (header_of m.0) dc_coded (context_i
 
 -- ---- of what was read, with the quantiser q before the header
 
-abbrev pub whole_told : List ℕ → ℕ → ℕ → Res Whole → WholeDecoded
-whole_told d at q (ok m r) = Decoded ((after d r).bit_pos - at) (after d r) (spellings_of (events_in m.1)) (fields_of q m.0)
-whole_told d at q (no e) = Refused (Texture e)
+abbrev pub whole_told : List ℕ → ℕ → ℕ → Res Whole → Result WholeDecoded BlockAssemblyError
+whole_told d at q (ok m r) = Ok (record { bits = (after d r).bit_pos - at; next = after d r; spellings = spellings_of (events_in m.1); fields = fields_of q m.0 })
+whole_told d at q (no e) = Err (Texture e)
 
 abbrev pub samples_whole : Bool → MacroblockTextureContext → BlockPredictors → List (List ℕ) → Res Whole → List ℤ → List ℤ
 samples_whole dc_coded x p w (ok m r) old = samples_after (samples_of_six (context_in x m.0) (values_whole dc_coded x p w m)) old
 samples_whole dc_coded x p w (no e) old = old
 
 -- the answer of the macroblock behind a header of n bits, with the header in front
-abbrev pub with_header : ℕ → HeaderFields → MacroblockDecoded → WholeDecoded
-with_header n f (BlocksDecoded bits c k) = Decoded (n + bits) c k f
-with_header n f (BlocksRefused e) = Refused e
+abbrev pub with_header : ℕ → HeaderFields → Result MacroblockDecoded BlockAssemblyError → Result WholeDecoded BlockAssemblyError
+with_header n f (Ok d) = Ok (record { bits = n + d.bits; next = d.next; spellings = d.spellings; fields = f })
+with_header n f (Err e) = Err e
 
 -- ---- of the call
 
-abbrev pub whole_by : Checked → WholeDecoded → WholeDecoded
-whole_by Fine a = a
-whole_by (Bad e) a = Refused e
+abbrev pub whole_by : Result ⊤ BlockAssemblyError → Result WholeDecoded BlockAssemblyError → Result WholeDecoded BlockAssemblyError
+whole_by (Ok tt) a = a
+whole_by (Err e) a = Err e
 
 -- answered without a number, or refused by 1 or 17
-abbrev pub Accepted : WholeDecoded → Type 0
-Accepted (Decoded n c k f) = Unit {0}
-Accepted (Refused e) = ⊥
+abbrev pub Accepted : Result WholeDecoded BlockAssemblyError → Type 0
+Accepted (Ok d) = Unit {0}
+Accepted (Err e) = ⊥
 
-abbrev pub Stopped : WholeDecoded → Type 0
-Stopped (Decoded n c k f) = ⊥
-Stopped (Refused e) = T (stopped (number_of e))
+abbrev pub Stopped : Result WholeDecoded BlockAssemblyError → Type 0
+Stopped (Ok d) = ⊥
+Stopped (Err e) = T (stopped (number_of e))
 
 -- n bits, the position n bits on, the events of each spelling, and the header's fields
-abbrev pub Told : ℕ → ℕ → WholeDecoded → ℕ → Whole → Type 0
-Told at q r n m = r ≡ Decoded n (cursor_at (at + n)) (spellings_of (events_in m.1)) (fields_of q m.0)
+abbrev pub Told : ℕ → ℕ → Result WholeDecoded BlockAssemblyError → ℕ → Whole → Type 0
+Told at q r n m = r ≡ Ok (record { bits = n; next = cursor_at (at + n); spellings = spellings_of (events_in m.1); fields = fields_of q m.0 })
 
 -- in document 01's numbers
-abbrev pub whole_outcome : WholeDecoded → Outcome (ℕ × (ℕ × (Spellings × HeaderFields)))
-whole_outcome (Decoded n c k f) = accepted (n, (c.bit_pos, (k, f)))
-whole_outcome (Refused e) = refused (number_of e) (figure_of e)
+abbrev pub whole_outcome : Result WholeDecoded BlockAssemblyError → Outcome (ℕ × (ℕ × (Spellings × HeaderFields)))
+whole_outcome (Ok d) = accepted (d.bits, (d.next.bit_pos, (d.spellings, d.fields)))
+whole_outcome (Err e) = refused (number_of e) (figure_of e)
 
 abbrev pub whole_said : ℕ → ℕ → Whole → ℕ → ℕ × (ℕ × (Spellings × HeaderFields))
 whole_said at q m position = (position - at, (position, (spellings_of (events_in m.1), fields_of q m.0)))
 
 module _ (d : List ℕ) (at : ℕ) (dc_coded rev : Bool) (x : MacroblockTextureContext) (p : BlockPredictors) (w : List (List ℕ)) (old : List ℤ) where
-  abbrev pub room_here : Checked
+  abbrev pub room_here : Result ⊤ BlockAssemblyError
   room_here = room_of d at x p w (length old)
 
-  unfoldable pub whole_answer : WholeDecoded
+  unfoldable pub whole_answer : Result WholeDecoded BlockAssemblyError
   whole_answer = whole_by room_here (whole_told d at x.quantiser_scale (whole_of d at dc_coded rev))
 
   unfoldable pub samples_out : List ℤ
@@ -104,12 +101,12 @@ module _ (d : List ℕ) (at : ℕ) (dc_coded rev : Bool) (x : MacroblockTextureC
       (read_as (whole_said at x.quantiser_scale) d (whole_of d at dc_coded rev))
 
   -- all that the call promises
-  pub record WholeAnswered (r : WholeDecoded) (out : List ℤ) : Type 0 where
+  pub record WholeAnswered (r : Result WholeDecoded BlockAssemblyError) (out : List ℤ) : Type 0 where
     pub answer : r ≡ whole_answer
     pub samples : out ≡ samples_out
     -- demand 3, where none of 11 to 14 holds: the header belongs to the sentence, and the samples are worked out with its new quantiser and its flag
-    pub demand : room_here ≡ Fine → Demand3 whole_bits (GoodWhole dc_coded rev) d at x (values_whole dc_coded x p w) (Accepted r) (Told at x.quantiser_scale r) old out
+    pub demand : room_here ≡ Ok tt → Demand3 whole_bits (GoodWhole dc_coded rev) d at x (values_whole dc_coded x p w) (Accepted r) (Told at x.quantiser_scale r) old out
     -- the answer by number
     pub outcome : whole_outcome r ≡ whole_due
     -- a whole macroblock that breaks off is told so, never as bad
-    pub stopped : room_here ≡ Fine → (m : Whole) → BreaksOff whole_bits (GoodWhole dc_coded rev) (bits_from d at) m → Stopped r
+    pub stopped : room_here ≡ Ok tt → (m : Whole) → BreaksOff whole_bits (GoodWhole dc_coded rev) (bits_from d at) m → Stopped r

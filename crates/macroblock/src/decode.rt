@@ -1,21 +1,21 @@
 // A macroblock out of bits into 384 samples.
-ghost use Rattle.std.specs.Prelude.{◌≡◌, length};
+ghost use Rattle.std.specs.Prelude.{◌≡◌, length, Ok};
 ghost use Rattle.macroblock.specs.Answer.{macroblock_answer, room_of, samples_out, samples_told, sentence_of, state_of, told};
 ghost use Rattle.macroblock.specs.Alone.{DemandAlone, StoppedAlone};
 ghost use Rattle.macroblock.specs.Outcomes.{macroblock_due, macroblock_outcome};
-ghost use Rattle.assembly.specs.declared.error.Checked.TheVariants.{Fine};
 
 use bits::Cursor;
-use block::{BlockAssemblyError, Checked, MacroblockTextureContext};
+use block::{BlockAssemblyError, MacroblockTextureContext};
 use coefficients::BlockPredictors;
 use headers::MacroblockHeader;
-use texture::{EventsRead, Spellings};
+use texture::Spellings;
 
-// The number of bits taken, the cursor after them and the number of events of each spelling, or a refusal.
+// The number of bits taken, the cursor after them and the number of events of each spelling.
 #[derive(Clone, Copy)]
-pub enum MacroblockDecoded {
-    Decoded(usize, Cursor, Spellings),
-    Refused(BlockAssemblyError),
+pub struct MacroblockDecoded {
+    pub bits: usize,
+    pub next: Cursor,
+    pub spellings: Spellings,
 }
 
 // The state without a header: 11, 12, 13, 14.
@@ -26,19 +26,14 @@ pub(crate) fn check_room(
     predictors: BlockPredictors,
     w: [[u8; 8]; 8],
     room: usize,
-) -> Checked
+) -> Result<(), BlockAssemblyError>
     ensures { result ≡ room_of «data».now c.bit_pos ctx predictors w room }
 {
-    let checked = block::check(data, c, ctx, predictors, w);
-    match checked {
-        Checked::Bad(e) => Checked::Bad(e),
-        Checked::Fine => {
-            if room < samples::SAMPLES {
-                return Checked::Bad(BlockAssemblyError::TooShort);
-            }
-            Checked::Fine
-        }
+    block::check(data, c, ctx, predictors, w)?;
+    if room < samples::SAMPLES {
+        return Err(BlockAssemblyError::TooShort);
     }
+    Ok(())
 }
 
 // The state, before any bit: 11, 12, 13, 14, 9, 10.
@@ -50,14 +45,11 @@ fn check_state(
     predictors: BlockPredictors,
     w: [[u8; 8]; 8],
     room: usize,
-) -> Checked
+) -> Result<(), BlockAssemblyError>
     ensures { result ≡ state_of «data».now c.bit_pos header ctx predictors w room }
 {
-    let checked = check_room(data, c, ctx, predictors, w, room);
-    match checked {
-        Checked::Bad(e) => Checked::Bad(e),
-        Checked::Fine => headers::check_header(header),
-    }
+    check_room(data, c, ctx, predictors, w, room)?;
+    headers::check_header(header)
 }
 
 // Once the state is checked: all bits first, then the samples.
@@ -71,15 +63,15 @@ pub(crate) fn decode_checked(
     predictors: BlockPredictors,
     w: [[u8; 8]; 8],
     samples: &mut [i32],
-) -> MacroblockDecoded
-    requires { state_of «data».now c.bit_pos header ctx predictors w (length samples.old) ≡ Fine }
+) -> Result<MacroblockDecoded, BlockAssemblyError>
+    requires { state_of «data».now c.bit_pos header ctx predictors w (length samples.old) ≡ Ok tt }
     ensures value { result ≡ told «data».now c.bit_pos (sentence_of «data».now c.bit_pos header use_intra_dc_vlc reversible_vlc) }
     ensures samples { samples.new ≡ samples_told header use_intra_dc_vlc ctx predictors w (sentence_of «data».now c.bit_pos header use_intra_dc_vlc reversible_vlc) samples.old }
 {
     let pattern = block::pattern_code(header.cbpy, header.cbpc);
     let mut rows = [[0i32; 64]; 6];
     let mut ends = [0usize; 6];
-    let answer = window_reader::read_six(
+    let (next, spellings) = window_reader::read_six(
         data,
         c,
         pattern,
@@ -87,20 +79,14 @@ pub(crate) fn decode_checked(
         reversible_vlc,
         &mut rows,
         &mut ends,
-    );
-    match answer {
-        EventsRead::Refused(e) => MacroblockDecoded::Refused(BlockAssemblyError::Texture(e)),
-        EventsRead::Read(next, spellings) => {
-            let rebuilt = crate::six::samples_of_six(&rows, ends, ctx, predictors, w, samples);
-            match rebuilt {
-                Checked::Bad(e) => MacroblockDecoded::Refused(e),
-                Checked::Fine => {
-                    let bits = next.bit_pos - c.bit_pos;
-                    MacroblockDecoded::Decoded(bits, next, spellings)
-                }
-            }
-        }
-    }
+    )?;
+    crate::six::samples_of_six(&rows, ends, ctx, predictors, w, samples)?;
+    let bits = next.bit_pos - c.bit_pos;
+    Ok(MacroblockDecoded {
+        bits,
+        next,
+        spellings,
+    })
 }
 
 // A macroblock read alone: what is answered, what the samples hold, demand 3, the answer by number, and what is told
@@ -115,7 +101,7 @@ pub fn decode_intra_macroblock(
     predictors: BlockPredictors,
     quant_matrix: [[u8; 8]; 8],
     samples: &mut [i32],
-) -> MacroblockDecoded
+) -> Result<MacroblockDecoded, BlockAssemblyError>
     ensures value { result ≡ macroblock_answer «data».now c.bit_pos header use_intra_dc_vlc reversible_vlc ctx predictors quant_matrix samples.old }
     ensures samples { samples.new ≡ samples_out «data».now c.bit_pos header use_intra_dc_vlc reversible_vlc ctx predictors quant_matrix samples.old }
     ensures demand { DemandAlone «data».now c.bit_pos header use_intra_dc_vlc reversible_vlc ctx predictors quant_matrix samples.old result samples.new }
@@ -123,19 +109,16 @@ pub fn decode_intra_macroblock(
     ensures stopped { StoppedAlone «data».now c.bit_pos header use_intra_dc_vlc reversible_vlc ctx predictors quant_matrix (length samples.old) result }
 {
     let room = samples.len();
-    let checked = check_state(data, c, header, ctx, predictors, quant_matrix, room);
-    match checked {
-        Checked::Bad(e) => MacroblockDecoded::Refused(e),
-        Checked::Fine => decode_checked(
-            data,
-            c,
-            header,
-            use_intra_dc_vlc,
-            reversible_vlc,
-            ctx,
-            predictors,
-            quant_matrix,
-            samples,
-        ),
-    }
+    check_state(data, c, header, ctx, predictors, quant_matrix, room)?;
+    decode_checked(
+        data,
+        c,
+        header,
+        use_intra_dc_vlc,
+        reversible_vlc,
+        ctx,
+        predictors,
+        quant_matrix,
+        samples,
+    )
 }

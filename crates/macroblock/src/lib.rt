@@ -11,7 +11,6 @@ mod whole;
 
 pub use decode::{MacroblockDecoded, decode_intra_macroblock};
 pub use headers::{
-    DerivedMbType, HeaderFields, HeaderRead, MacroblockHeader, check_header,
-    parse_macroblock_header,
+    DerivedMbType, HeaderFields, MacroblockHeader, check_header, parse_macroblock_header,
 };
 pub use whole::{WholeDecoded, decode_intra_macroblock_with_header};

@@ -1,7 +1,7 @@
 -- What a block needs of that which it takes, from its DCs and the side that they choose. Assumes nothing.
 use mathlib.Core.Bool.{Bool, true, false}
 use mathlib.Core.List.{List}
-use mathlib.Core.Option.{Option, none, some}
+use Rattle.std.specs.Prelude.{Option, None, Some}
 use mathlib.Core.Path.{◌≡◌, refl, ap, sym, ◌∙◌}
 use Prim.Native.Nat.{ℕ, ◌+◌, ◌*◌, ◌≤◌}
 use native.Mathlib.Omega.{arith}
@@ -29,7 +29,7 @@ values-read s start at a b c h e f =
 
 -- a record that is there, and one that is missing
 module _ (q at : ℕ) (a b c : ℤ) (r : List ℤ) {has : Bool} where
-  pub there : has ≡ true → numbers_at q (some r) at a b c ≡ numbers_at q (found has r) at a b c
+  pub there : has ≡ true → numbers_at q (Some r) at a b c ≡ numbers_at q (found has r) at a b c
   there e = rw e
 
   pub not_there : has ≡ false → numbers_of a b c q (replicate 7 (pos 0)) ≡ numbers_at q (found has r) at a b c
@@ -54,8 +54,8 @@ module _ (depth q : ℕ) (ar : Around) (own : List ℤ) (i : ℕ) {a b c : ℤ} 
     where
       go : (r : Option (List ℤ)) → from ar own (a_source i) ≡ r
           → numbers_at q (from ar own (a_source i)) (15 * a_block i + 8) (predictors depth q ar own i).fa_dc (predictors depth q ar own i).fb_dc (predictors depth q ar own i).fc_dc ≡ with_side q (predictors depth q ar own i) FromLeft
-      go none h = rw h
-      go (some r) h = rw h
+      go None h = rw h
+      go (Some r) h = rw h
 
   pub above-is : DcsAre (predictors depth q ar own i) a b c → numbers_at q (from ar own (c_source i)) (15 * c_block i + 1) a b c ≡ with_side q (predictors depth q ar own i) FromAbove
   unfolding predictors
@@ -63,5 +63,5 @@ module _ (depth q : ℕ) (ar : Around) (own : List ℤ) (i : ℕ) {a b c : ℤ} 
     where
       go : (r : Option (List ℤ)) → from ar own (c_source i) ≡ r
           → numbers_at q (from ar own (c_source i)) (15 * c_block i + 1) (predictors depth q ar own i).fa_dc (predictors depth q ar own i).fb_dc (predictors depth q ar own i).fc_dc ≡ with_side q (predictors depth q ar own i) FromAbove
-      go none h = rw h
-      go (some r) h = rw h
+      go None h = rw h
+      go (Some r) h = rw h

@@ -1,20 +1,18 @@
 -- Refusal 13 before the first block is three tests, one of each record that is there. Assumes nothing.
 use mathlib.Core.Bool.{Bool, true, false, cond, ◌&&◌}
 use mathlib.Core.List.{List}
-use mathlib.Core.Option.{Option, none, some}
+use Rattle.std.specs.Prelude.{Option, None, Some}
 use mathlib.Core.Path.{◌≡◌, refl, ap, sym, ◌∙◌}
-use Prim.Native.Nat.{ℕ, ◌+◌, ◌*◌, ◌-◌, ◌<◌, ◌≤◌}
+use Prim.Native.Nat.{ℕ, ◌+◌, ◌*◌, ◌-◌, ◌≤◌}
 use native.Mathlib.Omega.{arith}
 use borrow.Author.Tests.{leb-true}
 use lib.IntN.{ℤ, pos, negsuc}
-use lib.ListN.{drop, get_or, length, length-drop, length-take, take}
-use lib.Seq.{get_or-drop, get_or-take}
+use lib.ListN.{get_or}
 use Rattle.numbers.specs.Every.{every}
-use Rattle.numbers.proofs.Fill.{is-build}
 use Rattle.numbers.proofs.Tests.{both_true, true_both}
 use Rattle.ranges.specs.Range.{dc_fine, level_fine, quantiser_fine, within}
 use Rattle.places.specs.declared.place.Place.{Place}
-use Rattle.record.specs.Record.{blank, known_of, quantiser_of, record_at, seven_from}
+use Rattle.record.specs.Record.{blank, known_of, quantiser_of, seven_from}
 use Rattle.record.specs.Refusals.{lies}
 use Rattle.record.specs.declared.record.Side.{Side}
 use Rattle.neighbours.specs.Neighbours.{Around, neighbours_fine, predictors, sided}
@@ -29,13 +27,6 @@ same_test false true f g = g refl
 same_test false false f g = refl
 
 -- ---- a record in the store
-
--- the part of the store that it is
-pub record_part : (s : List ℤ) (at : ℕ) → at + 91 ≤ length s → take (at + 91 - at) (drop at s) ≡ record_at s at
-record_part s at h =
-    is-build (pos 0) (take (at + 91 - at) (drop at s)) 91 (λ (k : ℕ). get_or s (at + k) (pos 0))
-    (simp (length-take, length-drop) (omega arith))
-    (λ (k : ℕ) (p : k < 91). get_or-take (at + 91 - at) (drop at s) k (pos 0) (omega arith) ∙ get_or-drop at s k (pos 0))
 
 pub quantiser-within : (z : ℤ) → within (pos 1) (pos 31) z ≡ quantiser_fine (quantiser_of z)
 quantiser-within (pos n) = refl
@@ -84,8 +75,8 @@ true_five a b c d e t =
 module _ (depth q : ℕ) where
   left_passes : (o : Option (List ℤ)) → FineA (sided depth q o 1) → FineA (sided depth q o 3) → FineA (sided depth q o 4) → FineA (sided depth q o 5) → if_there left_fine o ≡ true
   unfolding left_fine
-  left_passes none s t u v = refl
-  left_passes (some r) s t u v =
+  left_passes None s t u v = refl
+  left_passes (Some r) s t u v =
       five_true
       (block_tested r 1 8 s.dc-fine s.column-fine)
       (block_tested r 3 8 t.dc-fine t.column-fine)
@@ -95,8 +86,8 @@ module _ (depth q : ℕ) where
 
   above_passes : (o : Option (List ℤ)) → FineC (sided depth q o 2) → FineC (sided depth q o 3) → FineC (sided depth q o 4) → FineC (sided depth q o 5) → if_there above_fine o ≡ true
   unfolding above_fine
-  above_passes none s t u v = refl
-  above_passes (some r) s t u v =
+  above_passes None s t u v = refl
+  above_passes (Some r) s t u v =
       five_true
       (block_tested r 2 1 s.dc-fine s.row_fine)
       (block_tested r 3 1 t.dc-fine t.row_fine)
@@ -106,28 +97,28 @@ module _ (depth q : ℕ) where
 
   above_left_passes : (o : Option (List ℤ)) → FineB (sided depth q o 3) → FineB (sided depth q o 4) → FineB (sided depth q o 5) → if_there above_left_fine o ≡ true
   unfolding above_left_fine
-  above_left_passes none s t u = refl
-  above_left_passes (some r) s t u = true_both (true_both s.dc-fine t.dc-fine) u.dc-fine
+  above_left_passes None s t u = refl
+  above_left_passes (Some r) s t u = true_both (true_both s.dc-fine t.dc-fine) u.dc-fine
 
   module _ (e : quantiser_fine q ≡ true) where
     left-told : (o : Option (List ℤ)) → if_there left_fine o ≡ true → FineA (sided depth q o 1) × FineA (sided depth q o 3) × FineA (sided depth q o 4) × FineA (sided depth q o 5)
     unfolding left_fine
-    left-told none h = let m = as_a (missing_fine depth q e) in (m, m, m, m)
-    left-told (some r) h =
+    left-told None h = let m = as_a (missing_fine depth q e) in (m, m, m, m)
+    left-told (Some r) h =
         let t = true_five (block_fine r 1 8) (block_fine r 3 8) (block_fine r 4 8) (block_fine r 5 8) (scale_fine r) h in
         (block_a r 1 t.0 t.4, block_a r 3 t.1 t.4, block_a r 4 t.2 t.4, block_a r 5 t.3 t.4)
 
     above-told : (o : Option (List ℤ)) → if_there above_fine o ≡ true → FineC (sided depth q o 2) × FineC (sided depth q o 3) × FineC (sided depth q o 4) × FineC (sided depth q o 5)
     unfolding above_fine
-    above-told none h = let m = as_c (missing_fine depth q e) in (m, m, m, m)
-    above-told (some r) h =
+    above-told None h = let m = as_c (missing_fine depth q e) in (m, m, m, m)
+    above-told (Some r) h =
         let t = true_five (block_fine r 2 1) (block_fine r 3 1) (block_fine r 4 1) (block_fine r 5 1) (scale_fine r) h in
         (block-c r 2 t.0 t.4, block-c r 3 t.1 t.4, block-c r 4 t.2 t.4, block-c r 5 t.3 t.4)
 
     above-left-told : (o : Option (List ℤ)) → if_there above_left_fine o ≡ true → FineB (sided depth q o 3) × FineB (sided depth q o 4) × FineB (sided depth q o 5)
     unfolding above_left_fine
-    above-left-told none h = let m = as_b (missing_fine depth q e) in (m, m, m)
-    above-left-told (some r) h =
+    above-left-told None h = let m = as_b (missing_fine depth q e) in (m, m, m)
+    above-left-told (Some r) h =
         let t = both_true _ _ h in
         let u = both_true _ _ t.0 in
         (record { dc-fine = u.0 }, record { dc-fine = u.1 }, record { dc-fine = t.1 })

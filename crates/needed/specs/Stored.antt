@@ -1,6 +1,5 @@
 -- Inside the crate: the tests of a stored record by the numbers that the six blocks take of it. Definitions only.
-use Rattle.std.specs.Prelude.{Bool, true, ◌&&◌, List, ℕ, ◌+◌, ◌*◌, ℤ, pos, get_or}
-use Rattle.std.proofs.Math.Option.{Option, none, some}
+use Rattle.std.specs.Prelude.{Bool, true, ◌&&◌, List, ℕ, ◌+◌, ◌*◌, ℤ, pos, get_or, Option, None, Some}
 use Rattle.numbers.specs.Every.{every}
 use Rattle.ranges.specs.Range.{dc_fine, level_fine, quantiser_fine}
 use Rattle.record.specs.Record.{quantiser_of, seven_from}
@@ -26,5 +25,5 @@ above_left_fine r = dc_fine (get_or r 45 (pos 0)) && dc_fine (get_or r 60 (pos 0
 
 -- a missing record passes
 abbrev pub if_there : (List ℤ → Bool) → Option (List ℤ) → Bool
-if_there f none = true
-if_there f (some r) = f r
+if_there f None = true
+if_there f (Some r) = f r

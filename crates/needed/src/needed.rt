@@ -9,8 +9,7 @@ ghost use Rattle.neighbours.specs.Taken.{taken_due, taken_tests};
 ghost use Rattle.needed.specs.Sides.{DcsAre, numbers_at};
 
 use places::{Place, Source};
-use prediction::Direction;
-use record::Recorded;
+use record::RecordError;
 use scan::DcPredictionDirection;
 
 // Three DCs, with the quantiser of the record at `start` and its seven values from `at` on.
@@ -47,27 +46,12 @@ fn put_side(
 {
     match source {
         Source::Own => put_values(own, 0, at, a, b, c, numbers),
-        Source::Left => {
-            if p.has_left {
-                put_values(store, p.left as usize, at, a, b, c, numbers)
-            } else {
-                put_none(p, a, b, c, numbers)
-            }
+        Source::Left if p.has_left => put_values(store, p.left as usize, at, a, b, c, numbers),
+        Source::AboveLeft if p.has_above_left => {
+            put_values(store, p.above_left as usize, at, a, b, c, numbers)
         }
-        Source::AboveLeft => {
-            if p.has_above_left {
-                put_values(store, p.above_left as usize, at, a, b, c, numbers)
-            } else {
-                put_none(p, a, b, c, numbers)
-            }
-        }
-        Source::Above => {
-            if p.has_above {
-                put_values(store, p.above as usize, at, a, b, c, numbers)
-            } else {
-                put_none(p, a, b, c, numbers)
-            }
-        }
+        Source::Above if p.has_above => put_values(store, p.above as usize, at, a, b, c, numbers),
+        _ => put_none(p, a, b, c, numbers),
     }
 }
 
@@ -86,19 +70,15 @@ fn put_chosen(
     ensures { numbers.new ≡ needed_of p.quantiser_scale true (predictors p.bits_per_pixel p.quantiser_scale (around_by p store.now) (record_at own.now 0) i) }
 {
     match coefficients::select_dc_direction(a, b, c) {
-        Direction::Refused(_) => put_none(p, a, b, c, numbers),
-        Direction::Is(direction) => match direction {
-            DcPredictionDirection::FromLeft => {
-                let at = 15 * places::a_block(i) as usize + 8;
-                let source = places::a_source(i);
-                put_side(store, own, p, source, at, a, b, c, numbers)
-            }
-            DcPredictionDirection::FromAbove => {
-                let at = 15 * places::c_block(i) as usize + 1;
-                let source = places::c_source(i);
-                put_side(store, own, p, source, at, a, b, c, numbers)
-            }
-        },
+        Err(_) => put_none(p, a, b, c, numbers),
+        Ok(DcPredictionDirection::FromLeft) => {
+            let at = 15 * places::a_block(i) as usize + 8;
+            put_side(store, own, p, places::a_source(i), at, a, b, c, numbers)
+        }
+        Ok(DcPredictionDirection::FromAbove) => {
+            let at = 15 * places::c_block(i) as usize + 1;
+            put_side(store, own, p, places::c_source(i), at, a, b, c, numbers)
+        }
     }
 }
 
@@ -135,15 +115,11 @@ pub fn predictors_needed(
     i: usize,
     ac_pred: bool,
     numbers: &mut [i32; 11],
-) -> Recorded
+) -> Result<(), RecordError>
     ensures value { (result ≡ first_bad (taken_tests (length store.now) (length own.now) p i)) × (numbers.new ≡ unless (first_bad (taken_tests (length store.now) (length own.now) p i)) (needed_of p.quantiser_scale ac_pred (predictors p.bits_per_pixel p.quantiser_scale (around_by p store.now) (record_at own.now 0) i)) numbers.old) }
     ensures outcome { recorded_outcome result ≡ taken_due (length store.now) (length own.now) p i }
 {
-    match neighbours::check_taken(store.len(), own.len(), p, i) {
-        Recorded::Refused(e) => Recorded::Refused(e),
-        Recorded::Done => {
-            put_needed(store, own, p, i, ac_pred, numbers);
-            Recorded::Done
-        }
-    }
+    neighbours::check_taken(store.len(), own.len(), p, i)?;
+    put_needed(store, own, p, i, ac_pred, numbers);
+    Ok(())
 }

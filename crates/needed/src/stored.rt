@@ -8,7 +8,6 @@ ghost use Rattle.neighbours.specs.Neighbours.{around_by, found, neighbours_fine}
 ghost use Rattle.needed.specs.Stored.{above_fine, above_left_fine, block_fine, if_there, left_fine};
 
 use places::Place;
-use record::Recorded;
 
 // Whether the seven numbers from `at` on are levels.
 fn seven_levels(s: &[i32], at: usize) -> bool
@@ -16,9 +15,8 @@ fn seven_levels(s: &[i32], at: usize) -> bool
     ensures { result ≡ every level_fine (seven_from s.now at) }
 {
     let mut fine = true;
-    for k in 0..7 {
-        let level = ranges::Level::fine(s[at + k]);
-        fine = fine & level;
+    for x in &s[at..at + 7] {
+        fine &= ranges::Level::fine(*x);
     }
     fine
 }
@@ -75,36 +73,24 @@ fn left_if(there: bool, store: &[i32], at: u32) -> bool
     requires { cond there (lies (length store.now) at) true ≡ true }
     ensures { result ≡ if_there left_fine (found there (record_at store.now at)) }
 {
-    if !there {
-        return true;
-    }
     let start = at as usize;
-    let end = start + 91;
-    left_fine(&store[start..end])
+    !there || left_fine(&store[start..start + 91])
 }
 
 fn above_left_if(there: bool, store: &[i32], at: u32) -> bool
     requires { cond there (lies (length store.now) at) true ≡ true }
     ensures { result ≡ if_there above_left_fine (found there (record_at store.now at)) }
 {
-    if !there {
-        return true;
-    }
     let start = at as usize;
-    let end = start + 91;
-    above_left_fine(&store[start..end])
+    !there || above_left_fine(&store[start..start + 91])
 }
 
 fn above_if(there: bool, store: &[i32], at: u32) -> bool
     requires { cond there (lies (length store.now) at) true ≡ true }
     ensures { result ≡ if_there above_fine (found there (record_at store.now at)) }
 {
-    if !there {
-        return true;
-    }
     let start = at as usize;
-    let end = start + 91;
-    above_fine(&store[start..end])
+    !there || above_fine(&store[start..start + 91])
 }
 
 // The plain way, for a record that does not lie wholly in the store. A quantiser that is none has no new record, and its neighbours are not in range.
@@ -112,10 +98,9 @@ fn plainly(store: &[i32], p: Place) -> bool
     ensures { result ≡ neighbours_fine p.bits_per_pixel p.quantiser_scale (around_by p store.now) (blank p.quantiser_scale) }
 {
     let mut own = [0i32; 91];
-    let begun = record::new_record(p.quantiser_scale, &mut own);
-    match begun {
-        Recorded::Refused(_) => false,
-        Recorded::Done => neighbours::neighbours_fine(store, &own, p),
+    match record::new_record(p.quantiser_scale, &mut own) {
+        Err(_) => false,
+        Ok(()) => neighbours::neighbours_fine(store, &own, p),
     }
 }
 
@@ -129,11 +114,7 @@ pub fn stored_fine(store: &[i32], p: Place) -> bool
     if !neighbours::place_lies(store.len(), p) {
         return plainly(store, p);
     }
-    if !left_if(p.has_left, store, p.left) {
-        return false;
-    }
-    if !above_left_if(p.has_above_left, store, p.above_left) {
-        return false;
-    }
-    above_if(p.has_above, store, p.above)
+    left_if(p.has_left, store, p.left)
+        && above_left_if(p.has_above_left, store, p.above_left)
+        && above_if(p.has_above, store, p.above)
 }

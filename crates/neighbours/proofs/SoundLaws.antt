@@ -2,7 +2,7 @@
 use mathlib.Core.Bool.{true}
 use mathlib.Core.List.{List}
 use mathlib.Core.Logic.{⊎_elim}
-use mathlib.Core.Option.{Option, none, some}
+use Rattle.std.specs.Prelude.{Option, None, Some}
 use mathlib.Core.Path.{◌≡◌, refl, ap, sym, ◌∙◌, subst}
 use Prim.Native.Nat.{ℕ, ◌+◌, ◌*◌, ◌-◌, ◌<◌, ◌≤◌}
 use native.Mathlib.Nat.{eq-or-lt_of_le}
@@ -194,8 +194,8 @@ taken_fine depth q ar new own e s i h =
 
 -- nor does it matter which quantiser, of those that are fine, a missing neighbour has
 side_at_lem : (P : Side → Type 0) (depth q r : ℕ) (o : Option (List ℤ)) (b : ℕ) → P (missing_of depth r) → P (sided depth q o b) → P (sided depth r o b)
-side_at_lem P depth q r none b x y = x
-side_at_lem P depth q r (some l) b x y = y
+side_at_lem P depth q r None b x y = x
+side_at_lem P depth q r (Some l) b x y = y
 
 with_quantiser : (P : Side → Type 0) (depth q r : ℕ) (ar : Around) (old new : List ℤ) (s : Source) (b : ℕ) → P (missing_of depth r) → P (known_of new b) → P (side_of depth q ar old s b) → P (side_of depth r ar new s b)
 with_quantiser P depth q r ar old new Own b x y z = y
@@ -218,13 +218,13 @@ any_quantiser depth q r ar f e =
 
 -- the records around, where they are not missing, are sound
 pub record AroundSound (ar : Around) : Type 0 where
-  pub left : (r : List ℤ) → ar.left ≡ some r → Sound r
-  pub above_left : (r : List ℤ) → ar.above_left ≡ some r → Sound r
-  pub above : (r : List ℤ) → ar.above ≡ some r → Sound r
+  pub left : (r : List ℤ) → ar.left ≡ Some r → Sound r
+  pub above_left : (r : List ℤ) → ar.above_left ≡ Some r → Sound r
+  pub above : (r : List ℤ) → ar.above ≡ Some r → Sound r
 
-sided-fine : (depth q : ℕ) → quantiser_fine q ≡ true → (o : Option (List ℤ)) → ((r : List ℤ) → o ≡ some r → Sound r) → (b : ℕ) → b < 6 → SideFine (sided depth q o b)
-sided-fine depth q e none f b h = missing_fine depth q e
-sided-fine depth q e (some r) f b h = known_fine r (f r refl) b h
+sided-fine : (depth q : ℕ) → quantiser_fine q ≡ true → (o : Option (List ℤ)) → ((r : List ℤ) → o ≡ Some r → Sound r) → (b : ℕ) → b < 6 → SideFine (sided depth q o b)
+sided-fine depth q e None f b h = missing_fine depth q e
+sided-fine depth q e (Some r) f b h = known_fine r (f r refl) b h
 
 side_fine : (depth q : ℕ) → quantiser_fine q ≡ true → (ar : Around) → AroundSound ar → (own : List ℤ) → Sound own → (s : Source) (b : ℕ) → b < 6 → SideFine (side_of depth q ar own s b)
 side_fine depth q e ar a own o Own b h = known_fine own o b h

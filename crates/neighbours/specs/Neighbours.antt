@@ -1,6 +1,5 @@
 -- What a block takes of A, B and C; and refusal 13. Definitions only.
-use Rattle.std.specs.Prelude.{Bool, false, true, List, [], ◌∷◌, ℕ, drop, ℤ}
-use Rattle.std.proofs.Math.Option.{Option, none, some}
+use Rattle.std.specs.Prelude.{Bool, false, true, List, [], ◌∷◌, ℕ, drop, ℤ, Option, None, Some}
 use Rattle.numbers.specs.Every.{every}
 use Rattle.coefficients.specs.Level.{predictors_fine}
 use Rattle.prediction.specs.declared.predictor.BlockPredictors.{BlockPredictors}
@@ -18,19 +17,19 @@ pub record Around : Type 0 where
   pub above : Option (List ℤ)
 
 abbrev pub found : {A : Type 0} → Bool → A → Option A
-found true a = some a
-found false a = none
+found true a = Some a
+found false a = None
 
 -- the record of a source, with the macroblock's own so far
 abbrev pub from : Around → List ℤ → Source → Option (List ℤ)
-from ar own Own = some own
+from ar own Own = Some own
 from ar own Left = ar.left
 from ar own AboveLeft = ar.above_left
 from ar own Above = ar.above
 
 abbrev pub sided : ℕ → ℕ → Option (List ℤ) → ℕ → Side
-sided depth q none b = missing_of depth q
-sided depth q (some r) b = known_of r b
+sided depth q None b = missing_of depth q
+sided depth q (Some r) b = known_of r b
 
 abbrev pub side_of : ℕ → ℕ → Around → List ℤ → Source → ℕ → Side
 side_of depth q ar own source b = sided depth q (from ar own source) b

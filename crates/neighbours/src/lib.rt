@@ -11,4 +11,4 @@ pub use places::{Place, Source};
 pub use predictors::{
     Taken, block_predictors, check_taken, neighbour_dc, neighbours_fine, place_lies,
 };
-pub use record::{RecordError, Recorded, Side, new_record, put_record, with_block};
+pub use record::{RecordError, Side, new_record, put_record, with_block};

@@ -8,37 +8,18 @@ ghost use Rattle.neighbours.specs.Taken.{place_lies, taken_due, taken_tests};
 
 use places::{Place, Source};
 use prediction::BlockPredictors;
-use record::{RecordError, Recorded, Side};
+use record::{RecordError, Side};
 
 // Block `b` of a source.
 fn neighbour(store: &[i32], own: &[i32], p: Place, source: Source, b: u32) -> Side
     ensures { result ≡ side_of p.bits_per_pixel p.quantiser_scale (around_from p store.now) own.now source b }
 {
-    let depth = p.bits_per_pixel;
-    let q = p.quantiser_scale;
     match source {
         Source::Own => record::known(own, 0, b),
-        Source::Left => {
-            if p.has_left {
-                record::known(store, p.left, b)
-            } else {
-                record::missing(depth, q)
-            }
-        }
-        Source::AboveLeft => {
-            if p.has_above_left {
-                record::known(store, p.above_left, b)
-            } else {
-                record::missing(depth, q)
-            }
-        }
-        Source::Above => {
-            if p.has_above {
-                record::known(store, p.above, b)
-            } else {
-                record::missing(depth, q)
-            }
-        }
+        Source::Left if p.has_left => record::known(store, p.left, b),
+        Source::AboveLeft if p.has_above_left => record::known(store, p.above_left, b),
+        Source::Above if p.has_above => record::known(store, p.above, b),
+        _ => record::missing(p.bits_per_pixel, p.quantiser_scale),
     }
 }
 
@@ -46,8 +27,7 @@ fn neighbour(store: &[i32], own: &[i32], p: Place, source: Source, b: u32) -> Si
 fn no_dc(p: Place) -> i32
     ensures { result ≡ (missing_of p.bits_per_pixel p.quantiser_scale).dc }
 {
-    let none = record::missing(p.bits_per_pixel, p.quantiser_scale);
-    none.dc
+    record::missing(p.bits_per_pixel, p.quantiser_scale).dc
 }
 
 // The DC of block `b` of a source.
@@ -56,27 +36,10 @@ pub fn neighbour_dc(store: &[i32], own: &[i32], p: Place, source: Source, b: u32
 {
     match source {
         Source::Own => record::known_dc(own, 0, b),
-        Source::Left => {
-            if p.has_left {
-                record::known_dc(store, p.left, b)
-            } else {
-                no_dc(p)
-            }
-        }
-        Source::AboveLeft => {
-            if p.has_above_left {
-                record::known_dc(store, p.above_left, b)
-            } else {
-                no_dc(p)
-            }
-        }
-        Source::Above => {
-            if p.has_above {
-                record::known_dc(store, p.above, b)
-            } else {
-                no_dc(p)
-            }
-        }
+        Source::Left if p.has_left => record::known_dc(store, p.left, b),
+        Source::AboveLeft if p.has_above_left => record::known_dc(store, p.above_left, b),
+        Source::Above if p.has_above => record::known_dc(store, p.above, b),
+        _ => no_dc(p),
     }
 }
 
@@ -112,52 +75,39 @@ fn taken_by(store: &[i32], own: &[i32], p: Place, i: usize) -> BlockPredictors
 fn lies_if(there: bool, stored: usize, at: u32) -> bool
     ensures { result ≡ cond there (lies stored at) true }
 {
-    if !there {
-        return true;
-    }
-    at as usize + 91 <= stored
+    !there || at as usize + 91 <= stored
 }
 
 // Whether the records around the macroblock that is due do.
 pub fn place_lies(stored: usize, p: Place) -> bool
     ensures { result ≡ place_lies stored p }
 {
-    if !lies_if(p.has_left, stored, p.left) {
-        return false;
-    }
-    if !lies_if(p.has_above_left, stored, p.above_left) {
-        return false;
-    }
-    lies_if(p.has_above, stored, p.above)
+    lies_if(p.has_left, stored, p.left)
+        && lies_if(p.has_above_left, stored, p.above_left)
+        && lies_if(p.has_above, stored, p.above)
 }
 
 // 11, 12, 14.
-pub fn check_taken(stored: usize, owned: usize, p: Place, i: usize) -> Recorded
+pub fn check_taken(stored: usize, owned: usize, p: Place, i: usize) -> Result<(), RecordError>
     ensures value { result ≡ first_bad (taken_tests stored owned p i) }
     ensures outcome { recorded_outcome result ≡ taken_due stored owned p i }
 {
     if 6 <= i {
-        return Recorded::Refused(RecordError::OutOfRange);
+        return Err(RecordError::OutOfRange);
     }
-    if !ranges::Quantiser::fine(p.quantiser_scale) {
-        return Recorded::Refused(RecordError::Context);
+    if !ranges::Quantiser::fine(p.quantiser_scale) || !ranges::Depth::fine(p.bits_per_pixel) {
+        return Err(RecordError::Context);
     }
-    if !ranges::Depth::fine(p.bits_per_pixel) {
-        return Recorded::Refused(RecordError::Context);
+    if !place_lies(stored, p) || owned < 91 {
+        return Err(RecordError::TooShort);
     }
-    if !place_lies(stored, p) {
-        return Recorded::Refused(RecordError::TooShort);
-    }
-    if owned < 91 {
-        return Recorded::Refused(RecordError::TooShort);
-    }
-    Recorded::Done
+    Ok(())
 }
 
 // What a block takes; beside a refusal, what it would take with all neighbours missing.
 #[derive(Clone, Copy)]
 pub struct Taken {
-    pub answer: Recorded,
+    pub answer: Result<(), RecordError>,
     pub predictors: BlockPredictors,
 }
 
@@ -167,30 +117,18 @@ pub fn block_predictors(store: &[i32], own: &[i32], p: Place, i: usize) -> Taken
     ensures outcome { recorded_outcome result.answer ≡ taken_due (length store.now) (length own.now) p i }
 {
     let answer = check_taken(store.len(), own.len(), p, i);
-    match answer {
-        Recorded::Refused(e) => {
-            let predictors = BlockPredictors::outside(p.bits_per_pixel, p.quantiser_scale);
-            let why = Recorded::Refused(e);
-            Taken {
-                answer: why,
-                predictors,
-            }
-        }
-        Recorded::Done => {
-            let predictors = taken_by(store, own, p, i);
-            let fine = Recorded::Done;
-            Taken {
-                answer: fine,
-                predictors,
-            }
-        }
-    }
+    let predictors = match answer {
+        Err(_) => BlockPredictors::outside(p.bits_per_pixel, p.quantiser_scale),
+        Ok(()) => taken_by(store, own, p, i),
+    };
+    Taken { answer, predictors }
 }
 
 // Refusal 13: whether the stored numbers that the six blocks take are in range.
 pub fn neighbours_fine(store: &[i32], own: &[i32], p: Place) -> bool
     ensures { result ≡ neighbours_fine p.bits_per_pixel p.quantiser_scale (around_by p store.now) (record_at own.now 0) }
 {
+    // a loop: what a block takes is named before it is tested
     for i in 0..6 {
         let taken = taken_by(store, own, p, i);
         if !coefficients::predictors_fine(taken) {

@@ -11,3 +11,4 @@ pub mod Fill
 pub mod Every
 pub mod EveryLaws
 pub mod OutcomeLaws
+pub mod Parts

@@ -8,7 +8,6 @@ use Rattle.bits.specs.Bits.{bits_from}
 use Rattle.bits.specs.Cursor.{cursor_at}
 use Rattle.events.specs.declared.spelling.Spellings.{Spellings}
 use Rattle.assembly.proofs.Apart.{Told, after-told, answers-apart, first_told, read_told, taken}
-use Rattle.assembly.specs.declared.error.Checked.{Checked}
 use Rattle.headers.specs.declared.parse.HeaderFields.{HeaderFields}
 use Rattle.macroblock.proofs.Apart.{sentence_by_bits, whole_by_bits}
 use Rattle.picture_state.proofs.Apart.{state-told}
@@ -21,38 +20,38 @@ use Rattle.picture.specs.Outcomes.{picture_outcome}
 use Rattle.picture.specs.Whole as W
 use Rattle.picture.specs.Whole.{Bare, state_bare, whole_by, whole_here, whole_told}
 use Rattle.picture.specs.WholeAnswered.{whole_outcome}
+use Rattle.std.specs.Prelude.{Err, Ok, Result, ⊤}
+use Rattle.assembly.specs.declared.error.BlockAssemblyError.{BlockAssemblyError}
 use Rattle.picture.specs.declared.call.PictureDecoded.{PictureDecoded}
-use Rattle.picture.specs.declared.call.PictureDecoded.TheVariants.{Decoded, Refused}
 use Rattle.picture.specs.declared.whole.PictureWholeDecoded.{PictureWholeDecoded}
-use Rattle.picture.specs.declared.whole.PictureWholeDecoded.TheVariants.{Decoded as WholeIs, Refused as WholeRefused}
 
-abbrev pub decoded : ℕ × (ℕ × (Spellings × Picture)) → PictureDecoded
-decoded a = Decoded a.0 (cursor_at a.1.0) a.1.1.0 a.1.1.1
+abbrev pub decoded : ℕ × (ℕ × (Spellings × Picture)) → Result PictureDecoded BlockAssemblyError
+decoded a = Ok (record { bits = a.0; next = cursor_at a.1.0; spellings = a.1.1.0; picture = a.1.1.1 })
 
-pub picture-apart : (r s : PictureDecoded) → Told decoded Refused r → Told decoded Refused s → picture_outcome r ≡ picture_outcome s → r ≡ s
-picture-apart = answers-apart decoded Refused picture_outcome (λ a. refl) (λ e. refl)
+pub picture-apart : (r s : Result PictureDecoded BlockAssemblyError) → Told decoded Err r → Told decoded Err s → picture_outcome r ≡ picture_outcome s → r ≡ s
+picture-apart = answers-apart decoded Err picture_outcome (λ a. refl) (λ e. refl)
 
-pub picture-told : (p : Picture) (x : Input) (store : List ℤ) → Told decoded Refused (answer_out p x store)
+pub picture-told : (p : Picture) (x : Input) (store : List ℤ) → Told decoded Err (answer_out p x store)
 unfolding answer_out
 picture-told p x store =
-    after-told decoded Refused (answer_with p x) (λ e. refl)
-    (read_told decoded Refused (answer_told p x.bytes x.start) (λ s r. taken (_, (_, (_, _))) refl) (λ e. refl) (sentence_here p x)
+    after-told decoded Err (answer_with p x) (λ e. refl)
+    (read_told decoded Err (answer_told p x.bytes x.start) (λ s r. taken (_, (_, (_, _))) refl) (λ e. refl) (sentence_here p x)
     (sentence_by_bits x.bytes x.start x.header x.context.use_intra_dc_vlc x.context.reversible_vlc))
     (state_here p x store) (state-told p x.bytes x.start x.header _ x.matrix (length x.samples) (length store) _)
 
 -- ---- a whole macroblock
 
-abbrev pub wholly : ℕ × (ℕ × (Spellings × (Picture × HeaderFields))) → PictureWholeDecoded
-wholly a = WholeIs a.0 (cursor_at a.1.0) a.1.1.0 a.1.1.1.0 a.1.1.1.1
+abbrev pub wholly : ℕ × (ℕ × (Spellings × (Picture × HeaderFields))) → Result PictureWholeDecoded BlockAssemblyError
+wholly a = Ok (record { bits = a.0; next = cursor_at a.1.0; spellings = a.1.1.0; picture = a.1.1.1.0; fields = a.1.1.1.1 })
 
-pub whole_apart : (r s : PictureWholeDecoded) → Told wholly WholeRefused r → Told wholly WholeRefused s → whole_outcome r ≡ whole_outcome s → r ≡ s
-whole_apart = answers-apart wholly WholeRefused whole_outcome (λ a. refl) (λ e. refl)
+pub whole_apart : (r s : Result PictureWholeDecoded BlockAssemblyError) → Told wholly Err r → Told wholly Err s → whole_outcome r ≡ whole_outcome s → r ≡ s
+whole_apart = answers-apart wholly Err whole_outcome (λ a. refl) (λ e. refl)
 
-pub whole-told : (p : Picture) (x : Bare) (store : List ℤ) → Told wholly WholeRefused (W.answer_out p x store)
+pub whole-told : (p : Picture) (x : Bare) (store : List ℤ) → Told wholly Err (W.answer_out p x store)
 unfolding W.answer_out state_before
 whole-told p x store =
-    after-told wholly WholeRefused (λ (k : Checked). whole_by p x k (whole_told p x (whole_here p x))) (λ e. refl)
-    (read_told wholly WholeRefused (whole_told p x) (λ m r. taken (_, (_, (_, (_, _)))) refl) (λ e. refl) (whole_here p x) (whole_by_bits x.context.use_intra_dc_vlc x.context.reversible_vlc (bits_from x.bytes x.start)))
+    after-told wholly Err (λ (k : Result ⊤ BlockAssemblyError). whole_by p x k (whole_told p x (whole_here p x))) (λ e. refl)
+    (read_told wholly Err (whole_told p x) (λ m r. taken (_, (_, (_, (_, _)))) refl) (λ e. refl) (whole_here p x) (whole_by_bits x.context.use_intra_dc_vlc x.context.reversible_vlc (bits_from x.bytes x.start)))
     (state_bare p x store)
     (first_told (first_tests p x.bytes x.start (context_of p x.context) x.matrix (length x.samples) (length store) ++ neighbour_tests p (context_of p x.context) (around_due p x.context.quantiser_scale store))
     (tt, (tt, (tt, (tt, (tt, (tt, (tt, tt))))))))

@@ -22,8 +22,6 @@ use Rattle.assembly.proofs.OutcomeLaws.{answered, read_by}
 use Rattle.assembly.proofs.ContextLaws.{depth-fine}
 use Rattle.block_reader.specs.Rows.{rows_of}
 use Rattle.assembly.specs.declared.error.BlockAssemblyError.{BlockAssemblyError}
-use Rattle.assembly.specs.declared.error.Checked.{Checked}
-use Rattle.assembly.specs.declared.error.Checked.TheVariants.{Bad, Fine}
 use Rattle.macroblock.proofs.DemandLaws.{Call, demand, read_of, stopped_of}
 use Rattle.macroblock.specs.Answer.{kept_by, sentence_of}
 use Rattle.headers.specs.Fields.{pattern_by}
@@ -39,9 +37,9 @@ use Rattle.picture.specs.Outcomes.{call_due, call_numbers, call_said, picture_ou
 use Rattle.picture_state.specs.Picture.{onward}
 use Rattle.picture_state.specs.Ring.{offset}
 use Rattle.picture_state.specs.State.{first_tests, later_tests, state_by}
-use Rattle.picture.specs.declared.call.PictureDecoded.{PictureDecoded}
-use Rattle.picture.specs.declared.call.PictureDecoded.TheVariants.{Decoded, Refused}
 use Rattle.picture_state.specs.declared.picture.Picture.{Picture}
+use Rattle.std.specs.Prelude.{Err, Ok, Result, ⊤}
+use Rattle.picture.specs.declared.call.PictureDecoded.{PictureDecoded}
 
 module _ (p : Picture) (x : Input) (store : List ℤ) where
   abbrev dc_coded : Bool
@@ -57,36 +55,37 @@ module _ (p : Picture) (x : Input) (store : List ℤ) where
   store_read y = store_told p x.header dc_coded (context_here p x) x.matrix (around_here p x store) y store
 
   -- the answer by number
-  by_number : {r : PictureDecoded} → r ≡ answer_out p x store → picture_outcome r ≡ call_due p x store
+  by_number : {r : Result PictureDecoded BlockAssemblyError} → r ≡ answer_out p x store → picture_outcome r ≡ call_due p x store
   unfolding answer_out state_by
   by_number e =
       ap picture_outcome e
-      ∙ answered picture_outcome (λ (k : Checked). answer_by k (answer_told p x.bytes x.start (sentence_here p x))) (λ e. refl)
+      ∙ answered picture_outcome (λ (k : Result ⊤ BlockAssemblyError). answer_by k (answer_told p x.bytes x.start (sentence_here p x))) (λ e. refl)
       (first_tests p x.bytes x.start (context_here p x) x.matrix (length x.samples) (length store) ++ later_tests p x.header (context_here p x) (around_here p x store))
       (refl, (refl, (refl, (refl, (refl, (refl, (refl, (refl, (refl, tt)))))))))
       ∙ ap (checked (call_numbers p x store)) (read_by picture_outcome (answer_told p x.bytes x.start) (call_said p x store) x.bytes (λ a r. refl) (λ e. refl) (sentence_here p x))
 
-  pub refused : {e : BlockAssemblyError} → state_here p x store ≡ Bad e → Answered p x store (Refused e) x.samples store
+  pub refused : {e : BlockAssemblyError} → state_here p x store ≡ Err e → Answered p x store (Err e) x.samples store
   unfolding answer_out samples_out store_out
   refused {e} q =
-      let a = sym (ap (λ (s : Checked). answer_by s (answer_told p x.bytes x.start (sentence_here p x))) q) in record {
+      let a = sym (ap (λ (s : Result ⊤ BlockAssemblyError). answer_by s (answer_told p x.bytes x.start (sentence_here p x))) q) in record {
         answer = a;
-        samples = sym (ap (λ (s : Checked). kept_by s (samples_read (sentence_here p x)) x.samples) q);
-        store = sym (ap (λ (s : Checked). kept_by s (store_read (sentence_here p x)) store) q);
+        samples = sym (ap (λ (s : Result ⊤ BlockAssemblyError). kept_by s (samples_read (sentence_here p x)) x.samples) q);
+        store = sym (ap (λ (s : Result ⊤ BlockAssemblyError). kept_by s (store_read (sentence_here p x)) store) q);
         demand = λ f. absurd (let z : ◌≡◌ {A = ℕ} 0 1 = cc in omega arith);
         outcome = by_number a;
         stopped = λ f. absurd (let z : ◌≡◌ {A = ℕ} 0 1 = cc in omega arith);
       }
 
-  module _ (q : state_here p x store ≡ Fine) (r : PictureDecoded) (out st : List ℤ)
+  module _ (q : state_here p x store ≡ Ok tt) (r : Result PictureDecoded BlockAssemblyError) (out st : List ℤ)
       (e : r ≡ answer_told p x.bytes x.start (sentence_here p x)) (f : out ≡ samples_read (sentence_here p x)) (g : st ≡ store_read (sentence_here p x)) where
     fine : FirstFine p x.bytes x.start (context_here p x) x.matrix (length x.samples) (length store)
     fine = state_first p x.bytes x.start (context_here p x) x.matrix (length x.samples) (length store) x.header (around_here p x store) q
 
-    length-is : (n : ℕ) (c : Cursor) (counts : Spellings) → c ≡ cursor_at (x.start + n) → Decoded (c.bit_pos - x.start) c counts (onward p) ≡ Decoded n (cursor_at (x.start + n)) counts (onward p)
+    length-is : (n : ℕ) (c : Cursor) (counts : Spellings) → c ≡ cursor_at (x.start + n)
+        → ◌≡◌ {A = Result PictureDecoded BlockAssemblyError} (Ok (record { bits = c.bit_pos - x.start; next = c; spellings = counts; picture = onward p })) (Ok (record { bits = n; next = cursor_at (x.start + n); spellings = counts; picture = onward p }))
     length-is n c counts k =
         let m : c.bit_pos - x.start ≡ n = let z = ap (λ (y : Cursor). y.bit_pos) k in omega arith in
-        λ i. Decoded (m i) (k i) counts (onward p)
+        λ i. Ok (record { bits = m i; next = k i; spellings = counts; picture = onward p })
 
     call : Call (read_macroblock dc_coded rev (pattern_by x.header)) x.bytes x.start (context_here p x) (values_here x.header dc_coded (context_here p x) x.matrix (around_here p x store)) (Accepted r) (Told p x.start r) x.samples out
     unfolding sentence_of
@@ -143,10 +142,10 @@ module _ (p : Picture) (x : Input) (store : List ℤ) where
     pub whole : Answered p x store r out st
     unfolding answer_out samples_out store_out sentence_of
     whole =
-        let a = e ∙ sym (ap (λ (s : Checked). answer_by s (answer_told p x.bytes x.start (sentence_here p x))) q) in record {
+        let a = e ∙ sym (ap (λ (s : Result ⊤ BlockAssemblyError). answer_by s (answer_told p x.bytes x.start (sentence_here p x))) q) in record {
           answer = a;
-          samples = f ∙ sym (ap (λ (s : Checked). kept_by s (samples_read (sentence_here p x)) x.samples) q);
-          store = g ∙ sym (ap (λ (s : Checked). kept_by s (store_read (sentence_here p x)) store) q);
+          samples = f ∙ sym (ap (λ (s : Result ⊤ BlockAssemblyError). kept_by s (samples_read (sentence_here p x)) x.samples) q);
+          store = g ∙ sym (ap (λ (s : Result ⊤ BlockAssemblyError). kept_by s (store_read (sentence_here p x)) store) q);
           demand = λ _. promise;
           outcome = by_number a;
           stopped = λ _ s b. subst⁻¹ Stopped e (stopped-told (sentence_here p x) (stopped_of x.bytes x.start dc_coded rev (pattern_by x.header) s b));

@@ -12,12 +12,9 @@ use Rattle.bits.specs.declared.cursor.Cursor.{Cursor}
 use Rattle.events.specs.declared.spelling.Spellings.{Spellings}
 use Rattle.samples.specs.Samples.{samples_after}
 use Rattle.fields.specs.declared.error.TextureParseError.{TextureParseError}
-use Rattle.texture.specs.declared.list.EventsRead.{EventsRead}
-use Rattle.texture.specs.declared.list.EventsRead.TheVariants.{Read, Refused as Unread}
 use Rattle.block.proofs.RowLaws.{SixRead, six_read, six_refused}
 use Rattle.block_reader.specs.Rows.{blocks_answer, rows_after}
 use Rattle.assembly.specs.declared.error.BlockAssemblyError.TheVariants.{Texture}
-use Rattle.assembly.specs.declared.error.Checked.TheVariants.{Fine}
 use Rattle.macroblock.specs.Answer.{sentence_of}
 use Rattle.headers.specs.Fields.{pattern_by}
 use Rattle.macroblock.specs.Six.{samples_of_six}
@@ -35,10 +32,10 @@ use Rattle.picture.specs.Answered.{Answered}
 use Rattle.picture.specs.Call.{Input, answer_told, around_here, context_here, state_here}
 use Rattle.picture.specs.Serial.{record_of, values_in_turn}
 use Rattle.picture.specs.Turn.{SixReady}
-use Rattle.picture.specs.declared.call.PictureDecoded.TheVariants.{Decoded, Refused}
+use Rattle.std.specs.Prelude.{Err, Ok, Result}
 
-module _ (p : Picture) (x : Input) (store : List ℤ) (q : state_here p x store ≡ Fine) (pattern : List Bool) (e : pattern ≡ pattern_by x.header)
-    (answer : EventsRead) (f : answer ≡ blocks_answer x.bytes x.start pattern x.context.use_intra_dc_vlc x.context.reversible_vlc) where
+module _ (p : Picture) (x : Input) (store : List ℤ) (q : state_here p x store ≡ Ok tt) (pattern : List Bool) (e : pattern ≡ pattern_by x.header)
+    (answer : Result (Cursor × Spellings) TextureParseError) (f : answer ≡ blocks_answer x.bytes x.start pattern x.context.use_intra_dc_vlc x.context.reversible_vlc) where
   abbrev dc_coded : Bool
   dc_coded = x.context.use_intra_dc_vlc
 
@@ -52,14 +49,14 @@ module _ (p : Picture) (x : Input) (store : List ℤ) (q : state_here p x store 
   answered = f ∙ ap (λ (ps : List Bool). blocks_answer x.bytes x.start ps dc_coded rev) e
 
   -- no sentence
-  pub unread : {n : TextureParseError} → answer ≡ Unread n → Answered p x store (Refused (Texture n)) x.samples store
+  pub unread : {n : TextureParseError} → answer ≡ Err n → Answered p x store (Err (Texture n)) x.samples store
   unfolding sentence_of
   unread k =
       let n = six_refused x.bytes x.start (pattern_by x.header) dc_coded rev fine.inside answer answered k in
       whole p x store q _ _ _ (sym (ap (answer_told p x.bytes x.start) n)) (sym (ap (samples_read p x store) n)) (sym (ap (store_read p x store) n))
 
   -- a sentence, up to `next`
-  module _ (rows old : List (List ℤ)) (g : rows ≡ rows_after x.bytes x.start pattern dc_coded rev old) (next : Cursor) (counts : Spellings) (k : answer ≡ Read next counts) where
+  module _ (rows old : List (List ℤ)) (g : rows ≡ rows_after x.bytes x.start pattern dc_coded rev old) (next : Cursor) (counts : Spellings) (k : answer ≡ Ok (next, counts)) where
     read : SixRead x.bytes x.start (pattern_by x.header) dc_coded rev rows next counts
     read = six_read x.bytes x.start (pattern_by x.header) dc_coded rev fine.inside answer answered rows old (g ∙ ap (λ (ps : List Bool). rows_after x.bytes x.start ps dc_coded rev old) e) k
 
@@ -86,12 +83,12 @@ module _ (p : Picture) (x : Input) (store : List ℤ) (q : state_here p x store 
       -- with its samples and its record
       pub decoded : {out st : List ℤ}
           → out ≡ samples_after (samples_of_six due.context (values_in_turn due.context x.matrix (around_by due.place store) rows)) x.samples
-          → st ≡ stored_at store due.own (record_of due.context x.matrix (around_by due.place store) rows) → Answered p x store (Decoded (next.bit_pos - x.start) next counts (onward p)) out st
+          → st ≡ stored_at store due.own (record_of due.context x.matrix (around_by due.place store) rows) → Answered p x store (Ok (record { bits = next.bit_pos - x.start; next = next; spellings = counts; picture = onward p })) out st
       unfolding around_due sentence_of
       decoded b c =
           let m = read.rows_are in
           whole p x store q _ _ _
-          (ap₂ (λ (y : Cursor) (n : Spellings). Decoded (y.bit_pos - x.start) y n (onward p)) read.place read.counts_are ∙ sym (ap (answer_told p x.bytes x.start) read.read))
+          (ap₂ (λ (y : Cursor) (n : Spellings). Ok (record { bits = y.bit_pos - x.start; next = y; spellings = n; picture = onward p })) read.place read.counts_are ∙ sym (ap (answer_told p x.bytes x.start) read.read))
           (b
           ∙ ap₂ (λ (y : Due) (rs : List (List ℤ)). samples_after (samples_of_six y.context (values_in_turn y.context x.matrix (around_by y.place store) rs)) x.samples) d m
           ∙ sym (ap (samples_read p x store) read.read))

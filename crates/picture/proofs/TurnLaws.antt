@@ -24,10 +24,6 @@ use Rattle.block.specs.Rebuilt.{dc_here, rebuild_tests, rebuilt_answer, rebuilt_
 use Rattle.assembly.specs.Values.{levels_of, samples_of, values_of}
 use Rattle.assembly.specs.declared.context.MacroblockTextureContext.{MacroblockTextureContext}
 use Rattle.assembly.specs.declared.error.BlockAssemblyError.{BlockAssemblyError}
-use Rattle.assembly.specs.declared.error.Checked.{Checked}
-use Rattle.assembly.specs.declared.error.Checked.TheVariants.{Fine}
-use Rattle.block.specs.declared.reconstruct.BlockRebuilt.{BlockRebuilt}
-use Rattle.block.specs.declared.reconstruct.BlockRebuilt.TheVariants.{Rebuilt, Refused}
 use Rattle.macroblock.specs.Six.{samples_of_six}
 use Rattle.record.proofs.RecordLaws.{record_whole}
 use Rattle.record.proofs.RefusalLaws.{block_passes, handed_out, quantiser_passes}
@@ -37,20 +33,20 @@ use Rattle.record.specs.Record.{blank, record_at, stored_at, with_block}
 use Rattle.record.specs.Refusals.{block_tests, first_bad as firstRecord, quantiser_tests, unless}
 use Rattle.neighbours.specs.Taken.{taken_tests}
 use Rattle.places.specs.declared.place.Place.{Place}
-use Rattle.record.specs.declared.refusal.Recorded.TheVariants.{Done}
 use Rattle.window_reader.proofs.EndLaws.{beyond_end}
 use Rattle.window_reader.specs.Ends.{end_of, ends_of}
 use Rattle.picture.proofs.SerialLaws.{turn-predictors, turn-samples, up_next, up-sound}
 use Rattle.picture.specs.Serial.{record_of, record_up_to, values_at, values_in_turn}
 use Rattle.picture.specs.Turn.{SixReady, TurnReady, record_turn, samples_turn, taken_by}
+use Rattle.std.specs.Prelude.{Err, Ok, Result, ⊤}
 
 -- ---- one block
 
 -- an answer is one and no other
-pub not-refused : {r : BlockRebuilt} {d : ℤ} {e : BlockAssemblyError} → r ≡ Rebuilt d → r ≡ Refused e → ⊥
+pub not-refused : {r : Result ℤ BlockAssemblyError} {d : ℤ} {e : BlockAssemblyError} → r ≡ Ok d → r ≡ Err e → ⊥
 not-refused a b = let z : ◌≡◌ {A = ℕ} 0 1 = cc in omega arith
 
-pub same-dc : {r : BlockRebuilt} {c d : ℤ} → r ≡ Rebuilt d → r ≡ Rebuilt c → c ≡ d
+pub same-dc : {r : Result ℤ BlockAssemblyError} {c d : ℤ} → r ≡ Ok d → r ≡ Ok c → c ≡ d
 same-dc a b = cc
 
 module _ (x : MacroblockTextureContext) (w : List (List ℕ)) (p : Place) (store own qfs : List ℤ) (i end room : ℕ) (h : TurnReady x w p store own qfs i end room) where
@@ -58,7 +54,7 @@ module _ (x : MacroblockTextureContext) (w : List (List ℕ)) (p : Place) (store
   abbrev whole : BlockPredictors
   whole = taken_by x p store own i
 
-  found : firstRecord (taken_tests (length store) (length own) p i) ≡ Done
+  found : firstRecord (taken_tests (length store) (length own) p i) ≡ Ok tt
   found =
       let k = h.passed in
       taken_passes (length store) (length own) p i h.index (ap quantiser_fine k.quantiser ∙ quantiser-fine x w k.context) (ap depth_fine k.depth ∙ depth-fine x w k.context) k.lies (omega (arith, h.long))
@@ -77,18 +73,18 @@ module _ (x : MacroblockTextureContext) (w : List (List ℕ)) (p : Place) (store
         ap (λ (ns : List ℤ). levels_of (component_at i) x (numbered ns) qfs) needed_are
         ∙ needed_levels (component_at i) x.quantiser_scale x.ac_pred_flag x.alternate_vertical_scan whole qfs h.taken
 
-    tests : first_bad (rebuild_tests i x (numbered t) w qfs) ≡ Fine
+    tests : first_bad (rebuild_tests i x (numbered t) w qfs) ≡ Ok tt
     tests =
         tests_pass i x (numbered t) w qfs h.index h.passed.context
         (ap (λ (ns : List ℤ). predictors_fine (numbered ns)) needed_are ∙ needed_fine x.quantiser_scale x.ac_pred_flag whole (quantiser-fine x w h.passed.context) h.taken)
         h.places
 
     -- nothing is refused
-    pub rebuilt_is : {r : BlockRebuilt} → r ≡ rebuilt_answer i x (numbered t) w (up_to end qfs) → r ≡ Rebuilt (dc_here (component_at i) x whole w qfs)
+    pub rebuilt_is : {r : Result ℤ BlockAssemblyError} → r ≡ rebuilt_answer i x (numbered t) w (up_to end qfs) → r ≡ Ok (dc_here (component_at i) x whole w qfs)
     rebuilt_is f =
         f ∙ ap (λ (q : List ℤ). rebuilt_answer i x (numbered t) w q) h.ended
-        ∙ ap (λ (k : Checked). rebuilt_by k (dc_here (component_at i) x (numbered t) w qfs)) tests
-        ∙ ap (λ (l : List (List ℤ)). Rebuilt (cell (values_of (component_at i) x w l) 0 0)) same
+        ∙ ap (λ (k : Result ⊤ BlockAssemblyError). rebuilt_by k (dc_here (component_at i) x (numbered t) w qfs)) tests
+        ∙ ap (λ (l : List (List ℤ)). Ok (cell (values_of (component_at i) x w l) 0 0)) same
 
     pub record_is : {out : List ℤ} {dc : ℤ} {qf : List (List ℤ)} (before : List (List ℤ)) → dc ≡ dc_here (component_at i) x whole w qfs → qf ≡ rebuilt_levels i x (numbered t) w (up_to end qfs) before
         → out ≡ unless (firstRecord (block_tests (length own) i)) (with_block own i dc qf) own → out ≡ record_turn x w p store own qfs i

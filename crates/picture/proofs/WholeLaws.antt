@@ -28,8 +28,6 @@ use Rattle.sentences.specs.Macroblock.{Parts, macroblock_bits}
 use Rattle.sentences.specs.MacroblockReader.{read_macroblock}
 use Rattle.assembly.proofs.ContextLaws.{depth-fine}
 use Rattle.assembly.proofs.OutcomeLaws.{answered, read_by}
-use Rattle.assembly.specs.declared.error.Checked.{Checked}
-use Rattle.assembly.specs.declared.error.Checked.TheVariants.{Fine}
 use Rattle.block_reader.specs.Rows.{rows_of}
 use Rattle.headers.proofs.HeaderLaws.{context-fine, header-checked, header_sentences, new_fine}
 use Rattle.headers.specs.Fields.{fields_of, header_of, new_quantiser, pattern_in}
@@ -55,8 +53,9 @@ use Rattle.picture.specs.Call as C
 use Rattle.picture.specs.InPicture as I
 use Rattle.picture.specs.Whole.{Bare, answer_out, behind, samples_out, samples_whole, state_bare, store_out, store_whole, whole_by, whole_here, whole_told, whole_values, with_header}
 use Rattle.picture.specs.WholeAnswered.{Accepted, Begun, Broken, GoodHere, Promise, Stopped, Told, WholeAnswered, whole_due, whole_outcome, whole_said}
+use Rattle.std.specs.Prelude.{Ok, Result, ⊤}
+use Rattle.assembly.specs.declared.error.BlockAssemblyError.{BlockAssemblyError}
 use Rattle.picture.specs.declared.whole.PictureWholeDecoded.{PictureWholeDecoded}
-use Rattle.picture.specs.declared.whole.PictureWholeDecoded.TheVariants.{Decoded}
 
 module _ (p : Picture) (x : Bare) where
   abbrev dc_coded : Bool
@@ -98,11 +97,11 @@ module _ (p : Picture) (x : Bare) where
     whole-behind = bind_by _ e ∙ ap (λ (u : Bits). bind (read_macroblock dc_coded rev (pattern_in h) u) (λ s r. ok (h, s) r)) (sym rest-is)
 
   module _ (store : List ℤ) where
-    abbrev state : Checked
+    abbrev state : Result ⊤ BlockAssemblyError
     state = state_bare p x store
 
     -- the tests pass behind the header too
-    pub state-behind : state ≡ Fine → (h : Header) → x.start + length (header_bits h) ≤ 8 * length x.bytes → C.state_here p (behind x h) store ≡ Fine
+    pub state-behind : state ≡ Ok tt → (h : Header) → x.start + length (header_bits h) ≤ 8 * length x.bytes → C.state_here p (behind x h) store ≡ Ok tt
     unfolding around_due
     state-behind f h l =
         let y = context_of p x.context in
@@ -126,12 +125,12 @@ module _ (p : Picture) (x : Bare) where
 
     -- ---- where the header is read, the call is the one behind it, and takes the header's bits more
 
-    module _ (f : state ≡ Fine) where
+    module _ (f : state ≡ Ok tt) where
       pub start-inside : x.start ≤ 8 * length x.bytes
       start-inside = (in_data_yes (length x.bytes) x.start (before_first p x.bytes x.start (context_of p x.context) x.matrix (length x.samples) (length store) (around_due p q store) f).inside).1
 
       module _ (h : Header) (r : Bits) (e : read_header b ≡ ok h r) where
-        there : C.state_here p (behind x h) store ≡ Fine
+        there : C.state_here p (behind x h) store ≡ Ok tt
         there = state-behind f h (ends start-inside h r e)
 
         answer-told : (y : Res (List Parts)) → blocks h ≡ y
@@ -142,7 +141,7 @@ module _ (p : Picture) (x : Bare) where
             let n = (macroblock_sentences dc_coded rev (pattern_in h)).position x.bytes at (ends start-inside h r e) s u g in
             let m = ap (λ (c : Cursor). c.bit_pos) n in
             let k : (after x.bytes u).bit_pos - x.start ≡ length (header_bits h) + ((after x.bytes u).bit_pos - at) = omega arith in
-            ap (λ (j : ℕ). Decoded j (after x.bytes u) (counts_in s) (onward p) (fields_of q h)) k
+            ap (λ (j : ℕ). Ok (record { bits = j; next = after x.bytes u; spellings = counts_in s; picture = onward p; fields = fields_of q h })) k
         answer-told (no n) g = refl
 
         samples-told : (y : Res (List Parts)) → samples_whole p x store (bind y (λ s r. ok (h, s) r)) ≡ samples_read p (behind x h) store y
@@ -162,12 +161,12 @@ module _ (p : Picture) (x : Bare) where
         unfolding answer_out samples_out store_out C.answer_out C.samples_out C.store_out
         with_header_is =
             let w = whole-behind start-inside h r e in record {
-              answer = ap (λ (k : Checked). whole_by p x k (whole_told p x (whole_here p x))) f ∙ ap (whole_told p x) w ∙ answer-told (blocks h) refl
-                  ∙ sym (ap (λ (k : Checked). with_header (length (header_bits h)) (fields_of q h) (C.answer_with p (behind x h) k)) there);
-              samples = ap (λ (k : Checked). kept_by k (samples_whole p x store (whole_here p x)) x.samples) f ∙ ap (samples_whole p x store) w ∙ samples-told (blocks h)
-                  ∙ sym (ap (λ (k : Checked). kept_by k (samples_read p (behind x h) store (blocks h)) x.samples) there);
-              kept = ap (λ (k : Checked). kept_by k (store_whole p x store (whole_here p x)) store) f ∙ ap (store_whole p x store) w ∙ store_told_lem (blocks h)
-                  ∙ sym (ap (λ (k : Checked). kept_by k (store_read p (behind x h) store (blocks h)) store) there);
+              answer = ap (λ (k : Result ⊤ BlockAssemblyError). whole_by p x k (whole_told p x (whole_here p x))) f ∙ ap (whole_told p x) w ∙ answer-told (blocks h) refl
+                  ∙ sym (ap (λ (k : Result ⊤ BlockAssemblyError). with_header (length (header_bits h)) (fields_of q h) (C.answer_with p (behind x h) k)) there);
+              samples = ap (λ (k : Result ⊤ BlockAssemblyError). kept_by k (samples_whole p x store (whole_here p x)) x.samples) f ∙ ap (samples_whole p x store) w ∙ samples-told (blocks h)
+                  ∙ sym (ap (λ (k : Result ⊤ BlockAssemblyError). kept_by k (samples_read p (behind x h) store (blocks h)) x.samples) there);
+              kept = ap (λ (k : Result ⊤ BlockAssemblyError). kept_by k (store_whole p x store (whole_here p x)) store) f ∙ ap (store_whole p x store) w ∙ store_told_lem (blocks h)
+                  ∙ sym (ap (λ (k : Result ⊤ BlockAssemblyError). kept_by k (store_read p (behind x h) store (blocks h)) store) there);
             }
 
     -- ---- all that is promised
@@ -175,29 +174,30 @@ module _ (p : Picture) (x : Bare) where
     by_number : whole_outcome (answer_out p x store) ≡ whole_due p x store
     unfolding answer_out state_before
     by_number =
-        answered whole_outcome (λ (k : Checked). whole_by p x k (whole_told p x (whole_here p x))) (λ e. refl)
+        answered whole_outcome (λ (k : Result ⊤ BlockAssemblyError). whole_by p x k (whole_told p x (whole_here p x))) (λ e. refl)
         (first_tests p x.bytes x.start (context_of p x.context) x.matrix (length x.samples) (length store) ++ neighbour_tests p (context_of p x.context) (around_due p q store))
         (refl, (refl, (refl, (refl, (refl, (refl, (refl, tt)))))))
         ∙ ap (checked (numbers_before p x.bytes x.start x.context x.matrix (length x.samples) store [])) (read_by whole_outcome (whole_told p x) (whole_said p x) x.bytes (λ a r. refl) (λ e. refl) (whole_here p x))
 
-    module _ (r : PictureWholeDecoded) (out st : List ℤ) (e : r ≡ answer_out p x store) (f : out ≡ samples_out p x store) (g : st ≡ store_out p x store) where
-      module _ (fine : state ≡ Fine) where
+    module _ (r : Result PictureWholeDecoded BlockAssemblyError) (out st : List ℤ) (e : r ≡ answer_out p x store) (f : out ≡ samples_out p x store) (g : st ≡ store_out p x store) where
+      module _ (fine : state ≡ Ok tt) where
         told_is : r ≡ whole_told p x (whole_here p x)
         unfolding answer_out
-        told_is = e ∙ ap (λ (k : Checked). whole_by p x k (whole_told p x (whole_here p x))) fine
+        told_is = e ∙ ap (λ (k : Result ⊤ BlockAssemblyError). whole_by p x k (whole_told p x (whole_here p x))) fine
 
         out-is : out ≡ samples_whole p x store (whole_here p x)
         unfolding samples_out
-        out-is = f ∙ ap (λ (k : Checked). kept_by k (samples_whole p x store (whole_here p x)) x.samples) fine
+        out-is = f ∙ ap (λ (k : Result ⊤ BlockAssemblyError). kept_by k (samples_whole p x store (whole_here p x)) x.samples) fine
 
         store_is : st ≡ store_whole p x store (whole_here p x)
         unfolding store_out
-        store_is = g ∙ ap (λ (k : Checked). kept_by k (store_whole p x store (whole_here p x)) store) fine
+        store_is = g ∙ ap (λ (k : Result ⊤ BlockAssemblyError). kept_by k (store_whole p x store (whole_here p x)) store) fine
 
-        length-is : (n : ℕ) (c : Cursor) (counts : Spellings) (fs : HeaderFields) → c ≡ cursor_at (x.start + n) → Decoded (c.bit_pos - x.start) c counts (onward p) fs ≡ Decoded n (cursor_at (x.start + n)) counts (onward p) fs
+        length-is : (n : ℕ) (c : Cursor) (counts : Spellings) (fs : HeaderFields) → c ≡ cursor_at (x.start + n)
+            → ◌≡◌ {A = Result PictureWholeDecoded BlockAssemblyError} (Ok (record { bits = c.bit_pos - x.start; next = c; spellings = counts; picture = onward p; fields = fs })) (Ok (record { bits = n; next = cursor_at (x.start + n); spellings = counts; picture = onward p; fields = fs }))
         length-is n c counts fs k =
             let m : c.bit_pos - x.start ≡ n = let z = ap (λ (y : Cursor). y.bit_pos) k in omega arith in
-            λ i. Decoded (m i) (k i) counts (onward p) fs
+            λ i. Ok (record { bits = m i; next = k i; spellings = counts; picture = onward p; fields = fs })
 
         -- depth and rounding are the picture's and the call's, whatever the header
         same-samples : (m : Whole) → samples_of_six (C.context_here p (behind x m.0)) (whole_values p x store m) ≡ samples_of_six (context_of p x.context) (whole_values p x store m)

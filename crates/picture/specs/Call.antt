@@ -1,5 +1,5 @@
 -- What a call in a picture answers and leaves in the lent samples and store, refusals included. Definitions only.
-use Rattle.std.specs.Prelude.{Bool, List, ℕ, ◌-◌, ℤ, length}
+use Rattle.std.specs.Prelude.{Bool, List, ℕ, ◌-◌, ℤ, length, Err, Ok, Result, ⊤}
 use Rattle.samples.specs.Samples.{samples_after}
 use Rattle.fields.specs.Answer.{after}
 use Rattle.events.specs.Spellings.{spellings_of}
@@ -8,8 +8,6 @@ use Rattle.fields.specs.Reader.{Res, no, ok}
 use Rattle.block_reader.specs.Rows.{rows_of}
 use Rattle.assembly.specs.declared.context.MacroblockTextureContext.{MacroblockTextureContext}
 use Rattle.assembly.specs.declared.error.BlockAssemblyError.TheVariants.{Texture}
-use Rattle.assembly.specs.declared.error.Checked.{Checked}
-use Rattle.assembly.specs.declared.error.Checked.TheVariants.{Bad, Fine}
 use Rattle.macroblock.specs.Answer.{kept_by, sentence_of}
 use Rattle.headers.specs.Fields.{pattern_by}
 use Rattle.macroblock.specs.Six.{samples_of_six}
@@ -20,10 +18,10 @@ use Rattle.picture_state.specs.Picture.{context_of, onward}
 use Rattle.picture_state.specs.Ring.{around_due, offset}
 use Rattle.picture.specs.Serial.{record_of, values_in_turn}
 use Rattle.picture_state.specs.State.{state_by}
-use Rattle.picture.specs.declared.call.PictureDecoded.{PictureDecoded}
-use Rattle.picture.specs.declared.call.PictureDecoded.TheVariants.{Decoded, Refused}
 use Rattle.picture_state.specs.declared.picture.MacroblockContext.{MacroblockContext}
 use Rattle.picture_state.specs.declared.picture.Picture.{Picture}
+use Rattle.assembly.specs.declared.error.BlockAssemblyError.{BlockAssemblyError}
+use Rattle.picture.specs.declared.call.PictureDecoded.{PictureDecoded}
 
 -- what a call brings
 pub record Input : Type 0 where
@@ -47,9 +45,9 @@ record_here h dc_coded x w ar s = record_of x w ar (rows_of dc_coded (pattern_by
 
 -- ---- of what was read
 
-abbrev pub answer_told : Picture → List ℕ → ℕ → Res (List Parts) → PictureDecoded
-answer_told p d at (ok s r) = Decoded ((after d r).bit_pos - at) (after d r) (spellings_of (events_in s)) (onward p)
-answer_told p d at (no e) = Refused (Texture e)
+abbrev pub answer_told : Picture → List ℕ → ℕ → Res (List Parts) → Result PictureDecoded BlockAssemblyError
+answer_told p d at (ok s r) = Ok (record { bits = (after d r).bit_pos - at; next = after d r; spellings = spellings_of (events_in s); picture = onward p })
+answer_told p d at (no e) = Err (Texture e)
 
 abbrev pub samples_told : MacroblockHeader → Bool → MacroblockTextureContext → List (List ℕ) → Around → Res (List Parts) → List ℤ → List ℤ
 samples_told h dc_coded x w ar (ok s r) old = samples_after (samples_of_six x (values_here h dc_coded x w ar s)) old
@@ -61,9 +59,9 @@ store_told p h dc_coded x w ar (no e) old = old
 
 -- ---- of the call, with the state and the neighbours that it finds
 
-abbrev pub answer_by : Checked → PictureDecoded → PictureDecoded
-answer_by Fine a = a
-answer_by (Bad e) a = Refused e
+abbrev pub answer_by : Result ⊤ BlockAssemblyError → Result PictureDecoded BlockAssemblyError → Result PictureDecoded BlockAssemblyError
+answer_by (Ok tt) a = a
+answer_by (Err e) a = Err e
 
 module _ (p : Picture) (x : Input) where
   abbrev pub context_here : MacroblockTextureContext
@@ -72,13 +70,13 @@ module _ (p : Picture) (x : Input) where
   abbrev pub sentence_here : Res (List Parts)
   sentence_here = sentence_of x.bytes x.start x.header x.context.use_intra_dc_vlc x.context.reversible_vlc
 
-  abbrev pub answer_with : Checked → PictureDecoded
+  abbrev pub answer_with : Result ⊤ BlockAssemblyError → Result PictureDecoded BlockAssemblyError
   answer_with s = answer_by s (answer_told p x.bytes x.start sentence_here)
 
-  abbrev pub samples_with : Checked → Around → List ℤ
+  abbrev pub samples_with : Result ⊤ BlockAssemblyError → Around → List ℤ
   samples_with s ar = kept_by s (samples_told x.header x.context.use_intra_dc_vlc context_here x.matrix ar sentence_here x.samples) x.samples
 
-  abbrev pub store_with : Checked → Around → List ℤ → List ℤ
+  abbrev pub store_with : Result ⊤ BlockAssemblyError → Around → List ℤ → List ℤ
   store_with s ar store = kept_by s (store_told p x.header x.context.use_intra_dc_vlc context_here x.matrix ar sentence_here store) store
 
   -- with a store
@@ -86,10 +84,10 @@ module _ (p : Picture) (x : Input) where
     abbrev pub around_here : Around
     around_here = around_due p x.context.quantiser_scale store
 
-    abbrev pub state_here : Checked
+    abbrev pub state_here : Result ⊤ BlockAssemblyError
     state_here = state_by p x.bytes x.start x.header context_here x.matrix (length x.samples) (length store) around_here
 
-    unfoldable pub answer_out : PictureDecoded
+    unfoldable pub answer_out : Result PictureDecoded BlockAssemblyError
     answer_out = answer_with state_here
 
     unfoldable pub samples_out : List ℤ

@@ -1,5 +1,5 @@
 -- What the answer of a call in a picture says in document 01's numbers, and what is due. Definitions only.
-use Rattle.std.specs.Prelude.{Bool, List, ℕ, ◌-◌, ℤ, length}
+use Rattle.std.specs.Prelude.{Bool, List, ℕ, ◌-◌, ℤ, length, Err, Ok, Result}
 use Rattle.numbers.specs.Outcome.{Outcome, accepted, checked, refused}
 use Rattle.events.specs.Spellings.{spellings_of}
 use Rattle.events.specs.declared.spelling.Spellings.{Spellings}
@@ -11,12 +11,12 @@ use Rattle.picture_state.specs.Picture.{onward}
 use Rattle.picture_state.specs.declared.picture.Picture.{Picture}
 use Rattle.picture.specs.Call.{Input, sentence_here}
 use Rattle.picture.specs.declared.call.PictureDecoded.{PictureDecoded}
-use Rattle.picture.specs.declared.call.PictureDecoded.TheVariants.{Decoded, Refused}
+use Rattle.assembly.specs.declared.error.BlockAssemblyError.{BlockAssemblyError}
 
 -- bits taken, the position after them, the number of events of each spelling, and the picture with one more accepted
-abbrev pub picture_outcome : PictureDecoded → Outcome (ℕ × (ℕ × (Spellings × Picture)))
-picture_outcome (Decoded n c k p) = accepted (n, (c.bit_pos, (k, p)))
-picture_outcome (Refused e) = refused (number_of e) (figure_of e)
+abbrev pub picture_outcome : Result PictureDecoded BlockAssemblyError → Outcome (ℕ × (ℕ × (Spellings × Picture)))
+picture_outcome (Ok d) = accepted (d.bits, (d.next.bit_pos, (d.spellings, d.picture)))
+picture_outcome (Err e) = refused (number_of e) (figure_of e)
 
 module _ (p : Picture) (x : Input) (store : List ℤ) where
   -- 11, 12, 14, 15, 13, 9, 10

@@ -1,5 +1,5 @@
 -- What a call in a picture answers and leaves in the lent samples and store where its header is in its bits, refusals included. Definitions only.
-use Rattle.std.specs.Prelude.{List, ℕ, ◌+◌, ◌-◌, ℤ, length}
+use Rattle.std.specs.Prelude.{List, ℕ, ◌+◌, ◌-◌, ℤ, length, Err, Ok, Result, ⊤}
 use Rattle.bits.specs.Bits.{bits_from}
 use Rattle.samples.specs.Samples.{samples_after}
 use Rattle.fields.specs.Answer.{after}
@@ -7,8 +7,6 @@ use Rattle.events.specs.Spellings.{spellings_of}
 use Rattle.sentences.specs.Macroblock.{events_in}
 use Rattle.fields.specs.Reader.{Res, no, ok}
 use Rattle.assembly.specs.declared.error.BlockAssemblyError.TheVariants.{Texture}
-use Rattle.assembly.specs.declared.error.Checked.{Checked}
-use Rattle.assembly.specs.declared.error.Checked.TheVariants.{Bad, Fine}
 use Rattle.headers.specs.Fields.{context_with, fields_of, header_of}
 use Rattle.headers.specs.Header.{Header, header_bits}
 use Rattle.headers.specs.declared.parse.HeaderFields.{HeaderFields}
@@ -25,10 +23,9 @@ use Rattle.picture_state.specs.declared.picture.MacroblockContext.{MacroblockCon
 use Rattle.picture_state.specs.declared.picture.Picture.{Picture}
 use Rattle.picture_state.specs.declared.state.Due.{Due}
 use Rattle.picture.specs.Call.{Input, around_here, context_here, record_here, values_here}
+use Rattle.assembly.specs.declared.error.BlockAssemblyError.{BlockAssemblyError}
 use Rattle.picture.specs.declared.call.PictureDecoded.{PictureDecoded}
-use Rattle.picture.specs.declared.call.PictureDecoded.TheVariants.{Decoded as BlocksDecoded, Refused as BlocksRefused}
 use Rattle.picture.specs.declared.whole.PictureWholeDecoded.{PictureWholeDecoded}
-use Rattle.picture.specs.declared.whole.PictureWholeDecoded.TheVariants.{Decoded, Refused}
 
 -- what a call brings; its quantiser is the one before the header
 pub record Bare : Type 0 where
@@ -84,9 +81,9 @@ behind x h =
     }
 
 -- the answer of the call behind a header of n bits, with the header in front
-abbrev pub with_header : ℕ → HeaderFields → PictureDecoded → PictureWholeDecoded
-with_header n f (BlocksDecoded bits c k p) = Decoded (n + bits) c k p f
-with_header n f (BlocksRefused e) = Refused e
+abbrev pub with_header : ℕ → HeaderFields → Result PictureDecoded BlockAssemblyError → Result PictureWholeDecoded BlockAssemblyError
+with_header n f (Ok d) = Ok (record { bits = n + d.bits; next = d.next; spellings = d.spellings; picture = d.picture; fields = f })
+with_header n f (Err e) = Err e
 
 module _ (p : Picture) (x : Bare) where
   abbrev pub whole_here : Res Whole
@@ -94,13 +91,13 @@ module _ (p : Picture) (x : Bare) where
 
   -- ---- of what was read
 
-  abbrev pub whole_told : Res Whole → PictureWholeDecoded
-  whole_told (ok m r) = Decoded ((after x.bytes r).bit_pos - x.start) (after x.bytes r) (spellings_of (events_in m.1)) (onward p) (fields_of x.context.quantiser_scale m.0)
-  whole_told (no e) = Refused (Texture e)
+  abbrev pub whole_told : Res Whole → Result PictureWholeDecoded BlockAssemblyError
+  whole_told (ok m r) = Ok (record { bits = (after x.bytes r).bit_pos - x.start; next = after x.bytes r; spellings = spellings_of (events_in m.1); picture = onward p; fields = fields_of x.context.quantiser_scale m.0 })
+  whole_told (no e) = Err (Texture e)
 
-  abbrev pub whole_by : Checked → PictureWholeDecoded → PictureWholeDecoded
-  whole_by Fine a = a
-  whole_by (Bad e) a = Refused e
+  abbrev pub whole_by : Result ⊤ BlockAssemblyError → Result PictureWholeDecoded BlockAssemblyError → Result PictureWholeDecoded BlockAssemblyError
+  whole_by (Ok tt) a = a
+  whole_by (Err e) a = Err e
 
   module _ (store : List ℤ) where
     -- the values of a whole macroblock, and what is kept of it
@@ -120,10 +117,10 @@ module _ (p : Picture) (x : Bare) where
 
     -- ---- of the call: the state, then what is read
 
-    abbrev pub state_bare : Checked
+    abbrev pub state_bare : Result ⊤ BlockAssemblyError
     state_bare = state_before p x.bytes x.start (context_of p x.context) x.matrix (length x.samples) (length store) (around_due p x.context.quantiser_scale store)
 
-    unfoldable pub answer_out : PictureWholeDecoded
+    unfoldable pub answer_out : Result PictureWholeDecoded BlockAssemblyError
     answer_out = whole_by state_bare (whole_told whole_here)
 
     unfoldable pub samples_out : List ℤ

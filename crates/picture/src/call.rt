@@ -1,6 +1,5 @@
 // One call: the macroblock that is due.
-ghost use Rattle.std.specs.Prelude.{◌≡◌};
-ghost use Rattle.assembly.specs.declared.error.Checked.TheVariants.{Fine};
+ghost use Rattle.std.specs.Prelude.{◌≡◌, Ok};
 ghost use Rattle.picture_state.specs.Picture.{context_of};
 ghost use Rattle.picture_state.specs.State.{due_of};
 ghost use Rattle.picture.specs.Answered.{Answered};
@@ -9,15 +8,17 @@ ghost use Rattle.picture.specs.Call.{given, state_here};
 use bits::Cursor;
 use block::BlockAssemblyError;
 use headers::MacroblockHeader;
-use picture_state::{Due, MacroblockContext, Picture, StateChecked};
-use texture::{EventsRead, Spellings};
+use picture_state::{Due, MacroblockContext, Picture};
+use texture::Spellings;
 
 // The number of bits taken, the cursor after them, the number of events of each spelling and the picture with one more
-// accepted; or a refusal.
+// accepted.
 #[derive(Clone, Copy)]
-pub enum PictureDecoded {
-    Decoded(usize, Cursor, Spellings, Picture),
-    Refused(BlockAssemblyError),
+pub struct PictureDecoded {
+    pub bits: usize,
+    pub next: Cursor,
+    pub spellings: Spellings,
+    pub picture: Picture,
 }
 
 // Once the state is checked: all bits first, then the samples, then the record.
@@ -31,14 +32,14 @@ pub(crate) fn decode_due(
     due: Due,
     samples: &mut [i32],
     store: &mut [i32],
-) -> PictureDecoded
-    requires { (state_here p (given «data».now c.bit_pos header m w samples.old) store.old ≡ Fine) × (due ≡ due_of p (context_of p m)) }
+) -> Result<PictureDecoded, BlockAssemblyError>
+    requires { (state_here p (given «data».now c.bit_pos header m w samples.old) store.old ≡ Ok tt) × (due ≡ due_of p (context_of p m)) }
     ensures { Answered p (given «data».now c.bit_pos header m w samples.old) store.old result samples.new store.new }
 {
     let pattern = block::pattern_code(header.cbpy, header.cbpc);
     let mut rows = [[0i32; 64]; 6];
     let mut ends = [0usize; 6];
-    let answer = window_reader::read_six(
+    let (next, spellings) = window_reader::read_six(
         data,
         c,
         pattern,
@@ -46,17 +47,17 @@ pub(crate) fn decode_due(
         m.reversible_vlc,
         &mut rows,
         &mut ends,
-    );
-    match answer {
-        EventsRead::Refused(e) => PictureDecoded::Refused(BlockAssemblyError::Texture(e)),
-        EventsRead::Read(next, spellings) => {
-            crate::reconstruct::reconstruct(due, &rows, ends, w, samples, store);
-            let mut onward = p;
-            onward.accepted = p.accepted + 1;
-            let bits = next.bit_pos - c.bit_pos;
-            PictureDecoded::Decoded(bits, next, spellings, onward)
-        }
-    }
+    )?;
+    crate::reconstruct::reconstruct(due, &rows, ends, w, samples, store);
+    let mut onward = p;
+    onward.accepted = p.accepted + 1;
+    let bits = next.bit_pos - c.bit_pos;
+    Ok(PictureDecoded {
+        bits,
+        next,
+        spellings,
+        picture: onward,
+    })
 }
 
 // The macroblock that is due: what is answered, what samples and store hold, demand 3, and the answer by number.
@@ -69,23 +70,10 @@ pub fn decode_macroblock(
     quant_matrix: [[u8; 8]; 8],
     samples: &mut [i32],
     store: &mut [i32],
-) -> PictureDecoded
+) -> Result<PictureDecoded, BlockAssemblyError>
     ensures { Answered p (given «data».now c.bit_pos header m quant_matrix samples.old) store.old result samples.new store.new }
 {
     let room = samples.len();
-    let checked = picture_state::check_state(p, data, c, header, m, quant_matrix, room, &*store);
-    match checked {
-        StateChecked::Refused(e) => PictureDecoded::Refused(e),
-        StateChecked::Ready(due) => decode_due(
-            p,
-            data,
-            c,
-            header,
-            m,
-            quant_matrix,
-            due,
-            samples,
-            store,
-        ),
-    }
+    let due = picture_state::check_state(p, data, c, header, m, quant_matrix, room, &*store)?;
+    decode_due(p, data, c, header, m, quant_matrix, due, samples, store)
 }

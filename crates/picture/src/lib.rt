@@ -10,5 +10,5 @@ mod reconstruct;
 mod whole;
 
 pub use call::{PictureDecoded, decode_macroblock};
-pub use picture_state::{MacroblockContext, Picture, PictureOpened};
+pub use picture_state::{MacroblockContext, Picture};
 pub use whole::{PictureWholeDecoded, decode_macroblock_with_header};

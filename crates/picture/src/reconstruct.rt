@@ -9,7 +9,7 @@ ghost use Rattle.samples.specs.Samples.{block_after, samples_after};
 ghost use Rattle.picture.specs.Serial.{record_of, values_in_turn};
 ghost use Rattle.picture.specs.Turn.{SixReady, TurnReady, record_turn, samples_turn};
 
-use block::{BlockRebuilt, MacroblockTextureContext};
+use block::MacroblockTextureContext;
 use neighbours::Place;
 use picture_state::Due;
 
@@ -25,8 +25,8 @@ fn put(
     ensures record { own.new ≡ unless (first_bad (block_tests (length own.old) i)) (with_block own.old i dc qf) own.old }
     ensures samples { samples.new ≡ block_after i spatial samples.old }
 {
-    samples::write_one(samples, i, spatial);
-    neighbours::with_block(own, i, dc, qf);
+    let _ = samples::write_one(samples, i, spatial);
+    let _ = neighbours::with_block(own, i, dc, qf);
 }
 
 // Block `i` out of its places below `end`: its samples into its part, and what is kept of it into the record `own`.
@@ -46,11 +46,10 @@ fn one_block(
     ensures samples { samples.new ≡ samples_turn ctx w place store.now own.old qfs.now i samples.old }
 {
     let mut n = [0i32; 11];
-    needed::predictors_needed(store, &*own, place, i, ctx.ac_pred_flag, &mut n);
+    let _ = needed::predictors_needed(store, &*own, place, i, ctx.ac_pred_flag, &mut n);
     let mut spatial = [[0i32; 8]; 8];
     let mut qf = [[0i32; 8]; 8];
-    let one = block::reconstruct_up_to(i, qfs, end, ctx, &n, w, &mut spatial, &mut qf);
-    let BlockRebuilt::Rebuilt(dc) = one else {
+    let Ok(dc) = block::reconstruct_up_to(i, qfs, end, ctx, &n, w, &mut spatial, &mut qf) else {
         return;
     };
     put(samples, spatial, own, i, dc, qf);
@@ -73,11 +72,12 @@ pub(crate) fn reconstruct(
     let ctx = due.context;
     let place = due.place;
     let mut own = [0i32; 91];
-    neighbours::new_record(ctx.quantiser_scale, &mut own);
+    let _ = neighbours::new_record(ctx.quantiser_scale, &mut own);
+    // an index: the block's number is passed too
     for i in 0..6 {
         one_block(
             &*store, place, &rows[i], ends[i], ctx, w, i, &mut own, samples,
         );
     }
-    neighbours::put_record(store, due.own, own);
+    let _ = neighbours::put_record(store, due.own, own);
 }

@@ -7,40 +7,38 @@ use Rattle.ranges.specs.Range.{depth_fine}
 use Rattle.assembly.proofs.Apart.{Told, after-told, answers-apart, failed, fine, first_told, taken}
 use Rattle.assembly.specs.declared.context.MacroblockTextureContext.{MacroblockTextureContext}
 use Rattle.assembly.specs.declared.error.BlockAssemblyError.TheVariants.{Context, OutOfRange}
-use Rattle.assembly.specs.declared.error.Checked.TheVariants.{Bad}
 use Rattle.headers.specs.declared.header.MacroblockHeader.{MacroblockHeader}
 use Rattle.neighbours.specs.Neighbours.{Around}
 use Rattle.picture_state.specs.Outcomes.{opened_outcome, state_outcome}
 use Rattle.picture_state.specs.Picture.{open_of, picture_of, size_fine}
 use Rattle.picture_state.specs.State.{checked_by, due_of, first_tests, later_tests, state_by}
 use Rattle.picture_state.specs.declared.picture.Picture.{Picture}
-use Rattle.picture_state.specs.declared.picture.PictureOpened.{PictureOpened}
-use Rattle.picture_state.specs.declared.picture.PictureOpened.TheVariants.{Opened, Refused as Unopened}
-use Rattle.picture_state.specs.declared.state.StateChecked.{StateChecked}
-use Rattle.picture_state.specs.declared.state.StateChecked.TheVariants.{Ready, Refused}
+use Rattle.std.specs.Prelude.{Err, Ok, Result}
+use Rattle.assembly.specs.declared.error.BlockAssemblyError.{BlockAssemblyError}
+use Rattle.picture_state.specs.declared.state.Due.{Due}
 
 -- ---- an opening
 
-pub opened-apart : (r s : PictureOpened) → Told Opened Unopened r → Told Opened Unopened s → opened_outcome r ≡ opened_outcome s → r ≡ s
-opened-apart = answers-apart Opened Unopened opened_outcome (λ a. refl) (λ e. refl)
+pub opened-apart : (r s : Result Picture BlockAssemblyError) → Told Ok Err r → Told Ok Err s → opened_outcome r ≡ opened_outcome s → r ≡ s
+opened-apart = answers-apart Ok Err opened_outcome (λ a. refl) (λ e. refl)
 
-pub opened-told : (w h depth : ℕ) (method : Bool) → Told Opened Unopened (open_of w h depth method)
+pub opened-told : (w h depth : ℕ) (method : Bool) → Told Ok Err (open_of w h depth method)
 opened-told w h depth method = go (size_fine w h) (depth_fine depth)
   where
-    go : (s t : Bool) → Told Opened Unopened (cond s (cond t (Opened (picture_of w h depth method 0)) (Unopened Context)) (Unopened OutOfRange))
+    go : (s t : Bool) → Told Ok Err (cond s (cond t (Ok (picture_of w h depth method 0)) (Err Context)) (Err OutOfRange))
     go true true = taken _ refl
     go true false = failed Context tt refl
     go false t = failed OutOfRange tt refl
 
 -- ---- the checks
 
-pub state-apart : (r s : StateChecked) → Told Ready Refused r → Told Ready Refused s → state_outcome r ≡ state_outcome s → r ≡ s
-state-apart = answers-apart Ready Refused state_outcome (λ a. refl) (λ e. refl)
+pub state-apart : (r s : Result Due BlockAssemblyError) → Told Ok Err r → Told Ok Err s → state_outcome r ≡ state_outcome s → r ≡ s
+state-apart = answers-apart Ok Err state_outcome (λ a. refl) (λ e. refl)
 
 module _ (p : Picture) (d : List ℕ) (at : ℕ) (h : MacroblockHeader) (x : MacroblockTextureContext) (w : List (List ℕ)) (room stored : ℕ) (ar : Around) where
-  pub state-told : Told fine Bad (state_by p d at h x w room stored ar)
+  pub state-told : Told fine Err (state_by p d at h x w room stored ar)
   unfolding state_by
   state-told = first_told (first_tests p d at x w room stored ++ later_tests p h x ar) (tt, (tt, (tt, (tt, (tt, (tt, (tt, (tt, (tt, tt)))))))))
 
-  pub checked-told : Told Ready Refused (checked_by p x (state_by p d at h x w room stored ar))
-  checked-told = after-told Ready Refused (checked_by p x) (λ e. refl) (taken (due_of p x) refl) (state_by p d at h x w room stored ar) state-told
+  pub checked-told : Told Ok Err (checked_by p x (state_by p d at h x w room stored ar))
+  checked-told = after-told Ok Err (checked_by p x) (λ e. refl) (taken (due_of p x) refl) (state_by p d at h x w room stored ar) state-told

@@ -1,5 +1,5 @@
 -- What an opening and the checks of a call say in document 01's numbers, and what is due. Definitions only.
-use Rattle.std.specs.Prelude.{Bool, List, [], ◌∷◌, ℕ, ◌*◌, leb, ltb, ℤ, length}
+use Rattle.std.specs.Prelude.{Bool, List, [], ◌∷◌, ℕ, ◌*◌, leb, ltb, ℤ, length, Err, Ok, Result}
 use Rattle.numbers.specs.Outcome.{Outcome, accepted, checked, refused}
 use Rattle.ranges.specs.Range.{depth_fine}
 use Rattle.bits.specs.Cursor.{in_data}
@@ -16,26 +16,23 @@ use Rattle.picture_state.specs.Sizes.{store_for}
 use Rattle.picture_state.specs.State.{due_of}
 use Rattle.picture_state.specs.declared.picture.MacroblockContext.{MacroblockContext}
 use Rattle.picture_state.specs.declared.picture.Picture.{Picture}
-use Rattle.picture_state.specs.declared.picture.PictureOpened.{PictureOpened}
-use Rattle.picture_state.specs.declared.picture.PictureOpened.TheVariants.{Opened, Refused as Unopened}
 use Rattle.picture_state.specs.declared.state.Due.{Due}
-use Rattle.picture_state.specs.declared.state.StateChecked.{StateChecked}
-use Rattle.picture_state.specs.declared.state.StateChecked.TheVariants.{Ready, Refused}
+use Rattle.assembly.specs.declared.error.BlockAssemblyError.{BlockAssemblyError}
 
 -- ---- an opening: 11, then 12
 
-abbrev pub opened_outcome : PictureOpened → Outcome Picture
-opened_outcome (Opened p) = accepted p
-opened_outcome (Unopened e) = refused (number_of e) (figure_of e)
+abbrev pub opened_outcome : Result Picture BlockAssemblyError → Outcome Picture
+opened_outcome (Ok p) = accepted p
+opened_outcome (Err e) = refused (number_of e) (figure_of e)
 
 abbrev pub open_due : ℕ → ℕ → ℕ → Bool → Outcome Picture
 open_due w h depth method = checked ((size_fine w h, 11) ∷ (depth_fine depth, 12) ∷ []) (accepted (picture_of w h depth method 0))
 
 -- ---- the checks of a call: 11, 12, 14, 15, 13, 9, 10
 
-abbrev pub state_outcome : StateChecked → Outcome Due
-state_outcome (Ready d) = accepted d
-state_outcome (Refused e) = refused (number_of e) (figure_of e)
+abbrev pub state_outcome : Result Due BlockAssemblyError → Outcome Due
+state_outcome (Ok d) = accepted d
+state_outcome (Err e) = refused (number_of e) (figure_of e)
 
 module _ (p : Picture) (d : List ℕ) (at : ℕ) (m : MacroblockContext) (w : List (List ℕ)) (room : ℕ) (store : List ℤ) where
   -- without a header: 11, 12, 14, 15, 13, then what follows

@@ -1,12 +1,11 @@
 -- A picture, its opening, and the context of a macroblock in it. Definitions only.
-use Rattle.std.specs.Prelude.{Bool, cond, ◌&&◌, ℕ, ◌+◌, leb}
+use Rattle.std.specs.Prelude.{Bool, cond, ◌&&◌, ℕ, ◌+◌, leb, Err, Ok, Result}
 use Rattle.ranges.specs.Range.{depth_fine}
 use Rattle.assembly.specs.declared.context.MacroblockTextureContext.{MacroblockTextureContext}
 use Rattle.assembly.specs.declared.error.BlockAssemblyError.TheVariants.{Context, OutOfRange}
 use Rattle.picture_state.specs.declared.picture.MacroblockContext.{MacroblockContext}
 use Rattle.picture_state.specs.declared.picture.Picture.{Picture}
-use Rattle.picture_state.specs.declared.picture.PictureOpened.{PictureOpened}
-use Rattle.picture_state.specs.declared.picture.PictureOpened.TheVariants.{Opened, Refused}
+use Rattle.assembly.specs.declared.error.BlockAssemblyError.{BlockAssemblyError}
 
 -- 1 to 45 by 1 to 36 macroblocks
 abbrev pub size_fine : ℕ → ℕ → Bool
@@ -17,8 +16,8 @@ abbrev pub picture_of : ℕ → ℕ → ℕ → Bool → ℕ → Picture
 picture_of w h depth method n = record { width = w; height = h; bits_per_pixel = depth; quant_type = method; accepted = n }
 
 -- opening: 11, then 12
-abbrev pub open_of : ℕ → ℕ → ℕ → Bool → PictureOpened
-open_of w h depth method = cond (size_fine w h) (cond (depth_fine depth) (Opened (picture_of w h depth method 0)) (Refused Context)) (Refused OutOfRange)
+abbrev pub open_of : ℕ → ℕ → ℕ → Bool → Result Picture BlockAssemblyError
+open_of w h depth method = cond (size_fine w h) (cond (depth_fine depth) (Ok (picture_of w h depth method 0)) (Err Context)) (Err OutOfRange)
 
 -- one more accepted
 abbrev pub onward : Picture → Picture

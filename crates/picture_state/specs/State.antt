@@ -1,13 +1,11 @@
 -- The checks of a call in a picture, before any bit, in their order: 11, 12, 14, 15, 13, 9, 10. Definitions only.
-use Rattle.std.specs.Prelude.{Bool, List, [], ◌∷◌, ◌++◌, ℕ, ◌*◌, leb, ltb, length}
+use Rattle.std.specs.Prelude.{Bool, List, [], ◌∷◌, ◌++◌, ℕ, ◌*◌, leb, ltb, length, Err, Ok, Result, ⊤}
 use Rattle.bits.specs.Cursor.{in_data}
 use Rattle.assembly.specs.Answer.{first_bad}
 use Rattle.assembly.specs.Values.{context_fine}
 use Rattle.assembly.specs.declared.context.MacroblockTextureContext.{MacroblockTextureContext}
 use Rattle.assembly.specs.declared.error.BlockAssemblyError.{BlockAssemblyError}
 use Rattle.assembly.specs.declared.error.BlockAssemblyError.TheVariants.{Complete, Context, OutOfRange, Predictor, TooShort}
-use Rattle.assembly.specs.declared.error.Checked.{Checked}
-use Rattle.assembly.specs.declared.error.Checked.TheVariants.{Bad, Fine}
 use Rattle.headers.specs.Fields.{header_tests}
 use Rattle.headers.specs.declared.header.MacroblockHeader.{MacroblockHeader}
 use Rattle.neighbours.specs.Neighbours.{Around, neighbours_fine}
@@ -18,8 +16,6 @@ use Rattle.samples.specs.Samples.{macroblock_samples}
 use Rattle.picture_state.specs.Sizes.{store_for}
 use Rattle.picture_state.specs.declared.picture.Picture.{Picture}
 use Rattle.picture_state.specs.declared.state.Due.{Due}
-use Rattle.picture_state.specs.declared.state.StateChecked.{StateChecked}
-use Rattle.picture_state.specs.declared.state.StateChecked.TheVariants.{Ready, Refused}
 
 -- the stored neighbours that the six blocks take
 abbrev pub neighbour_tests : Picture → MacroblockTextureContext → Around → List (Bool × BlockAssemblyError)
@@ -42,16 +38,16 @@ module _ (p : Picture) (d : List ℕ) (at : ℕ) where
       ∷ []
 
   -- without a header: 11, 12, 14, 15, 13
-  unfoldable pub state_before : MacroblockTextureContext → List (List ℕ) → ℕ → ℕ → Around → Checked
+  unfoldable pub state_before : MacroblockTextureContext → List (List ℕ) → ℕ → ℕ → Around → Result ⊤ BlockAssemblyError
   state_before x w room stored ar = first_bad (first_tests x w room stored ++ neighbour_tests p x ar)
 
-  unfoldable pub state_by : MacroblockHeader → MacroblockTextureContext → List (List ℕ) → ℕ → ℕ → Around → Checked
+  unfoldable pub state_by : MacroblockHeader → MacroblockTextureContext → List (List ℕ) → ℕ → ℕ → Around → Result ⊤ BlockAssemblyError
   state_by h x w room stored ar = first_bad (first_tests x w room stored ++ later_tests p h x ar)
 
 -- the macroblock that is due, in its context
 abbrev pub due_of : Picture → MacroblockTextureContext → Due
 due_of p x = record { context = x; place = place_of p x.quantiser_scale; own = offset p.width p.accepted 0 }
 
-abbrev pub checked_by : Picture → MacroblockTextureContext → Checked → StateChecked
-checked_by p x Fine = Ready (due_of p x)
-checked_by p x (Bad e) = Refused e
+abbrev pub checked_by : Picture → MacroblockTextureContext → Result ⊤ BlockAssemblyError → Result Due BlockAssemblyError
+checked_by p x (Ok tt) = Ok (due_of p x)
+checked_by p x (Err e) = Err e

@@ -9,5 +9,5 @@ mod picture;
 mod ring;
 mod state;
 
-pub use picture::{MacroblockContext, Picture, PictureOpened};
-pub use state::{Due, StateChecked, check_before_header, check_state};
+pub use picture::{MacroblockContext, Picture};
+pub use state::{Due, check_before_header, check_state};

@@ -30,12 +30,6 @@ pub struct MacroblockContext {
     pub reversible_vlc: bool,
 }
 
-#[derive(Clone, Copy)]
-pub enum PictureOpened {
-    Opened(Picture),
-    Refused(BlockAssemblyError),
-}
-
 impl Picture {
     pub const WIDEST: u32 = 45;
 
@@ -48,17 +42,22 @@ impl Picture {
     pub const SLOT: u32 = 96;
 
     // A picture with nothing decoded: 11 or 12 where there is none.
-    pub fn open(width: u32, height: u32, bits_per_pixel: u32, quant_type: bool) -> PictureOpened
+    pub fn open(
+        width: u32,
+        height: u32,
+        bits_per_pixel: u32,
+        quant_type: bool,
+    ) -> Result<Picture, BlockAssemblyError>
         ensures value { result ≡ open_of width height bits_per_pixel quant_type }
         ensures outcome { opened_outcome result ≡ open_due width height bits_per_pixel quant_type }
     {
         if !size_fine(width, height) {
-            return PictureOpened::Refused(BlockAssemblyError::OutOfRange);
+            return Err(BlockAssemblyError::OutOfRange);
         }
         if !ranges::Depth::fine(bits_per_pixel) {
-            return PictureOpened::Refused(BlockAssemblyError::Context);
+            return Err(BlockAssemblyError::Context);
         }
-        PictureOpened::Opened(Picture {
+        Ok(Picture {
             width,
             height,
             bits_per_pixel,
@@ -71,23 +70,13 @@ impl Picture {
 pub(crate) fn size_fine(width: u32, height: u32) -> bool
     ensures { result ≡ size_fine width height }
 {
-    if width < 1 {
-        return false;
-    }
-    if Picture::WIDEST < width {
-        return false;
-    }
-    if height < 1 {
-        return false;
-    }
-    height <= Picture::HIGHEST
+    (1..=Picture::WIDEST).contains(&width) && (1..=Picture::HIGHEST).contains(&height)
 }
 
 // The whole context of a macroblock.
 pub(crate) fn texture_context(p: Picture, m: MacroblockContext) -> MacroblockTextureContext
     ensures { result ≡ context_of p m }
 {
-    let idct_rounding = m.idct_rounding;
     MacroblockTextureContext {
         quantiser_scale: m.quantiser_scale,
         bits_per_pixel: p.bits_per_pixel,
@@ -95,6 +84,6 @@ pub(crate) fn texture_context(p: Picture, m: MacroblockContext) -> MacroblockTex
         ac_pred_flag: m.ac_pred_flag,
         alternate_vertical_scan: m.alternate_vertical_scan,
         intra_mismatch_exempt: m.intra_mismatch_exempt,
-        idct_rounding,
+        idct_rounding: m.idct_rounding,
     }
 }

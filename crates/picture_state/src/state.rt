@@ -7,8 +7,8 @@ ghost use Rattle.picture_state.specs.Outcomes.{state_before_due, state_due, stat
 ghost use Rattle.picture_state.specs.State.{checked_by, first_tests, neighbour_tests, state_before, state_by};
 
 use crate::picture::{MacroblockContext, Picture};
-use bits::{BitCount, Cursor};
-use block::{BlockAssemblyError, Checked, MacroblockTextureContext};
+use bits::Cursor;
+use block::{BlockAssemblyError, MacroblockTextureContext};
 use headers::MacroblockHeader;
 use neighbours::Place;
 
@@ -20,13 +20,6 @@ pub struct Due {
     pub own: u32,
 }
 
-// What the checks find.
-#[derive(Clone, Copy)]
-pub enum StateChecked {
-    Ready(Due),
-    Refused(BlockAssemblyError),
-}
-
 // 11, 12, 14, 15.
 fn check_first(
     p: Picture,
@@ -36,44 +29,39 @@ fn check_first(
     w: [[u8; 8]; 8],
     room: usize,
     stored: usize,
-) -> Checked
+) -> Result<(), BlockAssemblyError>
     ensures { result ≡ first_bad (first_tests p «data».now c.bit_pos ctx w room stored) }
 {
-    if !crate::picture::size_fine(p.width, p.height) {
-        return Checked::Bad(BlockAssemblyError::OutOfRange);
+    if !crate::picture::size_fine(p.width, p.height) || c.remaining_bits(data).is_err() {
+        return Err(BlockAssemblyError::OutOfRange);
     }
-    let left = c.remaining_bits(data);
-    match left {
-        BitCount::Refused(_) => Checked::Bad(BlockAssemblyError::OutOfRange),
-        BitCount::Bits(_) => {
-            if !block::context_fine(ctx, w) {
-                return Checked::Bad(BlockAssemblyError::Context);
-            }
-            if room < samples::SAMPLES {
-                return Checked::Bad(BlockAssemblyError::TooShort);
-            }
-            if stored < Picture::STORE * (p.width as usize) {
-                return Checked::Bad(BlockAssemblyError::TooShort);
-            }
-            if p.width * p.height <= p.accepted {
-                return Checked::Bad(BlockAssemblyError::Complete);
-            }
-            Checked::Fine
-        }
+    if !block::context_fine(ctx, w) {
+        return Err(BlockAssemblyError::Context);
     }
+    if room < samples::SAMPLES || stored < Picture::STORE * (p.width as usize) {
+        return Err(BlockAssemblyError::TooShort);
+    }
+    if p.width * p.height <= p.accepted {
+        return Err(BlockAssemblyError::Complete);
+    }
+    Ok(())
 }
 
 // 13, of a picture that can be: then the macroblock is due.
-fn check_neighbours(p: Picture, ctx: MacroblockTextureContext, store: &[i32]) -> StateChecked
+fn check_neighbours(
+    p: Picture,
+    ctx: MacroblockTextureContext,
+    store: &[i32],
+) -> Result<Due, BlockAssemblyError>
     requires { (1 ≤ p.width) × (p.width ≤ 45) × (p.accepted ≤ 1620) }
     ensures { result ≡ checked_by p ctx (first_bad (neighbour_tests p ctx (around_due p ctx.quantiser_scale store.now))) }
 {
     let place = crate::ring::place_of(p, ctx.quantiser_scale);
     if !needed::stored_fine(store, place) {
-        return StateChecked::Refused(BlockAssemblyError::Predictor);
+        return Err(BlockAssemblyError::Predictor);
     }
     let own = crate::ring::offset_of(p.width, p.accepted, 0);
-    StateChecked::Ready(Due {
+    Ok(Due {
         context: ctx,
         place,
         own,
@@ -89,16 +77,13 @@ pub fn check_before_header(
     w: [[u8; 8]; 8],
     room: usize,
     store: &[i32],
-) -> StateChecked
+) -> Result<Due, BlockAssemblyError>
     ensures value { result ≡ checked_by p (context_of p m) (state_before p «data».now c.bit_pos (context_of p m) w room (length store.now) (around_due p m.quantiser_scale store.now)) }
     ensures outcome { state_outcome result ≡ state_before_due p «data».now c.bit_pos m w room store.now }
 {
     let ctx = crate::picture::texture_context(p, m);
-    let first = check_first(p, data, c, ctx, w, room, store.len());
-    match first {
-        Checked::Bad(e) => StateChecked::Refused(e),
-        Checked::Fine => check_neighbours(p, ctx, store),
-    }
+    check_first(p, data, c, ctx, w, room, store.len())?;
+    check_neighbours(p, ctx, store)
 }
 
 // All of them: the header's 9 and 10 come last.
@@ -111,19 +96,11 @@ pub fn check_state(
     w: [[u8; 8]; 8],
     room: usize,
     store: &[i32],
-) -> StateChecked
+) -> Result<Due, BlockAssemblyError>
     ensures value { result ≡ checked_by p (context_of p m) (state_by p «data».now c.bit_pos header (context_of p m) w room (length store.now) (around_due p m.quantiser_scale store.now)) }
     ensures outcome { state_outcome result ≡ state_due p «data».now c.bit_pos header m w room store.now }
 {
-    let asked = check_before_header(p, data, c, m, w, room, store);
-    match asked {
-        StateChecked::Refused(e) => StateChecked::Refused(e),
-        StateChecked::Ready(due) => {
-            let last = headers::check_header(header);
-            match last {
-                Checked::Bad(e) => StateChecked::Refused(e),
-                Checked::Fine => StateChecked::Ready(due),
-            }
-        }
-    }
+    let due = check_before_header(p, data, c, m, w, room, store)?;
+    headers::check_header(header)?;
+    Ok(due)
 }

@@ -1,7 +1,6 @@
 // Where the neighbours of a macroblock's blocks lie (Figure 7-5).
 ghost use Rattle.std.specs.Prelude.{◌≡◌, ◌<◌, get_or};
 ghost use Rattle.places.specs.Places.{a_source, a_block, b_source, b_block, c_source, c_block};
-ghost use Rattle.places.specs.declared.place.Source.TheVariants.{Own};
 
 // The macroblock that a neighbour lies in.
 #[derive(Clone, Copy)]
@@ -58,88 +57,54 @@ const C_SOURCE: [Source; 6] = [
 
 const C_BLOCK: [u32; 6] = [2, 3, 0, 1, 4, 5];
 
-// An entry of a table, told by tests: so a table that is known is not stored to be read. Past its end own, or 0.
-fn source_of(t: [Source; 6], i: usize) -> Source
-    ensures { result ≡ get_or t i Own }
+// An entry of a table, told by tests: so a table that is known is not stored to be read. Past its end `past`.
+fn entry<T: Copy>(table: [T; 6], i: usize, past: T) -> T
+    ensures { result ≡ get_or table i past }
 {
-    if i == 0 {
-        return t[0];
+    match i {
+        0 => table[0],
+        1 => table[1],
+        2 => table[2],
+        3 => table[3],
+        4 => table[4],
+        5 => table[5],
+        _ => past,
     }
-    if i == 1 {
-        return t[1];
-    }
-    if i == 2 {
-        return t[2];
-    }
-    if i == 3 {
-        return t[3];
-    }
-    if i == 4 {
-        return t[4];
-    }
-    if i == 5 {
-        return t[5];
-    }
-    Source::Own
-}
-
-fn block_of(t: [u32; 6], i: usize) -> u32
-    ensures { result ≡ get_or t i 0 }
-{
-    if i == 0 {
-        return t[0];
-    }
-    if i == 1 {
-        return t[1];
-    }
-    if i == 2 {
-        return t[2];
-    }
-    if i == 3 {
-        return t[3];
-    }
-    if i == 4 {
-        return t[4];
-    }
-    if i == 5 {
-        return t[5];
-    }
-    0
 }
 
 // Of block `i` of six the macroblock that A, B and C lie in, and which block each is there; past 5 own, and block 0.
 pub fn a_source(i: usize) -> Source
     ensures { result ≡ a_source i }
 {
-    source_of(A_SOURCE, i)
+    entry(A_SOURCE, i, Source::Own)
 }
 
 pub fn a_block(i: usize) -> u32
     ensures { (result ≡ a_block i) × (result < 6) }
 {
-    block_of(A_BLOCK, i)
+    entry(A_BLOCK, i, 0)
 }
 
 pub fn b_source(i: usize) -> Source
     ensures { result ≡ b_source i }
 {
-    source_of(B_SOURCE, i)
+    entry(B_SOURCE, i, Source::Own)
 }
 
 pub fn b_block(i: usize) -> u32
     ensures { (result ≡ b_block i) × (result < 6) }
 {
-    block_of(B_BLOCK, i)
+    entry(B_BLOCK, i, 0)
 }
 
 pub fn c_source(i: usize) -> Source
     ensures { result ≡ c_source i }
 {
-    source_of(C_SOURCE, i)
+    entry(C_SOURCE, i, Source::Own)
 }
 
 pub fn c_block(i: usize) -> u32
     ensures { (result ≡ c_block i) × (result < 6) }
 {
-    block_of(C_BLOCK, i)
+    entry(C_BLOCK, i, 0)
 }

@@ -15,15 +15,8 @@ use Rattle.prediction.specs.Refusal.{first_bad, number_of, values_fine}
 use Rattle.prediction.specs.Stages.{ac_answer, dc_answer, default_answer, direction_answer, scaler_answer, seven_answer, value_unless}
 use Rattle.prediction.specs.declared.refusal.CoefficientError.{CoefficientError}
 use Rattle.prediction.specs.declared.refusal.CoefficientError.TheVariants.{Context, HandedIn}
-use Rattle.prediction.specs.declared.refusal.Direction.{Direction}
-use Rattle.prediction.specs.declared.refusal.Direction.TheVariants.{Is as DirectionIs, Refused as DirectionRefused}
-use Rattle.prediction.specs.declared.refusal.Scaler.{Scaler}
-use Rattle.prediction.specs.declared.refusal.Scaler.TheVariants.{Is as ScalerIs, Refused as ScalerRefused}
-use Rattle.prediction.specs.declared.refusal.Stage.{Stage}
-use Rattle.prediction.specs.declared.refusal.Stage.TheVariants.{Done, Refused}
-use Rattle.prediction.specs.declared.refusal.Value.{Value}
-use Rattle.prediction.specs.declared.refusal.Value.TheVariants.{Is as ValueIs, Refused as ValueRefused}
 use Rattle.scan.specs.declared.DcPredictionDirection.{DcPredictionDirection}
+use Rattle.std.specs.Prelude.{Err, Ok, Result, ⊤}
 
 -- ---- 12, then 13
 
@@ -73,30 +66,30 @@ abbrev answer_by : {A R : Type 0} → (A → R) → (CoefficientError → R) →
 answer_by took fails (accepted a) = took a
 answer_by took fails (refused n f) = fails (error_by n)
 
-stage_by : (r : Stage) → r ≡ answer_by (λ (u : Unit {0}). Done) Refused (stage_outcome r)
-stage_by Done = refl
-stage_by (Refused e) = ap Refused (error_by_lem e)
+stage_by : (r : Result ⊤ CoefficientError) → r ≡ answer_by (λ (u : Unit {0}). (Ok tt)) Err (stage_outcome r)
+stage_by (Ok tt) = refl
+stage_by (Err e) = ap Err (error_by_lem e)
 
-pub stage_apart : (r s : Stage) → stage_outcome r ≡ stage_outcome s → r ≡ s
-stage_apart r s h = stage_by r ∙ ap (answer_by (λ (u : Unit {0}). Done) Refused) h ∙ sym (stage_by s)
+pub stage_apart : (r s : Result ⊤ CoefficientError) → stage_outcome r ≡ stage_outcome s → r ≡ s
+stage_apart r s h = stage_by r ∙ ap (answer_by (λ (u : Unit {0}). (Ok tt)) Err) h ∙ sym (stage_by s)
 
-value_by : (r : Value) → r ≡ answer_by ValueIs ValueRefused (value_outcome r)
-value_by (ValueIs z) = refl
-value_by (ValueRefused e) = ap ValueRefused (error_by_lem e)
+value_by : (r : Result ℤ CoefficientError) → r ≡ answer_by Ok Err (value_outcome r)
+value_by (Ok z) = refl
+value_by (Err e) = ap Err (error_by_lem e)
 
-pub value_apart : (r s : Value) → value_outcome r ≡ value_outcome s → r ≡ s
-value_apart r s h = value_by r ∙ ap (answer_by ValueIs ValueRefused) h ∙ sym (value_by s)
+pub value_apart : (r s : Result ℤ CoefficientError) → value_outcome r ≡ value_outcome s → r ≡ s
+value_apart r s h = value_by r ∙ ap (answer_by Ok Err) h ∙ sym (value_by s)
 
-scaler_by : (r : Scaler) → r ≡ answer_by ScalerIs ScalerRefused (scaler_outcome r)
-scaler_by (ScalerIs n) = refl
-scaler_by (ScalerRefused e) = ap ScalerRefused (error_by_lem e)
+scaler_by : (r : Result ℕ CoefficientError) → r ≡ answer_by Ok Err (scaler_outcome r)
+scaler_by (Ok n) = refl
+scaler_by (Err e) = ap Err (error_by_lem e)
 
-pub scaler_apart : (r s : Scaler) → scaler_outcome r ≡ scaler_outcome s → r ≡ s
-scaler_apart r s h = scaler_by r ∙ ap (answer_by ScalerIs ScalerRefused) h ∙ sym (scaler_by s)
+pub scaler_apart : (r s : Result ℕ CoefficientError) → scaler_outcome r ≡ scaler_outcome s → r ≡ s
+scaler_apart r s h = scaler_by r ∙ ap (answer_by Ok Err) h ∙ sym (scaler_by s)
 
-direction_by_lem : (r : Direction) → r ≡ answer_by DirectionIs DirectionRefused (direction_outcome r)
-direction_by_lem (DirectionIs d) = refl
-direction_by_lem (DirectionRefused e) = ap DirectionRefused (error_by_lem e)
+direction_by_lem : (r : Result DcPredictionDirection CoefficientError) → r ≡ answer_by Ok Err (direction_outcome r)
+direction_by_lem (Ok d) = refl
+direction_by_lem (Err e) = ap Err (error_by_lem e)
 
-pub direction_apart : (r s : Direction) → direction_outcome r ≡ direction_outcome s → r ≡ s
-direction_apart r s h = direction_by_lem r ∙ ap (answer_by DirectionIs DirectionRefused) h ∙ sym (direction_by_lem s)
+pub direction_apart : (r s : Result DcPredictionDirection CoefficientError) → direction_outcome r ≡ direction_outcome s → r ≡ s
+direction_apart r s h = direction_by_lem r ∙ ap (answer_by Ok Err) h ∙ sym (direction_by_lem s)

@@ -14,8 +14,7 @@ use Rattle.scan.specs.declared.DcPredictionDirection.{DcPredictionDirection}
 use Rattle.prediction.specs.Prediction.{dc_prediction, direction_of}
 use Rattle.prediction.specs.Refusal.{after, values_fine}
 use Rattle.prediction.specs.Stages.{dc_answer, direction_answer, seven_answer, seven_predicted}
-use Rattle.prediction.specs.declared.refusal.Direction.TheVariants.{Is as DirectionIs}
-use Rattle.prediction.specs.declared.refusal.Value.TheVariants.{Is as ValueIs}
+use Rattle.std.specs.Prelude.{Ok}
 
 -- ---- values
 
@@ -29,11 +28,11 @@ values-good false xs e t k = absurd t
 
 -- ---- the answers
 
-pub direction_given : (fa fb fc : ℤ) → dc_fine fa ≡ true → dc_fine fb ≡ true → dc_fine fc ≡ true → direction_answer fa fb fc ≡ DirectionIs (direction_of fa fb fc)
+pub direction_given : (fa fb fc : ℤ) → dc_fine fa ≡ true → dc_fine fb ≡ true → dc_fine fc ≡ true → direction_answer fa fb fc ≡ Ok (direction_of fa fb fc)
 direction_given fa fb fc a b c = rw (a, b, c)
 
 pub dc-given : (z : ℤ) (d : DcPredictionDirection) (fa fc : ℤ) (scaler : ℕ) → difference_fine z ≡ true → dc_fine fa ≡ true → dc_fine fc ≡ true
-    → dc_answer z d fa fc scaler ≡ ValueIs (z +ℤ dc_prediction d fa fc scaler)
+    → dc_answer z d fa fc scaler ≡ Ok (z +ℤ dc_prediction d fa fc scaler)
 dc-given z d fa fc scaler e a c = rw (e, a, c)
 
 -- and so seven predictions are left in lent memory

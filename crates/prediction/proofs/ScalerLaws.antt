@@ -10,7 +10,7 @@ use Rattle.ranges.proofs.RangeLaws.{range_quantiser}
 use Rattle.prediction.specs.Prediction.{dc_scaler}
 use Rattle.prediction.specs.Stages.{scaler_answer}
 use Rattle.prediction.specs.declared.refusal.CoefficientError.TheVariants.{Context}
-use Rattle.prediction.specs.declared.refusal.Scaler.TheVariants.{Is, Refused}
+use Rattle.std.specs.Prelude.{Err, Ok}
 
 -- of a quantiser up to 511
 pub scaler_small : (c : DcComponent) (q : ℕ) → q ≤ 511 → dc_scaler c q ≤ 1022
@@ -28,5 +28,5 @@ scaler_small Chrominance q h = go (leb q 4) (leb q 24)
     go false true = omega (arith, h)
     go false false = omega (arith, h)
 
-pub scaler_given : (c : DcComponent) (q : ℕ) → 1 ≤ q → q ≤ 31 → scaler_answer c q ≡ Is (dc_scaler c q)
-scaler_given c q l h = ap (λ (t : Bool). cond t (Is (dc_scaler c q)) (Refused Context)) (range_quantiser q l h)
+pub scaler_given : (c : DcComponent) (q : ℕ) → 1 ≤ q → q ≤ 31 → scaler_answer c q ≡ Ok (dc_scaler c q)
+scaler_given c q l h = ap (λ (t : Bool). cond t (Ok (dc_scaler c q)) (Err Context)) (range_quantiser q l h)

@@ -1,38 +1,31 @@
 -- What the answers of the stages say in document 01's numbers, and what is due of prediction. Definitions only.
-use Rattle.std.specs.Prelude.{Bool, ◌&&◌, List, [], ◌∷◌, ℕ, ℤ, ◌+ℤ◌}
+use Rattle.std.specs.Prelude.{Bool, ◌&&◌, List, [], ◌∷◌, ℕ, ℤ, ◌+ℤ◌, Err, Ok, Result, ⊤}
 use Rattle.numbers.specs.Every.{every}
 use Rattle.numbers.specs.Outcome.{Outcome, accepted, checked, done, refused}
 use Rattle.ranges.specs.Range.{dc_fine, depth_fine, difference_fine, level_fine, quantiser_fine}
 use Rattle.codes.specs.declared.dc_size.DcComponent.{DcComponent}
 use Rattle.prediction.specs.Prediction.{dc_prediction, dc_scaler, default_dc, direction_of}
 use Rattle.prediction.specs.Refusal.{number_of, values_fine}
-use Rattle.prediction.specs.declared.refusal.Direction.{Direction}
-use Rattle.prediction.specs.declared.refusal.Direction.TheVariants.{Is as DirectionIs, Refused as DirectionRefused}
-use Rattle.prediction.specs.declared.refusal.Scaler.{Scaler}
-use Rattle.prediction.specs.declared.refusal.Scaler.TheVariants.{Is as ScalerIs, Refused as ScalerRefused}
-use Rattle.prediction.specs.declared.refusal.Stage.{Stage}
-use Rattle.prediction.specs.declared.refusal.Stage.TheVariants.{Done, Refused}
-use Rattle.prediction.specs.declared.refusal.Value.{Value}
-use Rattle.prediction.specs.declared.refusal.Value.TheVariants.{Is as ValueIs, Refused as ValueRefused}
 use Rattle.scan.specs.declared.DcPredictionDirection.{DcPredictionDirection}
+use Rattle.prediction.specs.declared.refusal.CoefficientError.{CoefficientError}
 
 -- ---- the answers
 
-abbrev pub stage_outcome : Stage → Outcome (Unit {0})
-stage_outcome Done = done
-stage_outcome (Refused e) = refused (number_of e) 0
+abbrev pub stage_outcome : Result ⊤ CoefficientError → Outcome (Unit {0})
+stage_outcome (Ok tt) = done
+stage_outcome (Err e) = refused (number_of e) 0
 
-abbrev pub value_outcome : Value → Outcome ℤ
-value_outcome (ValueIs z) = accepted z
-value_outcome (ValueRefused e) = refused (number_of e) 0
+abbrev pub value_outcome : Result ℤ CoefficientError → Outcome ℤ
+value_outcome (Ok z) = accepted z
+value_outcome (Err e) = refused (number_of e) 0
 
-abbrev pub scaler_outcome : Scaler → Outcome ℕ
-scaler_outcome (ScalerIs n) = accepted n
-scaler_outcome (ScalerRefused e) = refused (number_of e) 0
+abbrev pub scaler_outcome : Result ℕ CoefficientError → Outcome ℕ
+scaler_outcome (Ok n) = accepted n
+scaler_outcome (Err e) = refused (number_of e) 0
 
-abbrev pub direction_outcome : Direction → Outcome DcPredictionDirection
-direction_outcome (DirectionIs d) = accepted d
-direction_outcome (DirectionRefused e) = refused (number_of e) 0
+abbrev pub direction_outcome : Result DcPredictionDirection CoefficientError → Outcome DcPredictionDirection
+direction_outcome (Ok d) = accepted d
+direction_outcome (Err e) = refused (number_of e) 0
 
 -- ---- what is due
 

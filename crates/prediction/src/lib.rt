@@ -11,4 +11,4 @@ pub use predictor::{
     BlockPredictors, all_levels, dc_scaler, default_neighbour_dc, predict_intra_ac_column,
     predict_intra_ac_row, predict_intra_dc, predict_seven, select_dc_direction, values_fine,
 };
-pub use refusal::{CoefficientError, Direction, Scaler, Stage, Value};
+pub use refusal::CoefficientError;

@@ -7,8 +7,9 @@ ghost use Rattle.prediction.specs.Prediction.{dc_scaler, direction_of, default_d
 ghost use Rattle.prediction.specs.Outcomes.{ac_due, dc_due, default_due, direction_due, direction_outcome, scaler_due, scaler_outcome, seven_due, stage_outcome, value_outcome};
 ghost use Rattle.prediction.specs.Stages.{scaler_answer, direction_answer, default_answer, dc_answer, ac_added, ac_answer, seven_answer, seven_predicted};
 
-use crate::refusal::{CoefficientError, Direction, Scaler, Stage, Value};
+use crate::refusal::CoefficientError;
 use codes::DcComponent;
+use ranges::{Depth, Difference, Level, NeighbourDc, Quantiser};
 use scan::DcPredictionDirection;
 
 // What a block takes of its neighbours A (left), B (above left) and C (above). The Rust's
@@ -50,21 +51,18 @@ impl BlockPredictors {
 fn missing_dc(bits_per_pixel: u32) -> i32
     ensures { result ≡ default_dc (min bits_per_pixel 12) }
 {
-    if bits_per_pixel < 12 {
-        return 1i32 << (bits_per_pixel + 2);
-    }
-    16384
+    1i32 << (bits_per_pixel.min(12) + 2)
 }
 
 // The DC of a missing neighbour: 2^(depth + 2), or 12.
-pub fn default_neighbour_dc(bits_per_pixel: u32) -> Value
+pub fn default_neighbour_dc(bits_per_pixel: u32) -> Result<i32, CoefficientError>
     ensures value { result ≡ default_answer bits_per_pixel }
     ensures outcome { value_outcome result ≡ default_due bits_per_pixel }
 {
-    if !ranges::Depth::fine(bits_per_pixel) {
-        return Value::Refused(CoefficientError::Context);
+    if !Depth::fine(bits_per_pixel) {
+        return Err(CoefficientError::Context);
     }
-    Value::Is(missing_dc(bits_per_pixel))
+    Ok(missing_dc(bits_per_pixel))
 }
 
 // Table 7-1, of a quantiser up to 511.
@@ -73,38 +71,29 @@ fn scaler_of(component: DcComponent, q: u32) -> u32
     ensures { (result ≡ dc_scaler component q) × (result ≤ 1006) }
 {
     match component {
-        DcComponent::Luminance => {
-            if q <= 4 {
-                8
-            } else if q <= 8 {
-                2 * q
-            } else if q <= 24 {
-                q + 8
-            } else {
-                2 * q - 16
-            }
-        }
-        DcComponent::Chrominance => {
-            if q <= 4 {
-                8
-            } else if q <= 24 {
-                (q + 13) / 2
-            } else {
-                q - 6
-            }
-        }
+        DcComponent::Luminance => match q {
+            0..=4 => 8,
+            5..=8 => 2 * q,
+            9..=24 => q + 8,
+            _ => 2 * q - 16,
+        },
+        DcComponent::Chrominance => match q {
+            0..=4 => 8,
+            5..=24 => (q + 13) / 2,
+            _ => q - 6,
+        },
     }
 }
 
 // Table 7-1, or 12.
-pub fn dc_scaler(component: DcComponent, quantiser_scale: u32) -> Scaler
+pub fn dc_scaler(component: DcComponent, quantiser_scale: u32) -> Result<u32, CoefficientError>
     ensures value { result ≡ scaler_answer component quantiser_scale }
     ensures outcome { scaler_outcome result ≡ scaler_due component quantiser_scale }
 {
-    if !ranges::Quantiser::fine(quantiser_scale) {
-        return Scaler::Refused(CoefficientError::Context);
+    if !Quantiser::fine(quantiser_scale) {
+        return Err(CoefficientError::Context);
     }
-    Scaler::Is(scaler_of(component, quantiser_scale))
+    Ok(scaler_of(component, quantiser_scale))
 }
 
 // 7.4.3.1: from C where |FA - FB| < |FB - FC|, else from A.
@@ -112,27 +101,26 @@ fn direction_of(fa: i32, fb: i32, fc: i32) -> DcPredictionDirection
     requires { (nat_abs fa ≤ 65536) × (nat_abs fb ≤ 65536) × (nat_abs fc ≤ 65536) }
     ensures { result ≡ direction_of fa fb fc }
 {
-    if numbers::abs(fa - fb) < numbers::abs(fb - fc) {
-        return DcPredictionDirection::FromAbove;
+    if (fa - fb).unsigned_abs() < (fb - fc).unsigned_abs() {
+        DcPredictionDirection::FromAbove
+    } else {
+        DcPredictionDirection::FromLeft
     }
-    DcPredictionDirection::FromLeft
 }
 
 // 7.4.3.1, or 13.
-pub fn select_dc_direction(fa: i32, fb: i32, fc: i32) -> Direction
+pub fn select_dc_direction(
+    fa: i32,
+    fb: i32,
+    fc: i32,
+) -> Result<DcPredictionDirection, CoefficientError>
     ensures value { result ≡ direction_answer fa fb fc }
     ensures outcome { direction_outcome result ≡ direction_due fa fb fc }
 {
-    if !ranges::NeighbourDc::fine(fa) {
-        return Direction::Refused(CoefficientError::HandedIn);
+    if !(NeighbourDc::fine(fa) && NeighbourDc::fine(fb) && NeighbourDc::fine(fc)) {
+        return Err(CoefficientError::HandedIn);
     }
-    if !ranges::NeighbourDc::fine(fb) {
-        return Direction::Refused(CoefficientError::HandedIn);
-    }
-    if !ranges::NeighbourDc::fine(fc) {
-        return Direction::Refused(CoefficientError::HandedIn);
-    }
-    Direction::Is(direction_of(fa, fb, fc))
+    Ok(direction_of(fa, fb, fc))
 }
 
 // 7.4.3.2: the prediction of the DC level.
@@ -153,20 +141,14 @@ pub fn predict_intra_dc(
     fa_dc: i32,
     fc_dc: i32,
     dc_scaler_x: u32,
-) -> Value
+) -> Result<i32, CoefficientError>
     ensures value { result ≡ dc_answer pqfx_dc direction fa_dc fc_dc dc_scaler_x }
     ensures outcome { value_outcome result ≡ dc_due pqfx_dc direction fa_dc fc_dc dc_scaler_x }
 {
-    if !ranges::Difference::fine(pqfx_dc) {
-        return Value::Refused(CoefficientError::HandedIn);
+    if !(Difference::fine(pqfx_dc) && NeighbourDc::fine(fa_dc) && NeighbourDc::fine(fc_dc)) {
+        return Err(CoefficientError::HandedIn);
     }
-    if !ranges::NeighbourDc::fine(fa_dc) {
-        return Value::Refused(CoefficientError::HandedIn);
-    }
-    if !ranges::NeighbourDc::fine(fc_dc) {
-        return Value::Refused(CoefficientError::HandedIn);
-    }
-    Value::Is(pqfx_dc + dc_prediction(direction, fa_dc, fc_dc, dc_scaler_x))
+    Ok(pqfx_dc + dc_prediction(direction, fa_dc, fc_dc, dc_scaler_x))
 }
 
 // 7.4.3.3: the prediction of an AC level from a neighbour's.
@@ -196,40 +178,34 @@ fn seven_predictions(values: [i32; 7], qp: u32, q: u32) -> [i32; 7]
 pub fn all_levels(values: [i32; 7]) -> bool
     ensures { result ≡ every level_fine values }
 {
-    let mut fine = true;
-    for k in 0..7 {
-        let level = ranges::Level::fine(values[k]);
-        fine = fine & level;
-    }
-    fine
+    values.iter().all(|v| Level::fine(*v))
 }
 
 // Whether a neighbour's values may be handed in, where it is there.
 pub fn values_fine(has: bool, values: [i32; 7]) -> bool
     ensures { result ≡ values_fine has values }
 {
-    if has {
-        return all_levels(values);
-    }
-    true
+    !has || all_levels(values)
 }
 
 // 7.4.3.3: the predictions of seven AC levels from a neighbour's, into `more`; or 12 or 13, and `more` as it was.
-pub fn predict_seven(values: [i32; 7], qp: u32, q: u32, more: &mut [i32; 7]) -> Stage
+pub fn predict_seven(
+    values: [i32; 7],
+    qp: u32,
+    q: u32,
+    more: &mut [i32; 7],
+) -> Result<(), CoefficientError>
     ensures value { (result ≡ seven_answer values qp q) × (more.new ≡ after (seven_answer values qp q) (seven_predicted values qp q) more.old) }
     ensures outcome { stage_outcome result ≡ seven_due values qp q }
 {
-    if !ranges::Quantiser::fine(q) {
-        return Stage::Refused(CoefficientError::Context);
+    if !Quantiser::fine(q) {
+        return Err(CoefficientError::Context);
     }
-    if !ranges::Quantiser::fine(qp) {
-        return Stage::Refused(CoefficientError::HandedIn);
-    }
-    if !all_levels(values) {
-        return Stage::Refused(CoefficientError::HandedIn);
+    if !(Quantiser::fine(qp) && all_levels(values)) {
+        return Err(CoefficientError::HandedIn);
     }
     *more = seven_predictions(values, qp, q);
-    Stage::Done
+    Ok(())
 }
 
 // Seven levels with the prediction from a neighbour added; a missing one adds nothing.
@@ -256,23 +232,17 @@ fn predict_intra_ac(
     qp: u32,
     qp_x: u32,
     out: &mut [i32; 7],
-) -> Stage
+) -> Result<(), CoefficientError>
     ensures { (result ≡ ac_answer pqfx has qf qp qp_x) × (out.new ≡ after (ac_answer pqfx has qf qp qp_x) (ac_added pqfx has qf qp qp_x) out.old) }
 {
-    if !ranges::Quantiser::fine(qp_x) {
-        return Stage::Refused(CoefficientError::Context);
+    if !Quantiser::fine(qp_x) {
+        return Err(CoefficientError::Context);
     }
-    if !all_levels(pqfx) {
-        return Stage::Refused(CoefficientError::HandedIn);
-    }
-    if !ranges::Quantiser::fine(qp) {
-        return Stage::Refused(CoefficientError::HandedIn);
-    }
-    if !values_fine(has, qf) {
-        return Stage::Refused(CoefficientError::HandedIn);
+    if !(all_levels(pqfx) && Quantiser::fine(qp) && values_fine(has, qf)) {
+        return Err(CoefficientError::HandedIn);
     }
     *out = ac_added(pqfx, has, qf, qp, qp_x);
-    Stage::Done
+    Ok(())
 }
 
 // 7.4.3.3: the first column of levels, predicted from A, before limiting; or 12 or 13.
@@ -283,7 +253,7 @@ pub fn predict_intra_ac_column(
     qp_a: u32,
     qp_x: u32,
     out: &mut [i32; 7],
-) -> Stage
+) -> Result<(), CoefficientError>
     ensures value { (result ≡ ac_answer pqfx_col has_column qfa_col qp_a qp_x) × (out.new ≡ after (ac_answer pqfx_col has_column qfa_col qp_a qp_x) (ac_added pqfx_col has_column qfa_col qp_a qp_x) out.old) }
     ensures outcome { stage_outcome result ≡ ac_due pqfx_col has_column qfa_col qp_a qp_x }
 {
@@ -298,7 +268,7 @@ pub fn predict_intra_ac_row(
     qp_c: u32,
     qp_x: u32,
     out: &mut [i32; 7],
-) -> Stage
+) -> Result<(), CoefficientError>
     ensures value { (result ≡ ac_answer pqfx_row has_row qfc_row qp_c qp_x) × (out.new ≡ after (ac_answer pqfx_row has_row qfc_row qp_c qp_x) (ac_added pqfx_row has_row qfc_row qp_c qp_x) out.old) }
     ensures outcome { stage_outcome result ≡ ac_due pqfx_row has_row qfc_row qp_c qp_x }
 {

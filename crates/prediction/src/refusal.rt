@@ -24,31 +24,3 @@ impl CoefficientError {
         }
     }
 }
-
-// The answer of a stage whose block or array stands beside it.
-#[derive(Clone, Copy)]
-pub enum Stage {
-    Done,
-    Refused(CoefficientError),
-}
-
-// A signed value, or a refusal.
-#[derive(Clone, Copy)]
-pub enum Value {
-    Is(i32),
-    Refused(CoefficientError),
-}
-
-// A DC scaler, or a refusal.
-#[derive(Clone, Copy)]
-pub enum Scaler {
-    Is(u32),
-    Refused(CoefficientError),
-}
-
-// A direction, or a refusal.
-#[derive(Clone, Copy)]
-pub enum Direction {
-    Is(DcPredictionDirection),
-    Refused(CoefficientError),
-}

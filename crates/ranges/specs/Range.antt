@@ -1,10 +1,8 @@
 -- The ranges that document 01 names, as tests, and the limits of a depth. Definitions only.
-use Rattle.std.specs.Prelude.{Bool, ◌&&◌, [], ◌∷◌, ℕ, ◌+◌, ◌^◌, leb, ℤ, nat_abs, negsuc, neg_ℤ, pos, ◌-ℤ◌}
+use Rattle.std.specs.Prelude.{Bool, ◌&&◌, [], ◌∷◌, ℕ, ◌+◌, ◌^◌, leb, ℤ, nat_abs, negsuc, neg_ℤ, pos, ◌-ℤ◌, None, Option, Some}
 use Rattle.std.specs.Int.Signed.{le_z}
 use Rattle.numbers.specs.Limit.{clamp_z}
 use Rattle.numbers.specs.Outcome.{Outcome, accepted, checked, refused}
-use Rattle.ranges.specs.declared.DepthLimits.{DepthLimits}
-use Rattle.ranges.specs.declared.DepthLimits.TheVariants.{Are, OutOfRange}
 
 -- lo ≤ z ≤ hi
 abbrev pub within : ℤ → ℤ → ℤ → Bool
@@ -44,9 +42,9 @@ abbrev pub highest : ℕ → ℤ
 highest b = pos (2 ^ b) -ℤ pos 1
 
 -- the limits that an answer tells, or 12
-abbrev pub limits_outcome : DepthLimits → Outcome (ℤ × ℤ)
-limits_outcome (Are lo hi) = accepted (lo, hi)
-limits_outcome OutOfRange = refused 12 0
+abbrev pub limits_outcome : Option (ℤ × ℤ) → Outcome (ℤ × ℤ)
+limits_outcome (Some (lo, hi)) = accepted (lo, hi)
+limits_outcome None = refused 12 0
 
 -- dequantised values of a depth (7.4.4.4), and what the transform of one gives (7.4.5)
 abbrev pub value_limits : ℕ → Outcome (ℤ × ℤ)

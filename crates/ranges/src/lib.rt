@@ -2,33 +2,23 @@
 // neighbour. Bounds are constants of their type.
 #![tactic(auto)]
 
-ghost use Rattle.std.specs.Prelude.{◌≡◌, ◌<◌};
+ghost use Rattle.std.specs.Prelude.{◌≡◌, ◌<◌, Some};
 ghost use Rattle.ranges.specs.Range.{dc_fine, depth_fine, difference_fine, highest, level_fine, limited_quantiser, limits_outcome, lowest, quantiser_fine, saturation_limits, value_limits, within};
 
 // Whether lo <= z <= hi.
 pub fn inside(z: i32, lo: i32, hi: i32) -> bool
     ensures { result ≡ within lo hi z }
 {
-    if z < lo {
-        return false;
-    }
-    z <= hi
-}
-
-// The least and the greatest number of a depth, or 12: no depth.
-#[derive(Clone, Copy)]
-pub enum DepthLimits {
-    Are(i32, i32),
-    OutOfRange,
+    lo <= z && z <= hi
 }
 
 // -2^bits ..= 2^bits - 1
-fn limits_of(bits: u32) -> DepthLimits
+fn limits_of(bits: u32) -> Option<(i32, i32)>
     requires { bits < 31 }
-    ensures { result ≡ DepthLimits.Are (lowest bits) (highest bits) }
+    ensures { result ≡ Some (lowest bits, highest bits) }
 {
     let top = (1u32 << bits) as i32;
-    DepthLimits::Are(-top, top - 1)
+    Some((-top, top - 1))
 }
 
 // Bits per pixel (6.3.3).
@@ -46,28 +36,25 @@ impl Depth {
     pub fn fine(bits_per_pixel: u32) -> bool
         ensures { result ≡ depth_fine bits_per_pixel }
     {
-        if bits_per_pixel < Depth::LEAST {
-            return false;
-        }
-        bits_per_pixel <= Depth::GREATEST
+        (Depth::LEAST..=Depth::GREATEST).contains(&bits_per_pixel)
     }
 
     // The limits of dequantised values (7.4.4.4), or 12.
-    pub fn value_limits(bits_per_pixel: u32) -> DepthLimits
+    pub fn value_limits(bits_per_pixel: u32) -> Option<(i32, i32)>
         ensures { limits_outcome result ≡ value_limits bits_per_pixel }
     {
         if !Depth::fine(bits_per_pixel) {
-            return DepthLimits::OutOfRange;
+            return None;
         }
         limits_of(bits_per_pixel + 3)
     }
 
     // The limits of what the transform gives (7.4.5), or 12.
-    pub fn saturation_limits(bits_per_pixel: u32) -> DepthLimits
+    pub fn saturation_limits(bits_per_pixel: u32) -> Option<(i32, i32)>
         ensures { limits_outcome result ≡ saturation_limits bits_per_pixel }
     {
         if !Depth::fine(bits_per_pixel) {
-            return DepthLimits::OutOfRange;
+            return None;
         }
         limits_of(bits_per_pixel)
     }
@@ -88,17 +75,16 @@ impl Quantiser {
     pub fn fine(quantiser_scale: u32) -> bool
         ensures { result ≡ quantiser_fine quantiser_scale }
     {
-        if quantiser_scale < Quantiser::LEAST {
-            return false;
-        }
-        quantiser_scale <= Quantiser::GREATEST
+        (Quantiser::LEAST..=Quantiser::GREATEST).contains(&quantiser_scale)
     }
 
     // The quantiser scale that a change makes, limited to those that are one.
     pub fn limited(changed: i32) -> u32
         ensures { result ≡ limited_quantiser changed }
     {
-        numbers::abs(numbers::clamp(changed, Quantiser::LEAST as i32, Quantiser::GREATEST as i32))
+        changed
+            .clamp(Quantiser::LEAST as i32, Quantiser::GREATEST as i32)
+            .unsigned_abs()
     }
 }
 

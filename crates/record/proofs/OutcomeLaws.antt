@@ -9,14 +9,13 @@ use Rattle.numbers.specs.Outcome.{Outcome, accepted, checked, done, refused}
 use Rattle.record.specs.Refusals.{block_due, block_tests, first_bad, number_of, quantiser_due, quantiser_tests, recorded_outcome, store_due, store_tests}
 use Rattle.record.specs.declared.refusal.RecordError.{RecordError}
 use Rattle.record.specs.declared.refusal.RecordError.TheVariants.{Context, OutOfRange, TooShort}
-use Rattle.record.specs.declared.refusal.Recorded.{Recorded}
-use Rattle.record.specs.declared.refusal.Recorded.TheVariants.{Done, Refused}
+use Rattle.std.specs.Prelude.{Err, Ok, Result, ⊤}
 
 -- ---- of each call
 
 -- the tests of any
 pub tests_due : (ts : List (Bool × RecordError)) → Figureless (λ (e : RecordError). 0) ts → recorded_outcome (first_bad ts) ≡ checked (numbered number_of ts) done
-tests_due = by_numbers recorded_outcome Refused Done number_of (λ (e : RecordError). 0) (λ e. refl)
+tests_due = by_numbers recorded_outcome Err (Ok tt) number_of (λ (e : RecordError). 0) (λ e. refl)
 
 pub block_due_lem : (owned i : ℕ) → recorded_outcome (first_bad (block_tests owned i)) ≡ block_due owned i
 block_due_lem owned i = tests_due (block_tests owned i) (refl, (refl, tt))
@@ -40,13 +39,13 @@ error_by_lem TooShort = refl
 pub number-apart : (e f : RecordError) → number_of e ≡ number_of f → e ≡ f
 number-apart e f h = error_by_lem e ∙ ap error_by h ∙ sym (error_by_lem f)
 
-abbrev recorded_by : Outcome (Unit {0}) → Recorded
-recorded_by (accepted u) = Done
-recorded_by (refused n f) = Refused (error_by n)
+abbrev recorded_by : Outcome (Unit {0}) → Result ⊤ RecordError
+recorded_by (accepted u) = Ok tt
+recorded_by (refused n f) = Err (error_by n)
 
-recorded_by_lem : (r : Recorded) → r ≡ recorded_by (recorded_outcome r)
-recorded_by_lem Done = refl
-recorded_by_lem (Refused e) = ap Refused (error_by_lem e)
+recorded_by_lem : (r : Result ⊤ RecordError) → r ≡ recorded_by (recorded_outcome r)
+recorded_by_lem (Ok tt) = refl
+recorded_by_lem (Err e) = ap Err (error_by_lem e)
 
-pub recorded_apart : (r s : Recorded) → recorded_outcome r ≡ recorded_outcome s → r ≡ s
+pub recorded_apart : (r s : Result ⊤ RecordError) → recorded_outcome r ≡ recorded_outcome s → r ≡ s
 recorded_apart r s h = recorded_by_lem r ∙ ap recorded_by h ∙ sym (recorded_by_lem s)

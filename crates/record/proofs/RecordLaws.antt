@@ -4,11 +4,10 @@ use mathlib.Core.List.{List, ◌++◌}
 use mathlib.Core.Logic.{⊎_elim, ◌⊎◌}
 use mathlib.Core.Path.{◌≡◌, refl, ap, sym, ◌∙◌}
 use Prim.Native.Nat.{ℕ, ◌+◌, ◌*◌, ◌-◌, ◌<◌, ◌≤◌}
-use native.Mathlib.Numerals.{add-one}
 use native.Mathlib.Omega.{arith}
 use lib.IntN.{ℤ, pos}
-use lib.ListN.{length, get_or, take, drop, set, get_or-append}
-use lib.Seq.{get_or-take, get_or-drop, get_or-append-add, length-take-le, length-paste, length_paste_head, paste, paste-suc}
+use lib.ListN.{length, get_or, take, drop, get_or-append, length-drop, length-take}
+use lib.Seq.{get_or-take, get_or-drop, get_or-append-add, length-take-le, length-paste, length_paste_head, paste}
 use borrow.Author.Tests.{le-leb, lt-leb, le-ltb, lt-ltb, ne_eqb}
 use Rattle.numbers.specs.Grid.{build, cell}
 use Rattle.numbers.proofs.Fill.{get_or-build, length-build, build-eq, is-build, lt-or-le}
@@ -44,14 +43,14 @@ module _ (d : List ℤ) (at : ℕ) (b : List ℤ) (n : ℕ) (h : at + n ≤ leng
       ∙ get_or-drop (at + n) d j (pos 0)
       ∙ ap (λ (i : ℕ). get_or d i (pos 0)) (sym e)
 
--- one store of a loop that copies
-pub paste_more : (d : List ℤ) (at : ℕ) (s : List ℤ) (k : ℕ) (x : ℤ) (l : List ℤ)
-    → l ≡ paste d at s k → at + k < length d → k < length s → x ≡ get_or s k (pos 0) → set l (at + k) x ≡ paste d at s (k + 1)
-paste_more d at s k x l e p q f =
-    ap (λ (t : List ℤ). set t (at + k) x) e
-    ∙ ap (λ (y : ℤ). set (paste d at s k) (at + k) y) f
-    ∙ paste-suc d at s k (pos 0) p q
-    ∙ ap (λ (j : ℕ). paste d at s j) (sym (add-one k))
+-- ---- a part of the store
+
+-- numbers that lie in it, one by one
+pub part_built : (s : List ℤ) (at n : ℕ) → at + n ≤ length s → take (at + n - at) (drop at s) ≡ build n (λ (k : ℕ). get_or s (at + k) (pos 0))
+part_built s at n h =
+    is-build (pos 0) (take (at + n - at) (drop at s)) n (λ (k : ℕ). get_or s (at + k) (pos 0))
+    (simp (length-take, length-drop) (omega arith))
+    (λ (k : ℕ) (p : k < n). get_or-take (at + n - at) (drop at s) k (pos 0) (omega arith) ∙ get_or-drop at s k (pos 0))
 
 -- ---- a record of the store
 

@@ -1,29 +1,27 @@
 -- What records refuse, by document 01's numbers. Definitions only.
-use Rattle.std.specs.Prelude.{Bool, List, [], ◌∷◌, ℕ, ◌+◌, leb, ltb}
+use Rattle.std.specs.Prelude.{Bool, List, [], ◌∷◌, ℕ, ◌+◌, leb, ltb, Err, Ok, Result, ⊤}
 use Rattle.numbers.specs.Outcome.{Outcome, checked, done, first_of, refused}
 use Rattle.ranges.specs.Range.{quantiser_fine}
 use Rattle.record.specs.declared.refusal.RecordError.{RecordError}
 use Rattle.record.specs.declared.refusal.RecordError.TheVariants.{Context, OutOfRange, TooShort}
-use Rattle.record.specs.declared.refusal.Recorded.{Recorded}
-use Rattle.record.specs.declared.refusal.Recorded.TheVariants.{Done, Refused}
 
 abbrev pub number_of : RecordError → ℕ
 number_of OutOfRange = 11
 number_of Context = 12
 number_of TooShort = 14
 
-abbrev pub recorded_outcome : Recorded → Outcome (Unit {0})
-recorded_outcome Done = done
-recorded_outcome (Refused e) = refused (number_of e) 0
+abbrev pub recorded_outcome : Result ⊤ RecordError → Outcome (Unit {0})
+recorded_outcome (Ok tt) = done
+recorded_outcome (Err e) = refused (number_of e) 0
 
 -- tests with their refusals: the first that fails answers
-abbrev pub first_bad : List (Bool × RecordError) → Recorded
-first_bad ts = first_of Refused Done ts
+abbrev pub first_bad : List (Bool × RecordError) → Result ⊤ RecordError
+first_bad ts = first_of Err (Ok tt) ts
 
 -- what is handed out or left in lent memory
-abbrev pub unless : {A : Type 0} → Recorded → A → A → A
-unless Done new old = new
-unless (Refused e) new old = old
+abbrev pub unless : {A : Type 0} → Result ⊤ RecordError → A → A → A
+unless (Ok tt) new old = new
+unless (Err e) new old = old
 
 -- ---- the tests of each call
 

@@ -11,5 +11,5 @@ mod store;
 pub use record::{
     Side, known, known_dc, missing, new_record, number, quantiser, seven, with_block,
 };
-pub use refusal::{RecordError, Recorded};
+pub use refusal::RecordError;
 pub use store::put_record;

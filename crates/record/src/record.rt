@@ -3,7 +3,7 @@ ghost use Rattle.std.specs.Prelude.{◌≡◌, ◌<◌, ◌≤◌, drop, get_or,
 ghost use Rattle.record.specs.Refusals.{block_due, block_tests, first_bad, quantiser_due, quantiser_tests, recorded_outcome, unless};
 ghost use Rattle.record.specs.Record.{blank, fifteen, kept_of, known_of, missing_of, quantiser_of, seven_from, with_block};
 
-use crate::refusal::{RecordError, Recorded};
+use crate::refusal::RecordError;
 use prediction::BlockPredictors;
 
 // What a block takes of one neighbour; `has` is false outside the picture.
@@ -20,20 +20,14 @@ pub struct Side {
 pub fn quantiser(z: i32) -> u32
     ensures { result ≡ quantiser_of z }
 {
-    if z < 0 {
-        return 0;
-    }
-    z as u32
+    z.max(0) as u32
 }
 
 // A number of the store, 0 past its end: the one function that reads one.
 pub fn number(s: &[i32], at: usize) -> i32
     ensures { result ≡ get_or s.now at (pos 0) }
 {
-    if at < s.len() {
-        return s[at];
-    }
-    0
+    s.get(at).copied().unwrap_or(0)
 }
 
 // The seven numbers from `at` on, 0 past the store's end; all at once where they are there.
@@ -45,11 +39,10 @@ pub fn seven(s: &[i32], at: usize) -> [i32; 7]
         return out;
     }
     if at + 7 <= s.len() {
-        for k in 0..7 {
-            out[k] = s[at + k];
-        }
+        out.copy_from_slice(&s[at..at + 7]);
         return out;
     }
+    // an index: any of them may lie past the end
     for k in 0..7 {
         out[k] = number(s, at + k);
     }
@@ -97,17 +90,17 @@ pub fn missing(bits_per_pixel: u32, quantiser_scale: u32) -> Side
 }
 
 // The record before its first block into `own`; or 12, and `own` as it was.
-pub fn new_record(quantiser_scale: u32, own: &mut [i32; 91]) -> Recorded
+pub fn new_record(quantiser_scale: u32, own: &mut [i32; 91]) -> Result<(), RecordError>
     ensures value { (result ≡ first_bad (quantiser_tests quantiser_scale)) × (own.new ≡ unless (first_bad (quantiser_tests quantiser_scale)) (blank quantiser_scale) own.old) }
     ensures outcome { recorded_outcome result ≡ quantiser_due quantiser_scale }
 {
     if !ranges::Quantiser::fine(quantiser_scale) {
-        return Recorded::Refused(RecordError::Context);
+        return Err(RecordError::Context);
     }
     let mut fresh = [0i32; 91];
     fresh[90] = quantiser_scale as i32;
     *own = fresh;
-    Recorded::Done
+    Ok(())
 }
 
 // Number `u` of the fifteen that are kept of a block.
@@ -115,19 +108,18 @@ fn kept(dc: i32, qf: [[i32; 8]; 8], u: usize) -> i32
     requires { u < 15 }
     ensures { result ≡ kept_of dc qf u }
 {
-    if u == 0 {
-        return dc;
+    match u {
+        0 => dc,
+        1..=7 => qf[0][u],
+        _ => qf[u - 7][0],
     }
-    if u <= 7 {
-        return qf[0][u];
-    }
-    qf[u - 7][0]
 }
 
 fn kept_numbers(dc: i32, qf: [[i32; 8]; 8]) -> [i32; 15]
     ensures { result ≡ fifteen dc qf }
 {
     let mut out = [0i32; 15];
+    // an index: it tells which number is kept
     for u in 0..15 {
         out[u] = kept(dc, qf, u);
     }
@@ -140,22 +132,20 @@ fn put_block(own: &mut [i32], i: usize, dc: i32, qf: [[i32; 8]; 8])
     ensures { own.new ≡ with_block own.old i dc qf }
 {
     let numbers = kept_numbers(dc, qf);
-    for k in 0..15 {
-        own[15 * i + k] = numbers[k];
-    }
+    own[15 * i..15 * i + 15].copy_from_slice(&numbers);
 }
 
 // Block `i` into the record `own`; or 11, 14, and `own` as it was.
-pub fn with_block(own: &mut [i32], i: usize, dc: i32, qf: [[i32; 8]; 8]) -> Recorded
+pub fn with_block(own: &mut [i32], i: usize, dc: i32, qf: [[i32; 8]; 8]) -> Result<(), RecordError>
     ensures value { (result ≡ first_bad (block_tests (length own.old) i)) × (own.new ≡ unless (first_bad (block_tests (length own.old) i)) (with_block own.old i dc qf) own.old) }
     ensures outcome { recorded_outcome result ≡ block_due (length own.old) i }
 {
     if 6 <= i {
-        return Recorded::Refused(RecordError::OutOfRange);
+        return Err(RecordError::OutOfRange);
     }
     if own.len() < 91 {
-        return Recorded::Refused(RecordError::TooShort);
+        return Err(RecordError::TooShort);
     }
     put_block(own, i, dc, qf);
-    Recorded::Done
+    Ok(())
 }

@@ -24,10 +24,3 @@ impl RecordError {
         }
     }
 }
-
-// The answer of a call whose record or predictors stand beside it.
-#[derive(Clone, Copy)]
-pub enum Recorded {
-    Done,
-    Refused(RecordError),
-}

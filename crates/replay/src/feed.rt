@@ -24,20 +24,15 @@ pub(crate) fn start(picture: Picture) -> Reading {
 
 // After the last byte.
 pub(crate) fn end(r: Reading) -> Reading {
-    let mut last = r;
-    last.ended = true;
-    last
+    Reading { ended: true, ..r }
 }
 
 // With a digit more; a magnitude that needs more than 31 bits stays.
 fn with_digit(magnitude: u64, b: u8) -> u64 {
-    if magnitude > 214748364 {
+    if magnitude > 214748364 || b < b'0' {
         return magnitude;
     }
-    if b < b'0' {
-        return magnitude;
-    }
-    magnitude * 10 + (b - b'0') as u64
+    magnitude * 10 + u64::from(b - b'0')
 }
 
 fn signed(magnitude: u64, negative: bool) -> i32 {
@@ -63,11 +58,9 @@ pub(crate) fn feed(r: Reading, b: u8, line: &mut [i32]) -> Reading {
         next.negative = true;
         return next;
     }
-    if b != b' ' {
-        if b != b'\n' {
-            next.magnitude = with_digit(r.magnitude, b);
-            return next;
-        }
+    if b != b' ' && b != b'\n' {
+        next.magnitude = with_digit(r.magnitude, b);
+        return next;
     }
     next.n = put(line, r.n, signed(r.magnitude, r.negative));
     next.magnitude = 0;

@@ -1,12 +1,11 @@
 // The numbers of a line, as the calls take them.
 ghost use Rattle.std.specs.Prelude.{◌≡◌, ◌≤◌, length, take};
 
+use std::array;
+
 // Number k from `base` on; 0 where it is missing.
 pub(crate) fn number(line: &[i32], base: usize, k: usize) -> i32 {
-    if base >= line.len() {
-        return 0;
-    }
-    if k >= line.len() - base {
+    if base >= line.len() || k >= line.len() - base {
         return 0;
     }
     line[base + k]
@@ -17,7 +16,7 @@ pub(crate) fn flag(line: &[i32], base: usize, k: usize) -> bool {
 }
 
 pub(crate) fn unsigned(line: &[i32], base: usize, k: usize) -> u32 {
-    numbers::abs(number(line, base, k))
+    number(line, base, k).unsigned_abs()
 }
 
 pub(crate) fn size(line: &[i32], base: usize, k: usize) -> usize {
@@ -30,39 +29,18 @@ pub(crate) fn byte(line: &[i32], base: usize, k: usize) -> u8 {
 
 // So many numbers on; a line is shorter than a million.
 pub(crate) fn later(base: usize, by: usize) -> usize {
-    if base > 1000000 {
-        return base;
-    }
-    if by > 1000000 {
+    if base > 1000000 || by > 1000000 {
         return base;
     }
     base + by
 }
 
 pub(crate) fn eight(line: &[i32], base: usize) -> [i32; 8] {
-    [
-        number(line, base, 0),
-        number(line, base, 1),
-        number(line, base, 2),
-        number(line, base, 3),
-        number(line, base, 4),
-        number(line, base, 5),
-        number(line, base, 6),
-        number(line, base, 7),
-    ]
+    array::from_fn(|k| number(line, base, k))
 }
 
 pub(crate) fn eight_bytes(line: &[i32], base: usize) -> [u8; 8] {
-    [
-        byte(line, base, 0),
-        byte(line, base, 1),
-        byte(line, base, 2),
-        byte(line, base, 3),
-        byte(line, base, 4),
-        byte(line, base, 5),
-        byte(line, base, 6),
-        byte(line, base, 7),
-    ]
+    array::from_fn(|k| byte(line, base, k))
 }
 
 // Room for the data of a line.
@@ -76,16 +54,9 @@ pub(crate) fn space() -> [u8; 4096]
 pub(crate) fn data_of(line: &[i32], from: usize, data: &mut [u8]) -> usize
     ensures { (result ≤ length «data».new) × (result ≡ length (take result «data».new)) }
 {
-    let mut n = 0;
-    while n < data.len() {
-        if from >= line.len() {
-            return n;
-        }
-        if n >= line.len() - from {
-            return n;
-        }
-        data[n] = byte(line, from, n);
-        n += 1;
+    let n = line.len().saturating_sub(from).min(data.len());
+    for k in 0..n {
+        data[k] = byte(line, from, k);
     }
     n
 }
@@ -94,8 +65,5 @@ pub(crate) fn data_of(line: &[i32], from: usize, data: &mut [u8]) -> usize
 pub(crate) fn within(n: usize, s: &[i32]) -> usize
     ensures { (result ≤ length s.now) × (result ≡ length (take result s.now)) }
 {
-    if n < s.len() {
-        return n;
-    }
-    s.len()
+    n.min(s.len())
 }

@@ -42,8 +42,7 @@ use std::io::Read;
 
 // What a line says; the picture that is open after it.
 fn answer(rt: &impl Print, p: Picture, line: &[i32], store: &mut [i32]) -> io::Result<Picture> {
-    let kind = line::number(line, 0, 0);
-    match kind {
+    match line::number(line, 0, 0) {
         1 => symbols::dc(rt, line)?,
         2 => symbols::event(rt, line)?,
         3 => symbols::list(rt, line)?,
@@ -72,8 +71,7 @@ fn byte(
         return Ok(fed);
     }
     let n = line::within(fed.n, &*line);
-    let p = fed.picture;
-    let open = answer(rt, p, &line[..n], store)?;
+    let open = answer(rt, fed.picture, &line[..n], store)?;
     say::end(rt)?;
     Ok(feed::start(open))
 }
@@ -86,10 +84,8 @@ fn bytes(
     store: &mut [i32],
 ) -> io::Result<Reading> {
     let mut now_at = r;
-    let mut i = 0;
-    while i < chunk.len() {
-        now_at = byte(rt, now_at, chunk[i], line, store)?;
-        i += 1;
+    for b in chunk {
+        now_at = byte(rt, now_at, *b, line, store)?;
     }
     Ok(now_at)
 }
@@ -117,8 +113,7 @@ fn run(
     line: &mut [i32],
     store: &mut [i32],
 ) -> io::Result<()> {
-    let none = pixels::none();
-    let mut r = feed::start(none);
+    let mut r = feed::start(pixels::none());
     for _ in 0..u64::MAX {
         if r.ended {
             return Ok(());

@@ -1,22 +1,23 @@
 // Blocks, macroblocks alone and in a picture, and the transform alone.
+use assembly::BlockAssemblyError;
 use block::BlockDecoded;
 use macroblock::MacroblockDecoded;
-use picture::{Picture, PictureDecoded, PictureOpened};
+use picture::{Picture, PictureDecoded};
 use std::io;
 
 fn block_said(
     rt: &impl Print,
-    answer: BlockDecoded,
+    answer: Result<BlockDecoded, BlockAssemblyError>,
     samples: [[i32; 8]; 8],
     levels: [[i32; 8]; 8],
 ) -> io::Result<()> {
     match answer {
-        BlockDecoded::Refused(e) => {
+        Err(e) => {
             crate::say::refused(rt, e.number(), e.figure())?;
             crate::say::blocks_kept(rt, samples, levels)
         }
-        BlockDecoded::Decoded(dc, next, _) => {
-            crate::say::decoded(rt, dc, next.bit_pos)?;
+        Ok(told) => {
+            crate::say::decoded(rt, told.dc, told.next.bit_pos)?;
             crate::say::block(rt, levels)?;
             crate::say::block(rt, samples)
         }
@@ -49,21 +50,30 @@ pub(crate) fn block(rt: &impl Print, line: &[i32]) -> io::Result<()> {
     one_block(rt, line, at, &data[..n])
 }
 
-fn macroblock_said(rt: &impl Print, answer: MacroblockDecoded, samples: &[i32]) -> io::Result<()> {
+fn macroblock_said(
+    rt: &impl Print,
+    answer: Result<MacroblockDecoded, BlockAssemblyError>,
+    samples: &[i32],
+) -> io::Result<()> {
     match answer {
-        MacroblockDecoded::Refused(e) => {
+        Err(e) => {
             crate::say::refused(rt, e.number(), e.figure())?;
             crate::say::all_kept(rt, samples)
         }
-        MacroblockDecoded::Decoded(bits, next, _) => {
-            crate::say::taken(rt, bits, next.bit_pos)?;
+        Ok(told) => {
+            crate::say::taken(rt, told.bits, told.next.bit_pos)?;
             crate::say::all(rt, samples)
         }
     }
 }
 
 // With these samples and no more.
-fn alone(line: &[i32], at: usize, data: &[u8], samples: &mut [i32]) -> MacroblockDecoded {
+fn alone(
+    line: &[i32],
+    at: usize,
+    data: &[u8],
+    samples: &mut [i32],
+) -> Result<MacroblockDecoded, BlockAssemblyError> {
     macroblock::decode_intra_macroblock(
         data,
         crate::symbols::cursor(line, at),
@@ -117,13 +127,13 @@ pub(crate) fn opening(rt: &impl Print, p: Picture, line: &[i32]) -> io::Result<P
         crate::line::flag(line, 4, 0),
     );
     match answer {
-        PictureOpened::Refused(e) => {
+        Err(e) => {
             crate::say::refused(rt, e.number(), e.figure())?;
             Ok(p)
         }
-        PictureOpened::Opened(q) => {
+        Ok(q) => {
             crate::say::opened(rt, q.width, q.height, q.bits_per_pixel, q.quant_type)?;
-            crate::say::number(rt, q.accepted as u64)?;
+            crate::say::number(rt, u64::from(q.accepted))?;
             Ok(q)
         }
     }
@@ -132,20 +142,20 @@ pub(crate) fn opening(rt: &impl Print, p: Picture, line: &[i32]) -> io::Result<P
 fn picture_said(
     rt: &impl Print,
     p: Picture,
-    answer: PictureDecoded,
+    answer: Result<PictureDecoded, BlockAssemblyError>,
     samples: &[i32],
 ) -> io::Result<Picture> {
     match answer {
-        PictureDecoded::Refused(e) => {
+        Err(e) => {
             crate::say::refused(rt, e.number(), e.figure())?;
             crate::say::all_kept(rt, samples)?;
             Ok(p)
         }
-        PictureDecoded::Decoded(bits, next, _, q) => {
-            crate::say::taken(rt, bits, next.bit_pos)?;
-            crate::say::number(rt, q.accepted as u64)?;
+        Ok(told) => {
+            crate::say::taken(rt, told.bits, told.next.bit_pos)?;
+            crate::say::number(rt, u64::from(told.picture.accepted))?;
             crate::say::all(rt, samples)?;
-            Ok(q)
+            Ok(told.picture)
         }
     }
 }
@@ -158,7 +168,7 @@ fn next(
     data: &[u8],
     samples: &mut [i32],
     store: &mut [i32],
-) -> PictureDecoded {
+) -> Result<PictureDecoded, BlockAssemblyError> {
     picture::decode_macroblock(
         p,
         data,
@@ -216,9 +226,8 @@ pub(crate) fn transform(rt: &impl Print, line: &[i32]) -> io::Result<()> {
         rounding,
         &mut samples,
     );
-    let number = answer.number();
-    if number != 0 {
-        crate::say::refused(rt, number, 0)?;
+    if let Err(e) = answer {
+        crate::say::refused(rt, e.number(), 0)?;
         return crate::say::block_kept(rt, samples);
     }
     crate::say::transformed(rt)?;

@@ -21,14 +21,11 @@ pub(crate) fn number(rt: &impl Print, n: u64) -> io::Result<()> {
 
 fn signed(rt: &impl Print, z: i32) -> io::Result<()> {
     text(rt, b" ")?;
-    if z < 0 {
-        text(rt, b"-")?;
-    }
-    rt.print(numbers::abs(z))
+    rt.print(z)
 }
 
 fn flag(rt: &impl Print, set: bool) -> io::Result<()> {
-    if set { number(rt, 1) } else { number(rt, 0) }
+    number(rt, u64::from(set))
 }
 
 // Each of these begins the line of an accepted call.
@@ -39,7 +36,7 @@ pub(crate) fn dc_part(
     position: usize,
 ) -> io::Result<()> {
     first(rt, 0)?;
-    number(rt, size as u64)?;
+    number(rt, u64::from(size))?;
     signed(rt, differential)?;
     number(rt, position as u64)
 }
@@ -53,7 +50,7 @@ pub(crate) fn event(
 ) -> io::Result<()> {
     first(rt, 0)?;
     flag(rt, last)?;
-    number(rt, run as u64)?;
+    number(rt, u64::from(run))?;
     signed(rt, level)?;
     number(rt, position as u64)
 }
@@ -83,9 +80,9 @@ pub(crate) fn opened(
     quant_type: bool,
 ) -> io::Result<()> {
     first(rt, 0)?;
-    number(rt, width as u64)?;
-    number(rt, height as u64)?;
-    number(rt, bits_per_pixel as u64)?;
+    number(rt, u64::from(width))?;
+    number(rt, u64::from(height))?;
+    number(rt, u64::from(bits_per_pixel))?;
     flag(rt, quant_type)
 }
 
@@ -95,7 +92,7 @@ pub(crate) fn transformed(rt: &impl Print) -> io::Result<()> {
 
 pub(crate) fn refused(rt: &impl Print, n: u32, figure: u32) -> io::Result<()> {
     first(rt, n)?;
-    number(rt, figure as u64)
+    number(rt, u64::from(figure))
 }
 
 // A type's place in Table B.1, 0 the missing one.
@@ -113,14 +110,13 @@ fn place(t: DerivedMbType) -> u64 {
 // What is read of a header in bits.
 pub(crate) fn fields(rt: &impl Print, f: HeaderFields) -> io::Result<()> {
     let header = f.header;
-    let mb_type = header.mb_type;
     flag(rt, header.not_coded)?;
-    number(rt, place(mb_type))?;
-    number(rt, header.cbpc as u64)?;
+    number(rt, place(header.mb_type))?;
+    number(rt, u64::from(header.cbpc))?;
     flag(rt, header.ac_pred_flag)?;
-    number(rt, header.cbpy as u64)?;
+    number(rt, u64::from(header.cbpy))?;
     signed(rt, f.dquant_delta)?;
-    number(rt, f.quantiser_scale as u64)
+    number(rt, u64::from(f.quantiser_scale))
 }
 
 // Of a kind that there is not.
@@ -133,8 +129,8 @@ pub(crate) fn end(rt: &impl Print) -> io::Result<()> {
 }
 
 pub(crate) fn all(rt: &impl Print, s: &[i32]) -> io::Result<()> {
-    for k in 0..s.len() {
-        signed(rt, s[k])?;
+    for z in s {
+        signed(rt, *z)?;
     }
     Ok(())
 }
@@ -144,12 +140,7 @@ pub(crate) fn lent_samples() -> [i32; 512] {
 }
 
 fn kept(s: &[i32]) -> bool {
-    for k in 0..s.len() {
-        if s[k] != LENT {
-            return false;
-        }
-    }
-    true
+    s.iter().all(|z| *z == LENT)
 }
 
 pub(crate) fn all_kept(rt: &impl Print, s: &[i32]) -> io::Result<()> {
@@ -173,28 +164,15 @@ pub(crate) fn lent_block() -> [[i32; 8]; 8] {
     [row; 8]
 }
 
-fn row(rt: &impl Print, r: [i32; 8]) -> io::Result<()> {
-    all(rt, &r)
-}
-
 pub(crate) fn block(rt: &impl Print, b: [[i32; 8]; 8]) -> io::Result<()> {
-    for y in 0..8 {
-        row(rt, b[y])?;
+    for row in &b {
+        all(rt, row)?;
     }
     Ok(())
 }
 
-fn row_kept(r: [i32; 8]) -> bool {
-    kept(&r)
-}
-
 fn block_is_kept(b: [[i32; 8]; 8]) -> bool {
-    for y in 0..8 {
-        if !row_kept(b[y]) {
-            return false;
-        }
-    }
-    true
+    b.iter().all(|row| kept(row))
 }
 
 pub(crate) fn block_kept(rt: &impl Print, b: [[i32; 8]; 8]) -> io::Result<()> {
@@ -202,9 +180,5 @@ pub(crate) fn block_kept(rt: &impl Print, b: [[i32; 8]; 8]) -> io::Result<()> {
 }
 
 pub(crate) fn blocks_kept(rt: &impl Print, b: [[i32; 8]; 8], d: [[i32; 8]; 8]) -> io::Result<()> {
-    if block_is_kept(b) {
-        block_kept(rt, d)
-    } else {
-        flag(rt, false)
-    }
+    flag(rt, block_is_kept(b) && block_is_kept(d))
 }

@@ -4,12 +4,14 @@ use coefficients::BlockPredictors;
 use idct::HalfIntegerRounding;
 use macroblock::{DerivedMbType, MacroblockHeader};
 use picture::MacroblockContext;
+use std::array;
 
 pub(crate) fn rule(to_even: bool) -> HalfIntegerRounding {
     if to_even {
-        return HalfIntegerRounding::TO_EVEN;
+        HalfIntegerRounding::TO_EVEN
+    } else {
+        HalfIntegerRounding::AWAY_FROM_ZERO
     }
-    HalfIntegerRounding::AWAY_FROM_ZERO
 }
 
 // Seven numbers.
@@ -41,8 +43,7 @@ pub(crate) fn context_in_picture(line: &[i32], base: usize) -> MacroblockContext
 }
 
 fn seven(line: &[i32], base: usize) -> [i32; 7] {
-    let e = crate::line::eight(line, base);
-    [e[0], e[1], e[2], e[3], e[4], e[5], e[6]]
+    array::from_fn(|k| crate::line::number(line, base, k))
 }
 
 // 21 numbers.
@@ -75,10 +76,9 @@ fn mb_type(place: u32) -> DerivedMbType {
 
 // Five numbers, from the second of a line on.
 pub(crate) fn header(line: &[i32]) -> MacroblockHeader {
-    let mb_type = mb_type(crate::line::unsigned(line, 2, 0));
     MacroblockHeader {
         not_coded: crate::line::flag(line, 1, 0),
-        mb_type,
+        mb_type: mb_type(crate::line::unsigned(line, 2, 0)),
         cbpc: crate::line::byte(line, 3, 0),
         ac_pred_flag: crate::line::flag(line, 4, 0),
         cbpy: crate::line::byte(line, 5, 0),
@@ -104,10 +104,12 @@ pub(crate) fn matrix(line: &[i32], base: usize) -> [[u8; 8]; 8] {
 
 // Where the numbers after the matrix begin.
 pub(crate) fn after_matrix(line: &[i32], base: usize) -> usize {
-    if crate::line::flag(line, base, 0) {
-        return crate::line::later(base, 65);
-    }
-    crate::line::later(base, 1)
+    let numbers = if crate::line::flag(line, base, 0) {
+        65
+    } else {
+        1
+    };
+    crate::line::later(base, numbers)
 }
 
 pub(crate) fn values(line: &[i32], base: usize) -> [[i32; 8]; 8] {

@@ -1,21 +1,25 @@
 // DC parts, events and event lists.
 use bits::Cursor;
 use codes::{DcComponent, TcoefTable};
+use dc_parts::IntraDcDifferential;
+use events::{AcEvent, Spellings};
+use fields::TextureParseError;
 use std::io;
-use texture::{DcRead, EventRead, EventsRead};
 
 fn component(chrominance: bool) -> DcComponent {
     if chrominance {
-        return DcComponent::Chrominance;
+        DcComponent::Chrominance
+    } else {
+        DcComponent::Luminance
     }
-    DcComponent::Luminance
 }
 
 fn table(inter: bool) -> TcoefTable {
     if inter {
-        return TcoefTable::Inter;
+        TcoefTable::Inter
+    } else {
+        TcoefTable::Intra
     }
-    TcoefTable::Intra
 }
 
 pub(crate) fn cursor(line: &[i32], base: usize) -> Cursor {
@@ -24,10 +28,13 @@ pub(crate) fn cursor(line: &[i32], base: usize) -> Cursor {
     }
 }
 
-fn dc_said(rt: &impl Print, answer: DcRead) -> io::Result<()> {
+fn dc_said(
+    rt: &impl Print,
+    answer: Result<(IntraDcDifferential, Cursor), TextureParseError>,
+) -> io::Result<()> {
     match answer {
-        DcRead::Refused(e) => crate::say::refused(rt, e.number(), e.figure()),
-        DcRead::Dc(d, next) => crate::say::dc_part(rt, d.size, d.differential, next.bit_pos),
+        Err(e) => crate::say::refused(rt, e.number(), e.figure()),
+        Ok((d, next)) => crate::say::dc_part(rt, d.size, d.differential, next.bit_pos),
     }
 }
 
@@ -41,17 +48,26 @@ pub(crate) fn dc(rt: &impl Print, line: &[i32]) -> io::Result<()> {
     )
 }
 
-fn read_event(reversible: bool, data: &[u8], c: Cursor, table: TcoefTable) -> EventRead {
+fn read_event(
+    reversible: bool,
+    data: &[u8],
+    c: Cursor,
+    table: TcoefTable,
+) -> Result<(AcEvent, Cursor), TextureParseError> {
     if reversible {
-        return texture::decode_ac_event_rvlc(data, c, table);
+        texture::decode_ac_event_rvlc(data, c, table)
+    } else {
+        texture::decode_ac_event(data, c, table)
     }
-    texture::decode_ac_event(data, c, table)
 }
 
-fn event_said(rt: &impl Print, answer: EventRead) -> io::Result<()> {
+fn event_said(
+    rt: &impl Print,
+    answer: Result<(AcEvent, Cursor), TextureParseError>,
+) -> io::Result<()> {
     match answer {
-        EventRead::Refused(e) => crate::say::refused(rt, e.number(), e.figure()),
-        EventRead::Event(v, next) => crate::say::event(rt, v.last, v.run, v.level, next.bit_pos),
+        Err(e) => crate::say::refused(rt, e.number(), e.figure()),
+        Ok((v, next)) => crate::say::event(rt, v.last, v.run, v.level, next.bit_pos),
     }
 }
 
@@ -73,20 +89,25 @@ fn read_events(
     table: TcoefTable,
     dc_coded: bool,
     qfs: &mut [i32; 64],
-) -> EventsRead {
+) -> Result<(Cursor, Spellings), TextureParseError> {
     if reversible {
-        return texture::decode_ac_events_rvlc(data, c, table, dc_coded, qfs);
+        texture::decode_ac_events_rvlc(data, c, table, dc_coded, qfs)
+    } else {
+        texture::decode_ac_events(data, c, table, dc_coded, qfs)
     }
-    texture::decode_ac_events(data, c, table, dc_coded, qfs)
 }
 
-fn list_said(rt: &impl Print, answer: EventsRead, qfs: [i32; 64]) -> io::Result<()> {
+fn list_said(
+    rt: &impl Print,
+    answer: Result<(Cursor, Spellings), TextureParseError>,
+    qfs: [i32; 64],
+) -> io::Result<()> {
     match answer {
-        EventsRead::Refused(e) => {
+        Err(e) => {
             crate::say::refused(rt, e.number(), e.figure())?;
             crate::say::places_kept(rt, qfs)
         }
-        EventsRead::Read(next, _) => {
+        Ok((next, _)) => {
             crate::say::read(rt, next.bit_pos)?;
             crate::say::places(rt, qfs)
         }

@@ -1,13 +1,18 @@
 // Headers by themselves, and macroblocks alone and in a picture with their header in their bits.
-use headers::HeaderRead;
+use assembly::BlockAssemblyError;
+use bits::Cursor;
+use headers::HeaderFields;
 use macroblock::WholeDecoded;
 use picture::{Picture, PictureWholeDecoded};
 use std::io;
 
-fn header_said(rt: &impl Print, answer: HeaderRead) -> io::Result<()> {
+fn header_said(
+    rt: &impl Print,
+    answer: Result<(HeaderFields, Cursor), BlockAssemblyError>,
+) -> io::Result<()> {
     match answer {
-        HeaderRead::Refused(e) => crate::say::refused(rt, e.number(), e.figure()),
-        HeaderRead::Read(fields, next) => {
+        Err(e) => crate::say::refused(rt, e.number(), e.figure()),
+        Ok((fields, next)) => {
             crate::say::read(rt, next.bit_pos)?;
             crate::say::fields(rt, fields)
         }
@@ -25,22 +30,31 @@ pub(crate) fn header(rt: &impl Print, line: &[i32]) -> io::Result<()> {
     )
 }
 
-fn macroblock_said(rt: &impl Print, answer: WholeDecoded, samples: &[i32]) -> io::Result<()> {
+fn macroblock_said(
+    rt: &impl Print,
+    answer: Result<WholeDecoded, BlockAssemblyError>,
+    samples: &[i32],
+) -> io::Result<()> {
     match answer {
-        WholeDecoded::Refused(e) => {
+        Err(e) => {
             crate::say::refused(rt, e.number(), e.figure())?;
             crate::say::all_kept(rt, samples)
         }
-        WholeDecoded::Decoded(bits, next, _, fields) => {
-            crate::say::taken(rt, bits, next.bit_pos)?;
-            crate::say::fields(rt, fields)?;
+        Ok(told) => {
+            crate::say::taken(rt, told.bits, told.next.bit_pos)?;
+            crate::say::fields(rt, told.fields)?;
             crate::say::all(rt, samples)
         }
     }
 }
 
 // With these samples and no more.
-fn alone(line: &[i32], at: usize, data: &[u8], samples: &mut [i32]) -> WholeDecoded {
+fn alone(
+    line: &[i32],
+    at: usize,
+    data: &[u8],
+    samples: &mut [i32],
+) -> Result<WholeDecoded, BlockAssemblyError> {
     macroblock::decode_intra_macroblock_with_header(
         data,
         crate::symbols::cursor(line, at),
@@ -76,21 +90,21 @@ pub(crate) fn macroblock(rt: &impl Print, line: &[i32]) -> io::Result<()> {
 fn picture_said(
     rt: &impl Print,
     p: Picture,
-    answer: PictureWholeDecoded,
+    answer: Result<PictureWholeDecoded, BlockAssemblyError>,
     samples: &[i32],
 ) -> io::Result<Picture> {
     match answer {
-        PictureWholeDecoded::Refused(e) => {
+        Err(e) => {
             crate::say::refused(rt, e.number(), e.figure())?;
             crate::say::all_kept(rt, samples)?;
             Ok(p)
         }
-        PictureWholeDecoded::Decoded(bits, next, _, q, fields) => {
-            crate::say::taken(rt, bits, next.bit_pos)?;
-            crate::say::number(rt, q.accepted as u64)?;
-            crate::say::fields(rt, fields)?;
+        Ok(told) => {
+            crate::say::taken(rt, told.bits, told.next.bit_pos)?;
+            crate::say::number(rt, u64::from(told.picture.accepted))?;
+            crate::say::fields(rt, told.fields)?;
             crate::say::all(rt, samples)?;
-            Ok(q)
+            Ok(told.picture)
         }
     }
 }
@@ -103,7 +117,7 @@ fn next(
     data: &[u8],
     samples: &mut [i32],
     store: &mut [i32],
-) -> PictureWholeDecoded {
+) -> Result<PictureWholeDecoded, BlockAssemblyError> {
     picture::decode_macroblock_with_header(
         p,
         data,

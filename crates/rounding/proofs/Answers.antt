@@ -10,30 +10,29 @@ use Rattle.numbers.specs.Outcome.{Outcome, accepted, checked, refused}
 use Rattle.rounding.specs.Near.{Roundable, roundable}
 use Rattle.rounding.specs.Rounding.{rounded_outcome, whole_of}
 use Rattle.rounding.specs.declared.HalfIntegerRounding.{HalfIntegerRounding}
-use Rattle.rounding.specs.declared.Rounded.{Rounded}
-use Rattle.rounding.specs.declared.Rounded.TheVariants.{Is, OutOfLimits}
 use Rattle.rounding.proofs.Sizes.{roundable_shown}
+use Rattle.std.specs.Prelude.{None, Option, Some}
 
 module _ (m : HalfIntegerRounding) (x : Float) where
   abbrev pub due : Outcome ℤ
   due = checked ((roundable x, 13) ∷ []) (accepted (whole_of m x))
 
-  pub refuses : roundable x ≡ false → rounded_outcome OutOfLimits ≡ due
+  pub refuses : roundable x ≡ false → rounded_outcome None ≡ due
   refuses e = simp e
 
-  pub answers : (z : ℤ) → roundable x ≡ true → z ≡ whole_of m x → rounded_outcome (Is z) ≡ due
+  pub answers : (z : ℤ) → roundable x ≡ true → z ≡ whole_of m x → rounded_outcome (Some z) ≡ due
   answers z e h = ap accepted h ∙ sym (ap (λ (b : Bool). cond b (accepted (whole_of m x)) (refused 13 0)) e)
 
   -- ---- for callers
 
-  module _ (r : Rounded) (e : rounded_outcome r ≡ due) (h : Roundable x) where
+  module _ (r : Option ℤ) (e : rounded_outcome r ≡ due) (h : Roundable x) where
     told : rounded_outcome r ≡ accepted (whole_of m x)
     told = e ∙ ap (λ (b : Bool). cond b (accepted (whole_of m x)) (refused 13 0)) (roundable_shown x h)
 
-    pub tells_whole : (z : ℤ) → r ≡ Is z → z ≡ whole_of m x
+    pub tells_whole : (z : ℤ) → r ≡ Some z → z ≡ whole_of m x
     tells_whole z g = let t : accepted z ≡ accepted (whole_of m x) = sym (ap rounded_outcome g) ∙ told in cc
 
-    pub never_refused : r ≡ OutOfLimits → ⊥
+    pub never_refused : r ≡ None → ⊥
     never_refused g =
         let t : ◌≡◌ {A = Outcome ℤ} (refused 13 0) (accepted (whole_of m x)) = sym (ap rounded_outcome g) ∙ told in
         let n : ◌≡◌ {A = ℕ} 0 1 = cc in

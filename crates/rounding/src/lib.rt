@@ -24,13 +24,6 @@ impl HalfIntegerRounding {
     pub const TO_EVEN: HalfIntegerRounding = HalfIntegerRounding::ToEven;
 }
 
-// A whole number, or 13: the value is not finite, or above 2^20 in size.
-#[derive(Clone, Copy)]
-pub enum Rounded {
-    Is(i32),
-    OutOfLimits,
-}
-
 // The distance from one half below which a value counts as half-way.
 const HALF_INTEGER_TOLERANCE: f64 = 1e-8;
 
@@ -70,19 +63,19 @@ fn tie(below: i32, rounding: HalfIntegerRounding) -> i32
 }
 
 // The whole number nearest to `value`, or 13. One that is half-way, within the tolerance, goes by `rounding`.
-pub fn round_to_integer(value: f64, rounding: HalfIntegerRounding) -> Rounded
+pub fn round_to_integer(value: f64, rounding: HalfIntegerRounding) -> Option<i32>
     ensures { rounded_outcome result ≡ checked ((roundable value, 13) ∷ []) (accepted (whole_of rounding value)) }
 {
     if !(magnitude(value) <= LARGEST) {
-        return Rounded::OutOfLimits;
+        return None;
     }
     let below = floor_of(value);
     let d = value - (below as f64) - 0.5;
     if magnitude(d) < HALF_INTEGER_TOLERANCE {
-        return Rounded::Is(tie(below, rounding));
+        return Some(tie(below, rounding));
     }
     if d < 0.0 {
-        return Rounded::Is(below);
+        return Some(below);
     }
-    Rounded::Is(below + 1)
+    Some(below + 1)
 }

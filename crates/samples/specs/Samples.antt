@@ -1,11 +1,10 @@
 -- How the six 8x8 blocks of a macroblock lie in its 384 samples: luma 16 wide, blocks 0 and 1 above 2 and 3, then Cb, then Cr. Definitions only.
-use Rattle.std.specs.Prelude.{cond, ◌&&◌, List, [], ◌++◌, ◌∷◌, ℕ, ◌+◌, ◌*◌, ◌/◌, ◌%◌, ◌-◌, eqb, leb, ltb, ℤ, pos, length, get_or, drop}
+use Rattle.std.specs.Prelude.{cond, ◌&&◌, List, [], ◌++◌, ◌∷◌, ℕ, ◌+◌, ◌*◌, ◌/◌, ◌%◌, ◌-◌, eqb, leb, ltb, ℤ, pos, length, get_or, drop, Err, Ok, Result, ⊤}
 use Rattle.numbers.specs.Grid.{build, cell}
 use Rattle.numbers.specs.Outcome.{Outcome, checked, done, refused}
-use Rattle.samples.specs.declared.BlockWritten.{BlockWritten}
-use Rattle.samples.specs.declared.BlockWritten.TheVariants as one
-use Rattle.samples.specs.declared.Written.{Written}
-use Rattle.samples.specs.declared.Written.TheVariants.{Done, TooShort}
+use Rattle.samples.specs.declared.SamplesError.{SamplesError}
+use Rattle.samples.specs.declared.SamplesError.TheVariants.{OutOfRange}
+use Rattle.samples.specs.declared.SamplesError.TheVariants.{TooShort}
 
 -- 256 of luma, 64 of Cb and 64 of Cr
 abbrev pub macroblock_samples : ℕ
@@ -34,12 +33,13 @@ abbrev pub samples_after : List (List (List ℤ)) → List ℤ → List ℤ
 samples_after blocks s = cond (leb macroblock_samples (length s)) (mb_samples blocks ++ drop macroblock_samples s) s
 
 -- 14 where they are fewer
-abbrev pub written_by : List ℤ → Written
-written_by s = cond (leb macroblock_samples (length s)) Done TooShort
+abbrev pub written_by : List ℤ → Result ⊤ SamplesError
+written_by s = cond (leb macroblock_samples (length s)) (Ok tt) (Err TooShort)
 
-abbrev pub written_outcome : Written → Outcome (Unit {0})
-written_outcome Done = done
-written_outcome TooShort = refused 14 0
+abbrev pub written_outcome : Result ⊤ SamplesError → Outcome (Unit {0})
+written_outcome (Ok tt) = done
+written_outcome (Err OutOfRange) = refused 11 0
+written_outcome (Err TooShort) = refused 14 0
 
 abbrev pub written_due : List ℤ → Outcome (Unit {0})
 written_due s = checked ((leb macroblock_samples (length s), 14) ∷ []) done
@@ -58,13 +58,13 @@ block_after i b s =
     s
 
 -- 11, then 14
-abbrev pub block_written : ℕ → List ℤ → BlockWritten
-block_written i s = cond (ltb i 6) (cond (leb macroblock_samples (length s)) one.Done one.TooShort) one.OutOfRange
+abbrev pub block_written : ℕ → List ℤ → Result ⊤ SamplesError
+block_written i s = cond (ltb i 6) (cond (leb macroblock_samples (length s)) (Ok tt) (Err TooShort)) (Err OutOfRange)
 
-abbrev pub block_outcome : BlockWritten → Outcome (Unit {0})
-block_outcome one.Done = done
-block_outcome one.OutOfRange = refused 11 0
-block_outcome one.TooShort = refused 14 0
+abbrev pub block_outcome : Result ⊤ SamplesError → Outcome (Unit {0})
+block_outcome (Ok tt) = done
+block_outcome (Err OutOfRange) = refused 11 0
+block_outcome (Err TooShort) = refused 14 0
 
 abbrev pub block_due : ℕ → List ℤ → Outcome (Unit {0})
 block_due i s = checked ((ltb i 6, 11) ∷ (leb macroblock_samples (length s), 14) ∷ []) done

@@ -32,31 +32,25 @@ fn write_all(samples: &mut [i32], blocks: [[[i32; 8]; 8]; 6])
     write_block(&mut samples[320..SAMPLES], 8, blocks[5]);
 }
 
-// Whether a macroblock was written; 14 where fewer than 384 samples are lent.
-#[derive(Clone, Copy)]
-pub enum Written {
-    Done,
+// Why samples are not written.
+#[derive(Clone, Copy, Debug, PartialEq, Eq)]
+pub enum SamplesError {
+    // 11: a block above 5
+    OutOfRange,
+    // 14: fewer than 384 samples are lent
     TooShort,
 }
 
 // The first 384 samples, where there are as many; otherwise nothing is written.
-pub fn write_macroblock(samples: &mut [i32], blocks: [[[i32; 8]; 8]; 6]) -> Written
+pub fn write_macroblock(samples: &mut [i32], blocks: [[[i32; 8]; 8]; 6]) -> Result<(), SamplesError>
     ensures value { (result ≡ written_by samples.old) × (samples.new ≡ samples_after blocks samples.old) }
     ensures outcome { written_outcome result ≡ written_due samples.old }
 {
     if samples.len() < SAMPLES {
-        return Written::TooShort;
+        return Err(SamplesError::TooShort);
     }
     write_all(&mut samples[0..SAMPLES], blocks);
-    Written::Done
-}
-
-// Whether a block was written: 11 for a block above 5, 14 where fewer than 384 samples are lent.
-#[derive(Clone, Copy)]
-pub enum BlockWritten {
-    Done,
-    OutOfRange,
-    TooShort,
+    Ok(())
 }
 
 // Where block i of six begins.
@@ -85,17 +79,17 @@ fn row_length(i: usize) -> usize
 }
 
 // Block i into its part of the first 384 samples, where there are as many; otherwise nothing is written.
-pub fn write_one(samples: &mut [i32], i: usize, block: [[i32; 8]; 8]) -> BlockWritten
+pub fn write_one(samples: &mut [i32], i: usize, block: [[i32; 8]; 8]) -> Result<(), SamplesError>
     ensures value { (result ≡ block_written i samples.old) × (samples.new ≡ block_after i block samples.old) }
     ensures outcome { block_outcome result ≡ block_due i samples.old }
 {
     if 6 <= i {
-        return BlockWritten::OutOfRange;
+        return Err(SamplesError::OutOfRange);
     }
     if samples.len() < SAMPLES {
-        return BlockWritten::TooShort;
+        return Err(SamplesError::TooShort);
     }
     let begin = begin_of(i);
     write_block(&mut samples[begin..SAMPLES], row_length(i), block);
-    BlockWritten::Done
+    Ok(())
 }

@@ -1,18 +1,19 @@
 -- The places of a block up to an end, one by one: below the end they are the block's, from it on 0. Assumes nothing.
 use mathlib.Core.Bool.{Bool, true, false, cond}
-use mathlib.Core.List.{List}
+use mathlib.Core.List.{List, ◌++◌}
 use mathlib.Core.Logic.{⊎_elim}
-use mathlib.Core.Path.{◌≡◌, refl, sym, subst, ◌∙◌}
-use Prim.Native.Nat.{ℕ, ◌+◌, min, ◌≤◌, ◌<◌}
+use mathlib.Core.Path.{◌≡◌, ap, refl, sym, subst, ◌∙◌}
+use Prim.Native.Nat.{ℕ, ◌+◌, ◌-◌, min, ◌≤◌, ◌<◌}
 use native.Mathlib.Omega.{arith}
 use lib.Dec.{ltb}
 use lib.IntN.{ℤ, pos}
-use lib.ListN.{length, get_or, drop, length-drop, get_or-eq_default}
-use lib.Seq.{get_or-drop}
+use lib.ListN.{length, get_or, take, drop, replicate, length-append, length-drop, get_or-append, get_or-eq_default}
+use lib.Seq.{get_or-append-add, get_or-drop, get_or-take, length-take-le}
+use Rattle.std.proofs.lemmas.List.{get_or-replicate, length-replicate}
 use borrow.Author.Tests.{lt-ltb, le-ltb, ltb-true}
 use Rattle.numbers.specs.Every.{every}
 use Rattle.numbers.proofs.Every.{every_get, every_in}
-use Rattle.numbers.proofs.Fill.{lt-or-le, build-eq, get_or-build, is-build, length-build, length_part, part, part-above, part-below}
+use Rattle.numbers.proofs.Fill.{lt-or-le, build-eq, get_or-build, is-build, length-build}
 use Rattle.ranges.specs.Range.{level_fine}
 use Rattle.scan_rows.specs.UpTo.{up_to}
 
@@ -78,15 +79,22 @@ up_to_least end qfs =
     past k h l true e = sym (get_or-eq_default qfs (pos 0) {n = k} (omega (arith, ltb-true k end e)))
     past k h l false e = refl
 
--- the places stored so far, in a loop, are those up to it
-pub up_to_stored : (k : ℕ) (qfs : List ℤ) → part 64 (λ (i : ℕ). get_or qfs i (pos 0)) (λ (i : ℕ). pos 0) k ≡ up_to k qfs
+-- places that are copied to the front of 64 zeros are those up to the last of them
+pub up_to_copied : (n : ℕ) (qfs : List ℤ) → n ≤ 64 → n ≤ length qfs → take n qfs ++ drop n (replicate 64 (pos 0)) ≡ up_to n qfs
 unfolding up_to
-up_to_stored k qfs =
-    let f : ℕ → ℤ = λ (i : ℕ). get_or qfs i (pos 0) in
-    let z : ℕ → ℤ = λ (i : ℕ). pos 0 in
-    is-build (pos 0) (part 64 f z k) 64 (place k qfs) (length_part 64 f z k)
-    (λ (i : ℕ) (h : i < 64).
-    ⊎_elim (λ (l : i < k). part-below 64 f z k i (pos 0) h l ∙ rw (lt-ltb i k l)) (λ (l : k ≤ i). part-above 64 f z k i (pos 0) h l ∙ rw (le-ltb i k l)) (lt-or-le i k))
+up_to_copied n qfs h l =
+    let z = replicate 64 (pos 0) in
+    let m : length (take n qfs) ≡ n = length-take-le n qfs l in
+    is-build (pos 0) (take n qfs ++ drop n z) 64 (place n qfs) (length-append (take n qfs) (drop n z) ∙ omega (arith, m, length-drop n z, length-replicate 64 (pos 0)))
+    (λ (i : ℕ) (k : i < 64).
+    ⊎_elim
+    (λ (b : i < n). get_or-append (take n qfs) (drop n z) (pos 0) i (omega arith) ∙ get_or-take n qfs i (pos 0) b ∙ rw (lt-ltb i n b))
+    (λ (b : n ≤ i).
+    let e : length (take n qfs) + (i - n) ≡ i = omega arith in
+    let f : n + (i - n) ≡ i = omega arith in
+    ap (λ (j : ℕ). get_or (take n qfs ++ drop n z) j (pos 0)) (sym e) ∙ get_or-append-add (take n qfs) (drop n z) (i - n) (pos 0) ∙ get_or-drop n z (i - n) (pos 0)
+    ∙ ap (λ (j : ℕ). get_or z j (pos 0)) f ∙ get_or-replicate 64 i (pos 0) (pos 0) k ∙ rw (le-ltb i n b))
+    (lt-or-le i n))
 
 -- up to 1, the place of the DC alone
 pub up_to_dc : (qfs : List ℤ) → (get_or (up_to 1 qfs) 0 (pos 0) ≡ get_or qfs 0 (pos 0)) × ((k : ℕ) → 1 ≤ k → get_or (up_to 1 qfs) k (pos 0) ≡ pos 0)

@@ -17,11 +17,9 @@ use scan::ScanType;
 pub fn up_to(qfs: &[i32], end: usize) -> [i32; 64]
     ensures { result ≡ up_to end qfs.now }
 {
-    let last = numbers::least(64, numbers::least(end, qfs.len()));
+    let last = end.min(qfs.len()).min(64);
     let mut places = [0i32; 64];
-    for k in 0..last {
-        places[k] = qfs[k];
-    }
+    places[..last].copy_from_slice(&qfs[..last]);
     places
 }
 
@@ -107,7 +105,7 @@ pub fn put_scanned(qfs: &[i32], end: usize, level: i32, scan_type: ScanType, qf:
         qf[0][0] = level;
         return;
     }
-    if numbers::least(end, qfs.len()) < 64 {
+    if end.min(qfs.len()) < 64 {
         *qf = scanned_up_to(qfs, end, level, scan_type);
         return;
     }

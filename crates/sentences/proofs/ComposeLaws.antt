@@ -2,7 +2,7 @@
 use mathlib.Core.Bool.{Bool, true, false}
 use mathlib.Core.List.{List, [], ◌∷◌, append_assoc}
 use mathlib.Core.Logic.{◌↔◌}
-use mathlib.Core.Option.{Option, none, some}
+use Rattle.std.specs.Prelude.{Option, None, Some}
 use mathlib.Core.Path.{◌≡◌, refl, sym, ap, subst₂, ◌∙◌}
 use Prim.Native.Nat.{◌-◌}
 use native.Mathlib.Omega.{arith}
@@ -70,30 +70,30 @@ module _ {A : Type 0} (p : Bits → Res A) (f : A → Bits) (P : A → Type 0) (
     complete = λ x r h. full x r h;
   }
     where
-      end : (b : Bits) (a : A) (s : Bits) (x : Option A) (r : Bits) → P a × (b ≡ f a ▸ s) → ok (some a) s ≡ ok x r
+      end : (b : Bits) (a : A) (s : Bits) (x : Option A) (r : Bits) → P a × (b ≡ f a ▸ s) → ok (Some a) s ≡ ok x r
           → GoodOpt true P x × (b ≡ opt_bits f x ▸ r)
       end b a s x r h e =
-          let e₁ : some a ≡ x = cc in
+          let e₁ : Some a ≡ x = cc in
           let e₂ : s ≡ r = cc in
           subst₂ (λ (y : Option A) (z : Bits). GoodOpt true P y × (b ≡ opt_bits f y ▸ z)) e₁ e₂ h
 
       full : (x : Option A) (r : Bits) → GoodOpt true P x → read_opt true p (opt_bits f x ▸ r) ≡ ok x r
-      full none r h = absurd h
-      full (some a) r h = bind_by _ (hp.complete a r h)
+      full None r h = absurd h
+      full (Some a) r h = bind_by _ (hp.complete a r h)
   opt_reads false = record {
     sound = λ b x r e. end b x r e;
     complete = λ x r h. full x r h;
   }
     where
-      end : (b : Bits) (x : Option A) (r : Bits) → ok none b ≡ ok x r → GoodOpt false P x × (b ≡ opt_bits f x ▸ r)
+      end : (b : Bits) (x : Option A) (r : Bits) → ok None b ≡ ok x r → GoodOpt false P x × (b ≡ opt_bits f x ▸ r)
       end b x r e =
-          let e₁ : none ≡ x = cc in
+          let e₁ : None ≡ x = cc in
           let e₂ : b ≡ r = cc in
           subst₂ (λ (y : Option A) (z : Bits). GoodOpt false P y × (b ≡ opt_bits f y ▸ z)) e₁ e₂ (tt, refl)
 
       full : (x : Option A) (r : Bits) → GoodOpt false P x → read_opt false p (opt_bits f x ▸ r) ≡ ok x r
-      full none r h = refl
-      full (some a) r h = absurd h
+      full None r h = refl
+      full (Some a) r h = absurd h
 
 module _ {S A : Type 0} (p : S → Bits → Res A) (f : S → A → Bits) (P : S → A → Type 0) (hp : (s : S) → Reads (p s) (f s) (P s)) where
   each_sound : (ss : List S) (b : Bits) (xs : List A) (r : Bits) → read_each p ss b ≡ ok xs r → GoodEach P ss xs × (b ≡ each_bits f ss xs ▸ r)

@@ -1,7 +1,7 @@
 -- The events of a macroblock, counted block by block: what is left to count from turn i on, and that a block has at most 64. Assumes nothing.
 use mathlib.Core.Bool.{Bool, false, true}
 use mathlib.Core.List.{List, ◌∷◌}
-use mathlib.Core.Option.{none, some}
+use Rattle.std.specs.Prelude.{None, Some}
 use mathlib.Core.Path.{◌≡◌, ap, refl, sym, ◌∙◌}
 use Prim.Native.Nat.{ℕ, suc, ◌+◌, ◌<◌, ◌≤◌}
 use native.Mathlib.Numerals.{add-one}
@@ -77,9 +77,9 @@ module _ (dc_coded rev : Bool) (ss : List Place) where
 -- a good block has at most 64 events
 pub block-few : (dc_coded rev : Bool) (s : Place) (p : Parts) → GoodBlock dc_coded rev s p → total_of (counts_of p) ≤ 64
 unfolding spellings_of
-block-few dc_coded rev (c, coded) (dc, none) g = omega arith
-block-few dc_coded rev (c, true) (dc, some es) g =
+block-few dc_coded rev (c, coded) (dc, None) g = omega arith
+block-few dc_coded rev (c, true) (dc, Some es) g =
     let l = lands_few Intra (first_place dc_coded) es g.1.1 in
-    let n = counts_all (events_of (some es)) in
+    let n = counts_all (events_of (Some es)) in
     omega (arith, l, n)
-block-few dc_coded rev (c, false) (dc, some es) g = absurd g.1
+block-few dc_coded rev (c, false) (dc, Some es) g = absurd g.1

@@ -1,7 +1,7 @@
 -- A proper beginning of a sentence is refused by 1 or 17: codes, fields, DC parts, events, lists, blocks and macroblocks, plain and reversible. Assumes nothing.
 use mathlib.Core.Bool.{Bool, false, true}
 use mathlib.Core.List.{List, [], ◌∷◌}
-use mathlib.Core.Option.{none, some}
+use Rattle.std.specs.Prelude.{None, Some}
 use mathlib.Core.Path.{◌≡◌, ap, ◌∙◌}
 use Prim.Native.Nat.{ℕ, ◌<◌, ◌^◌, ◌≤◌}
 use native.Mathlib.Omega.{arith}
@@ -55,10 +55,10 @@ pair_cut p f P q g Q hp cp cq = then_cut p f P (λ _. q) (λ _. g) (λ _. Q) hp 
 
 module _ {A : Type 0} (p : Bits → Res A) (f : A → Bits) (P : A → Type 0) (cp : CutSentence p f P) where
   pub opt_cut : (t : Bool) → CutSentence (read_opt t p) (opt_bits f) (GoodOpt t P)
-  opt_cut true b none (h, x) = absurd h
-  opt_cut true b (some a) (h, x) = stops_first (p b) _ (cp b a (h, x))
-  opt_cut false b none (h, (r, (l, e))) = absurd (none-longer b r l e)
-  opt_cut false b (some a) (h, x) = absurd h
+  opt_cut true b None (h, x) = absurd h
+  opt_cut true b (Some a) (h, x) = stops_first (p b) _ (cp b a (h, x))
+  opt_cut false b None (h, (r, (l, e))) = absurd (none-longer b r l e)
+  opt_cut false b (Some a) (h, x) = absurd h
 
 module _ {S A : Type 0} (p : S → Bits → Res A) (f : S → A → Bits) (P : S → A → Type 0) (hp : (s : S) → Reads (p s) (f s) (P s)) (cp : (s : S) → CutSentence (p s) (f s) (P s)) where
   each_cut : (ss : List S) → CutSentence (read_each p ss) (each_bits f ss) (GoodEach P ss)

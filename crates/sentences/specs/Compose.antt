@@ -1,6 +1,5 @@
 -- How grammars are put together: one after the other, one that depends on the one before it, one that a flag has, one for each of a list. No reader is named here. Definitions only.
-use Rattle.std.specs.Prelude.{◌≡◌, Bool, true, false, List, [], ◌∷◌, ◌<◌, length}
-use Rattle.std.proofs.Math.Option.{Option, none, some}
+use Rattle.std.specs.Prelude.{◌≡◌, Bool, true, false, List, [], ◌∷◌, ◌<◌, length, Option, None, Some}
 use Rattle.bits.specs.Bits.{Bits}
 use Rattle.events.specs.Event.{◌▸◌}
 
@@ -28,14 +27,14 @@ GoodThen P Q x = P x.0 × Q x.0 x.1
 
 -- there if the flag is set
 abbrev pub opt_bits : {A : Type 0} → (A → Bits) → Option A → Bits
-opt_bits f none = []
-opt_bits f (some a) = f a
+opt_bits f None = []
+opt_bits f (Some a) = f a
 
 abbrev pub GoodOpt : {A : Type 0} → Bool → (A → Type 0) → Option A → Type 0
-GoodOpt true P none = ⊥
-GoodOpt true P (some a) = P a
-GoodOpt false P none = Unit {0}
-GoodOpt false P (some a) = ⊥
+GoodOpt true P None = ⊥
+GoodOpt true P (Some a) = P a
+GoodOpt false P None = Unit {0}
+GoodOpt false P (Some a) = ⊥
 
 -- one for each of a list
 abbrev pub each_bits : {S A : Type 0} → (S → A → Bits) → List S → List A → Bits

@@ -1,6 +1,5 @@
 -- What it is for a reader to read a grammar, and how readers are put together. Definitions only.
-use Rattle.std.specs.Prelude.{◌≡◌, Bool, true, false, List, [], ◌∷◌}
-use Rattle.std.proofs.Math.Option.{Option, none, some}
+use Rattle.std.specs.Prelude.{◌≡◌, Bool, true, false, List, [], ◌∷◌, Option, None, Some}
 use Rattle.bits.specs.Bits.{Bits}
 use Rattle.events.specs.Event.{◌▸◌}
 use Rattle.fields.specs.Reader.{Res, ok, bind}
@@ -26,8 +25,8 @@ read_then p q b = bind (p b) (λ a r. bind (q a r) (λ c r. ok (a, c) r))
 
 -- there if the flag is set
 abbrev pub read_opt : {A : Type 0} → Bool → (Bits → Res A) → Bits → Res (Option A)
-read_opt true p b = bind (p b) (λ a r. ok (some a) r)
-read_opt false p b = ok none b
+read_opt true p b = bind (p b) (λ a r. ok (Some a) r)
+read_opt false p b = ok None b
 
 -- one for each of a list
 abbrev pub read_each : {S A : Type 0} → (S → Bits → Res A) → List S → Bits → Res (List A)

@@ -1,6 +1,5 @@
 -- The sentence of a macroblock: for blocks 0 to 5 a DC part, where DC codes are in use, and an event list, where the block is coded. 'Sentence' is document 01's word, not the standard's. No reader is named here. Definitions only.
-use Rattle.std.specs.Prelude.{Bool, false, List, [], ◌∷◌, ◌++◌, get_or}
-use Rattle.std.proofs.Math.Option.{Option, none, some}
+use Rattle.std.specs.Prelude.{Bool, false, List, [], ◌∷◌, ◌++◌, get_or, Option, None, Some}
 use Rattle.bits.specs.Bits.{Bits}
 use Rattle.codes.specs.declared.dc_size.DcComponent.{DcComponent}
 use Rattle.codes.specs.declared.dc_size.DcComponent.TheVariants.{Luminance, Chrominance}
@@ -39,8 +38,8 @@ GoodMacroblock dc_coded rev p = GoodEach (GoodBlock dc_coded rev) (places_of_pat
 -- ---- the events of a sentence: a DC part is none, and a block that is not coded has none
 
 abbrev pub events_of : Option Events → List Event
-events_of none = []
-events_of (some es) = listed es
+events_of None = []
+events_of (Some es) = listed es
 
 abbrev pub events_in : List Parts → List Event
 events_in [] = []

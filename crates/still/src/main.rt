@@ -22,8 +22,7 @@ fn byte(
     store: &mut [i32],
     out: &mut [u8],
 ) -> io::Result<Going> {
-    let s = still_lines::step(r, b, line, data, samples, store, out);
-    match s {
+    match still_lines::step(r, b, line, data, samples, store, out) {
         Stepped::TooShort => Ok(Going {
             reading: r,
             on: false,
@@ -52,14 +51,11 @@ fn bytes(
         reading: r,
         on: true,
     };
-    let mut i = 0;
-    while i < chunk.len() {
+    for b in chunk {
         if !g.on {
             return Ok(g);
         }
-        let reading = g.reading;
-        g = byte(rt, reading, chunk[i], line, data, samples, store, out)?;
-        i += 1;
+        g = byte(rt, g.reading, *b, line, data, samples, store, out)?;
     }
     Ok(g)
 }
@@ -73,8 +69,7 @@ fn end(
     store: &mut [i32],
     out: &mut [u8],
 ) -> io::Result<()> {
-    let s = still_lines::finish(r, line, data, samples, store, out);
-    match s {
+    match still_lines::finish(r, line, data, samples, store, out) {
         Stepped::TooShort => Ok(()),
         Stepped::Went(_, n) => rt.write_all(&out[..n]),
     }
@@ -114,17 +109,17 @@ fn run(
     store: &mut [i32],
     out: &mut [u8],
 ) -> io::Result<()> {
-    let r = still_lines::start();
     let mut g = Going {
-        reading: r,
+        reading: still_lines::start(),
         on: true,
     };
     for _ in 0..u64::MAX {
         if !g.on {
             return Ok(());
         }
-        let reading = g.reading;
-        g = turn(rt, input, reading, buffer, line, data, samples, store, out)?;
+        g = turn(
+            rt, input, g.reading, buffer, line, data, samples, store, out,
+        )?;
     }
     Ok(())
 }

@@ -1,5 +1,5 @@
 -- What is said to each form, and the state between lines. Definitions only.
-use Rattle.std.specs.Prelude.{Bool, cond, false, true, List, [], ℕ, ◌%◌, ◌/◌, eqb, ℤ}
+use Rattle.std.specs.Prelude.{Bool, cond, false, true, List, [], ℕ, ◌%◌, ◌/◌, eqb, ℤ, Err, Ok, Result}
 use Rattle.rounding.specs.declared.HalfIntegerRounding.TheVariants.{AwayFromZero}
 use Rattle.assembly.specs.Answer.{number_of}
 use Rattle.assembly.specs.Matrix.{default_intra}
@@ -11,16 +11,14 @@ use Rattle.headers.specs.declared.header.DerivedMbType.TheVariants.{Inter as Typ
 use Rattle.headers.specs.declared.header.MacroblockHeader.{MacroblockHeader}
 use Rattle.picture.specs.Call.{Input, answer_out, given, samples_out, store_out}
 use Rattle.picture_state.specs.Picture.{open_of, picture_of}
-use Rattle.picture.specs.declared.call.PictureDecoded.{PictureDecoded}
-use Rattle.picture.specs.declared.call.PictureDecoded.TheVariants.{Decoded, Refused}
 use Rattle.picture_state.specs.declared.picture.MacroblockContext.{MacroblockContext}
 use Rattle.picture_state.specs.declared.picture.Picture.{Picture}
-use Rattle.picture_state.specs.declared.picture.PictureOpened.{PictureOpened}
-use Rattle.picture_state.specs.declared.picture.PictureOpened.TheVariants.{Opened, Refused as Unopened}
 use Rattle.samples.specs.Samples.{macroblock_samples}
 use Rattle.still_lines.specs.Spans.{part, span_of}
 use Rattle.still_lines.specs.Text.{end_text, mb_refused_text, mb_text, picture_refused_text, picture_text}
 use Rattle.still_lines.specs.declared.still.Still.{Still}
+use Rattle.picture.specs.declared.call.PictureDecoded.{PictureDecoded}
+use Rattle.assembly.specs.declared.error.BlockAssemblyError.{BlockAssemblyError}
 
 -- before any line: no picture
 abbrev pub unopened : Still
@@ -32,16 +30,16 @@ end_said s = cond s.has_picture (end_text s.picture.accepted) []
 
 -- ---- an opening: accepted, it first ends the picture before it; refused, the open picture goes on
 
-abbrev pub opened_by : ℕ → ℕ → ℕ → ℕ → PictureOpened
+abbrev pub opened_by : ℕ → ℕ → ℕ → ℕ → Result Picture BlockAssemblyError
 opened_by w h d m = open_of w h d (eqb m 1)
 
-abbrev pub still_opened : Still → PictureOpened → Still
-still_opened s (Opened p) = record { has_picture = true; picture = p }
-still_opened s (Unopened e) = s
+abbrev pub still_opened : Still → Result Picture BlockAssemblyError → Still
+still_opened s (Ok p) = record { has_picture = true; picture = p }
+still_opened s (Err e) = s
 
-abbrev pub text_opened : Still → ℕ → ℕ → ℕ → ℕ → PictureOpened → List ℕ
-text_opened s w h d m (Opened p) = picture_text (end_said s) w h d m
-text_opened s w h d m (Unopened e) = picture_refused_text (number_of e)
+abbrev pub text_opened : Still → ℕ → ℕ → ℕ → ℕ → Result Picture BlockAssemblyError → List ℕ
+text_opened s w h d m (Ok p) = picture_text (end_said s) w h d m
+text_opened s w h d m (Err e) = picture_refused_text (number_of e)
 
 -- ---- a macroblock: the default matrix, DC codes, rounding away from zero, and no other options
 
@@ -88,16 +86,16 @@ column_of p = cond (eqb p.width 0) 0 (p.accepted % p.width)
 abbrev pub row_of : Picture → ℕ
 row_of p = cond (eqb p.width 0) 0 (p.accepted / p.width)
 
-abbrev pub still_decoded : Still → PictureDecoded → Still
-still_decoded s (Decoded n c k p) = record { has_picture = s.has_picture; picture = p }
-still_decoded s (Refused e) = s
+abbrev pub still_decoded : Still → Result PictureDecoded BlockAssemblyError → Still
+still_decoded s (Ok d) = record { has_picture = s.has_picture; picture = d.picture }
+still_decoded s (Err e) = s
 
 -- the least and the greatest of luma, Cb and Cr as they are after the call
-abbrev pub text_decoded : Picture → List ℤ → PictureDecoded → List ℕ
-text_decoded p after (Decoded n c k q) =
-    mb_text (column_of p) (row_of p) n (span_of (part after 0 256)).least (span_of (part after 0 256)).greatest (span_of (part after 256 320)).least (span_of (part after 256 320)).greatest
+abbrev pub text_decoded : Picture → List ℤ → Result PictureDecoded BlockAssemblyError → List ℕ
+text_decoded p after (Ok d) =
+    mb_text (column_of p) (row_of p) d.bits (span_of (part after 0 256)).least (span_of (part after 0 256)).greatest (span_of (part after 256 320)).least (span_of (part after 256 320)).greatest
     (span_of (part after 320 macroblock_samples)).least (span_of (part after 320 macroblock_samples)).greatest
-text_decoded p after (Refused e) = mb_refused_text (column_of p) (row_of p) (number_of e)
+text_decoded p after (Err e) = mb_refused_text (column_of p) (row_of p) (number_of e)
 
 -- ---- a line, with the samples and the store
 

@@ -1,6 +1,5 @@
 // The least and the greatest of some samples.
-ghost use Rattle.std.specs.Prelude.{cond, ◌≡◌, ◌<◌, ◌≤◌, length};
-ghost use Rattle.std.specs.Int.Signed.{lt_z};
+ghost use Rattle.std.specs.Prelude.{◌≡◌, ◌<◌, ◌≤◌, length};
 ghost use Rattle.still_lines.specs.Spans.{part, span_of, widened_by};
 
 #[derive(Clone, Copy)]
@@ -9,24 +8,13 @@ pub(crate) struct Span {
     pub greatest: i32,
 }
 
-fn smaller(a: i32, b: i32) -> i32
-    ensures { result ≡ cond (lt_z b a) b a }
-{
-    if b < a { b } else { a }
-}
-
-fn greater(a: i32, b: i32) -> i32
-    ensures { result ≡ cond (lt_z a b) b a }
-{
-    if a < b { b } else { a }
-}
-
 fn widened(s: Span, z: i32) -> Span
     ensures { result ≡ widened_by s z }
 {
-    let least = smaller(s.least, z);
-    let greatest = greater(s.greatest, z);
-    Span { least, greatest }
+    Span {
+        least: s.least.min(z),
+        greatest: z.max(s.greatest),
+    }
 }
 
 pub(crate) fn span_of(samples: &[i32], from: usize, to: usize) -> Span
@@ -38,10 +26,8 @@ pub(crate) fn span_of(samples: &[i32], from: usize, to: usize) -> Span
         least: first,
         greatest: first,
     };
-    let mut k = from + 1;
-    while k < to {
-        s = widened(s, samples[k]);
-        k += 1;
+    for z in &samples[from + 1..to] {
+        s = widened(s, *z);
     }
     s
 }

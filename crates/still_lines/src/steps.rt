@@ -38,13 +38,7 @@ const OUT: usize = 512;
 fn has_room(line: &[u8], data: &[u8], out: &[u8]) -> bool
     ensures { result ≡ roomy line.now «data».now out.now }
 {
-    if line.len() < Line::LONGEST {
-        return false;
-    }
-    if data.len() < Line::DATA {
-        return false;
-    }
-    OUT <= out.len()
+    Line::LONGEST <= line.len() && Line::DATA <= data.len() && OUT <= out.len()
 }
 
 // A line that ended.
@@ -115,10 +109,7 @@ fn keep(line: &mut [u8], n: usize, b: u8)
     requires { longest ≤ length line.old }
     ensures { line.new ≡ line_after line.old n b }
 {
-    if b == 10 {
-        return;
-    }
-    if n < Line::LONGEST {
+    if b != b'\n' && n < Line::LONGEST {
         line[n] = b;
     }
 }

@@ -10,7 +10,7 @@ use bits::Cursor;
 use forms::{Kind, Line};
 use idct::HalfIntegerRounding;
 use macroblock::{DerivedMbType, MacroblockHeader};
-use picture::{MacroblockContext, Picture, PictureDecoded, PictureOpened};
+use picture::{MacroblockContext, Picture};
 
 // Whether a picture is open, and which.
 #[derive(Clone, Copy)]
@@ -46,30 +46,30 @@ pub(crate) fn start() -> Still
 pub(crate) fn ended(s: Still) -> Text
     ensures { (said result ≡ end_said s) × (result.len ≤ 27) }
 {
-    let p = s.picture;
     if s.has_picture {
-        return crate::say::end_line(p.accepted);
+        crate::say::end_line(s.picture.accepted)
+    } else {
+        crate::text::empty()
     }
-    crate::text::empty()
 }
 
 fn opened(s: Still, w: u32, h: u32, d: u32, m: u32) -> Said
     ensures { (result.still ≡ still_opened s (opened_by w h d m)) × ((said result.text ≡ text_opened s w h d m (opened_by w h d m)) × (result.text.len ≤ 256)) }
 {
-    let answer = Picture::open(w, h, d, m == 1);
-    match answer {
-        PictureOpened::Refused(e) => {
-            let text = crate::say::picture_refused(e.number());
-            Said { still: s, text }
-        }
-        PictureOpened::Opened(p) => {
+    match Picture::open(w, h, d, m == 1) {
+        Err(e) => Said {
+            still: s,
+            text: crate::say::picture_refused(e.number()),
+        },
+        Ok(picture) => {
             let before = ended(s);
-            let text = crate::say::picture_line(before, w, h, d, m);
-            let still = Still {
-                has_picture: true,
-                picture: p,
-            };
-            Said { still, text }
+            Said {
+                still: Still {
+                    has_picture: true,
+                    picture,
+                },
+                text: crate::say::picture_line(before, w, h, d, m),
+            }
         }
     }
 }
@@ -83,23 +83,14 @@ fn type_of(kind: Kind) -> DerivedMbType
         Kind::Inter => DerivedMbType::Inter,
         Kind::InterQ => DerivedMbType::InterQ,
         Kind::Inter4V => DerivedMbType::Inter4V,
-        Kind::Missing => DerivedMbType::Missing,
-        Kind::Skipped => DerivedMbType::Missing,
+        Kind::Missing | Kind::Skipped => DerivedMbType::Missing,
     }
 }
 
 fn is_skipped(kind: Kind) -> bool
     ensures { result ≡ is_skipped kind }
 {
-    match kind {
-        Kind::Intra => false,
-        Kind::IntraQ => false,
-        Kind::Inter => false,
-        Kind::InterQ => false,
-        Kind::Inter4V => false,
-        Kind::Missing => false,
-        Kind::Skipped => true,
-    }
+    matches!(kind, Kind::Skipped)
 }
 
 fn header_of(kind: Kind, ac_pred: u32, cbpy: u32, cbpc: u32) -> MacroblockHeader
@@ -170,22 +161,22 @@ fn decoded(
     let context = context_of(q, ac_pred);
     let matrix = block::default_intra_quant_matrix();
     let c = Cursor { bit_pos: 0 };
-    let answer = picture::decode_macroblock(p, data, c, header, context, matrix, samples, store);
-    match answer {
-        PictureDecoded::Refused(e) => {
-            let text = crate::say::mb_refused(column, row, e.number());
-            Said { still: s, text }
-        }
-        PictureDecoded::Decoded(bits, _, _, next) => {
+    match picture::decode_macroblock(p, data, c, header, context, matrix, samples, store) {
+        Err(e) => Said {
+            still: s,
+            text: crate::say::mb_refused(column, row, e.number()),
+        },
+        Ok(told) => {
             let luma = crate::span::span_of(&*samples, 0, 256);
             let cb = crate::span::span_of(&*samples, 256, 320);
             let cr = crate::span::span_of(&*samples, 320, samples::SAMPLES);
-            let text = crate::say::mb_line(column, row, bits, luma, cb, cr);
-            let still = Still {
-                has_picture: s.has_picture,
-                picture: next,
-            };
-            Said { still, text }
+            Said {
+                still: Still {
+                    has_picture: s.has_picture,
+                    picture: told.picture,
+                },
+                text: crate::say::mb_line(column, row, told.bits, luma, cb, cr),
+            }
         }
     }
 }
@@ -204,21 +195,18 @@ pub(crate) fn answer(
     ensures samples { samples.new ≡ samples_after s samples.old store.old line.now }
     ensures store { store.new ≡ store_after s samples.old store.old line.now }
 {
-    let form = forms::parse(line, data);
-    match form {
-        Line::Malformed => {
-            let text = crate::text::empty();
-            Said { still: s, text }
-        }
-        Line::TooShort => {
-            let text = crate::text::empty();
-            Said { still: s, text }
-        }
+    match forms::parse(line, data) {
+        Line::Malformed | Line::TooShort => Said {
+            still: s,
+            text: crate::text::empty(),
+        },
         Line::Picture(w, h, d, m) => opened(s, w, h, d, m),
         Line::Macroblock(q, ac_pred, kind, cbpy, cbpc, n) => {
             if !s.has_picture {
-                let text = crate::text::empty();
-                return Said { still: s, text };
+                return Said {
+                    still: s,
+                    text: crate::text::empty(),
+                };
             }
             decoded(s, q, ac_pred, kind, cbpy, cbpc, &data[..n], samples, store)
         }

@@ -24,15 +24,10 @@ pub(crate) fn word(t: Text, w: &[u8]) -> Text
     requires { t.len + length w.now ≤ 256 }
     ensures { (said result ≡ said t ++ w.now) × (result.len ≡ t.len + length w.now) }
 {
-    let start = t.len;
+    let len = t.len + w.len();
     let mut bytes = t.bytes;
-    for k in 0..w.len() {
-        bytes[start + k] = w[k];
-    }
-    Text {
-        bytes,
-        len: start + w.len(),
-    }
+    bytes[t.len..len].copy_from_slice(w);
+    Text { bytes, len }
 }
 
 // A number more.
@@ -60,11 +55,12 @@ pub(crate) fn signed(t: Text, w: &[u8], z: i32) -> Text
     ensures { (said result ≡ said t ++ w.now ++ integer_of z) × (result.len ≤ t.len + length w.now + 21) }
 {
     let worded = word(t, w);
-    let size = numbers::abs(z) as u64;
+    let size = u64::from(z.unsigned_abs());
     if z < 0 {
-        return numbered(worded, b"-", size);
+        numbered(worded, b"-", size)
+    } else {
+        number(worded, size)
     }
-    number(worded, size)
 }
 
 // What is said, put into `out` from a place on; the place after it.
@@ -73,10 +69,7 @@ pub(crate) fn put(t: Text, at: usize, out: &mut [u8]) -> usize
     ensures value { (result ≡ at + length (said t)) × (result ≡ at + t.len) }
     ensures out { out.new ≡ paste out.old at (said t) (length (said t)) }
 {
-    let n = t.len;
-    let bytes = t.bytes;
-    for k in 0..n {
-        out[at + k] = bytes[k];
-    }
-    at + n
+    let end = at + t.len;
+    out[at..end].copy_from_slice(&t.bytes[..t.len]);
+    end
 }

@@ -11,7 +11,7 @@ use lib.ListN.{length, set, length-append, length-set}
 use borrow.Author.Tests.{eqb-true, lt-ltb, ltb-false, ne_eqb, leb-false, leb-true, ltb-true}
 use Rattle.bits.proofs.BitLaws.{length-bits_from}
 use Rattle.bits.specs.Bits.{Bits, bits_from}
-use Rattle.bits.specs.Cursor.{cursor_at, in_data}
+use Rattle.bits.specs.Cursor.{cursor_at}
 use Rattle.bits.specs.declared.cursor.Cursor.{Cursor}
 use Rattle.codes.specs.Rvlc.{rvlc_codes, rvlc_lens}
 use Rattle.codes.specs.Tcoef.{vlc_codes, vlc_lens, lmax_by, tcoef_of}
@@ -26,8 +26,6 @@ use Rattle.events.specs.EventReader.{event, plain_event, rvlc_event, escaped, rv
 use Rattle.events.specs.Inside.{InsideEvent, said_event}
 use Rattle.events.specs.Spellings.{no_spellings, one_more, spellings_of, together, total_of}
 use Rattle.events.specs.declared.event.AcEvent.{AcEvent}
-use Rattle.events.specs.declared.event.EventRead.{EventRead}
-use Rattle.events.specs.declared.event.EventRead.TheVariants.{Event as EventIs, Refused as EventRefused}
 use Rattle.events.specs.declared.event.RowForm.TheVariants.{Plain, Reversible}
 use Rattle.events.specs.declared.spelling.Spellings.{Spellings}
 use Rattle.fields.proofs.ChainLaws.{place_is}
@@ -35,17 +33,16 @@ use Rattle.fields.proofs.ReadLaws.{no_ok}
 use Rattle.fields.proofs.StepLaws.{code_empty}
 use Rattle.fields.specs.Reader.{Res, ok, no, bind, mapped}
 use Rattle.fields.specs.declared.error.TextureParseError.{TextureParseError}
-use Rattle.fields.specs.declared.error.TextureParseError.TheVariants.{OutOfRange, Truncated, InvalidTcoef, Overflow}
+use Rattle.fields.specs.declared.error.TextureParseError.TheVariants.{Truncated, InvalidTcoef, Overflow}
 use Rattle.numbers.proofs.Integers.{diff_is, halves}
 use Rattle.numbers.proofs.Magnitudes.{abs_neg}
 use Rattle.texture.proofs.ListLaws.{bad_lands}
-use Rattle.texture.specs.Answer.{list_told, places_told, list_answer, places_after}
-use Rattle.texture.specs.Events.{Events, final, more, Lands, first_place, listed}
+use Rattle.texture.specs.Events.{Events, final, more, Lands, listed}
 use Rattle.texture.specs.EventsReader.{events_in, bad, list}
-use Rattle.texture.specs.Inside.{State, put_of, closed, gives, listed_of, refused_by, kept_of, listed_by}
+use Rattle.texture.specs.Inside.{State, put_of, closed, gives, listed_of, refused_by}
 use Rattle.texture.specs.Places.{zeros, placed}
-use Rattle.texture.specs.declared.list.EventsRead.TheVariants.{Refused as EventsRefused, Read as EventsAre}
 use Rattle.texture.specs.declared.list.ListRead.{ListRead}
+use Rattle.std.specs.Prelude.{Err, Ok, Result}
 use Rattle.codes.specs.Tcoef as R
 
 -- ---- the loop's state, in the reader's terms
@@ -309,12 +306,12 @@ pub record Turn (d : List ℕ) (rev : Bool) (m : TcoefTable) (at : ℕ) (v : AcE
   pub inside : next.bit_pos ≤ 8 * length d
   pub less : 8 * length d - next.bit_pos < 8 * length d - at
 
-module _ (d : List ℕ) (rev : Bool) (m : TcoefTable) (at : ℕ) (l : at ≤ 8 * length d) (k : length d ≤ 1048576) (x : EventRead) (h : x ≡ event_answer d at rev m) where
+module _ (d : List ℕ) (rev : Bool) (m : TcoefTable) (at : ℕ) (l : at ≤ 8 * length d) (k : length d ≤ 1048576) (x : Result (AcEvent × Cursor) TextureParseError) (h : x ≡ event_answer d at rev m) where
   -- the event was refused, and so is the list
-  pub turn-no : {e : TextureParseError} → x ≡ EventRefused e → event rev (bits_from d at) ≡ no e
+  pub turn-no : {e : TextureParseError} → x ≡ Err e → event rev (bits_from d at) ≡ no e
   turn-no q = let s = event-says d (cursor_at at) (l, k) x rev m h in behind-no m (event rev (bits_from d at)) (sym s.is ∙ ap (said_event d) q)
 
-  pub turn : {v : AcEvent} {next : Cursor} → x ≡ EventIs v next → Turn d rev m at v next
+  pub turn : {v : AcEvent} {next : Cursor} → x ≡ Ok (v, next) → Turn d rev m at v next
   turn {v} {next} q =
       let s = event-says d (cursor_at at) (l, k) x rev m h in
       let b = behind m (event rev (bits_from d at)) (sym s.is ∙ ap (said_event d) q) in
@@ -331,34 +328,7 @@ module _ (d : List ℕ) (rev : Bool) (m : TcoefTable) (at : ℕ) (l : at ≤ 8 *
 pub ended_is : (d : List ℕ) (s : State) (next : Cursor) → next.bit_pos ≤ 8 * length d → closed s next ≡ listed_of d (ended s (bits_from d next.bit_pos))
 ended_is d s next h = go (eqb s.bad 0)
   where
-    go : (t : Bool) → cond t (record { answer = EventsAre next s.spellings; qfs = s.qfs }) (refused_by (Overflow s.bad))
+    go : (t : Bool) → cond t (record { answer = Ok (next, s.spellings); qfs = s.qfs }) (refused_by (Overflow s.bad))
         ≡ listed_of d (cond t (ok (s.qfs, s.spellings) (bits_from d next.bit_pos)) (no (Overflow s.bad)))
-    go true = ap {B = ListRead} (λ (c : Cursor). record { answer = EventsAre c s.spellings; qfs = s.qfs }) (place_is d next h)
+    go true = ap {B = ListRead} (λ (c : Cursor). record { answer = Ok (c, s.spellings); qfs = s.qfs }) (place_is d next h)
     go false = refl
-
--- ---- the list's answer and its places, from what the loop gives
-
-pub listed_answer : (d : List ℕ) (m : TcoefTable) (place : ℕ) (x : Res Events) → (listed_of d (mapped (gives m place) x)).answer ≡ list_told d x
-listed_answer d m place (ok es r) = refl
-listed_answer d m place (no e) = refl
-
-pub listed_kept : (d : List ℕ) (m : TcoefTable) (place : ℕ) (x : Res Events) (old : List ℤ) → kept_of (listed_of d (mapped (gives m place) x)) old ≡ places_told m place x old
-listed_kept d m place (ok es r) old = refl
-listed_kept d m place (no e) old = refl
-
-module _ (d : List ℕ) (at : ℕ) (rev : Bool) (m : TcoefTable) (dc_coded : Bool) where
-  abbrev here : Res Events
-  here = list rev m (first_place dc_coded) (bits_from d at)
-
-  pub list-out : in_data (length d) at ≡ false → (old : List ℤ) → (EventsRefused OutOfRange ≡ list_answer d at rev m dc_coded) × (old ≡ places_after d at rev m dc_coded old)
-  list-out h old = (
-    sym (ap (λ (t : Bool). cond t (list_told d here) (EventsRefused OutOfRange)) h),
-    sym (ap (λ (t : Bool). cond t (places_told m (first_place dc_coded) here old) old) h),
-  )
-
-  pub list_in : in_data (length d) at ≡ true → (one : ListRead) → one ≡ listed_by d rev m (first_place dc_coded) (bits_from d at) → (old : List ℤ)
-      → (one.answer ≡ list_answer d at rev m dc_coded) × (kept_of one old ≡ places_after d at rev m dc_coded old)
-  list_in h one q old = (
-    ap (λ (x : ListRead). x.answer) q ∙ listed_answer d m (first_place dc_coded) here ∙ sym (ap (λ (t : Bool). cond t (list_told d here) (EventsRefused OutOfRange)) h),
-    ap (λ (x : ListRead). kept_of x old) q ∙ listed_kept d m (first_place dc_coded) here old ∙ sym (ap (λ (t : Bool). cond t (places_told m (first_place dc_coded) here old) old) h),
-  )

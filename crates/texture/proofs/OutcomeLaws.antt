@@ -15,7 +15,7 @@ use Rattle.texture.specs.Answer.{list_answer, list_told}
 use Rattle.texture.specs.Events.{Events, first_place, listed}
 use Rattle.texture.specs.EventsReader.{list}
 use Rattle.texture.specs.Outcomes.{list_due, list_outcome}
-use Rattle.texture.specs.declared.list.EventsRead.TheVariants.{Refused as EventsRefused}
+use Rattle.std.specs.Prelude.{Err}
 
 module _ (d : List ℕ) where
   list-said : (m : Res Events) → list_outcome (list_told d m) ≡ read_as (λ (es : Events) (position : ℕ). (position, spellings_of (listed es))) d m
@@ -23,4 +23,4 @@ module _ (d : List ℕ) where
   list-said (no e) = refl
 
   pub list_due_lem : (at : ℕ) (rev : Bool) (t : TcoefTable) (dc_coded : Bool) → list_outcome (list_answer d at rev t dc_coded) ≡ list_due d at rev t dc_coded
-  list_due_lem at rev t dc_coded = after_test list_outcome EventsRefused (λ e. refl) (in_data (length d) at) _ (list-said (list rev t (first_place dc_coded) (bits_from d at)))
+  list_due_lem at rev t dc_coded = after_test list_outcome Err (λ e. refl) (in_data (length d) at) _ (list-said (list rev t (first_place dc_coded) (bits_from d at)))

@@ -1,5 +1,5 @@
 -- Inside the crate: the lent tables, the state of the loop over a list, and what functions that are not public answer. Definitions only.
-use Rattle.std.specs.Prelude.{◌≡◌, Bool, true, false, cond, List, ℕ, ◌+◌, eqb, ltb, set, ℤ}
+use Rattle.std.specs.Prelude.{◌≡◌, Bool, true, false, cond, List, ℕ, ◌+◌, eqb, ltb, set, ℤ, Err, Ok, Result}
 use Rattle.bits.specs.Bits.{Bits}
 use Rattle.bits.specs.declared.cursor.Cursor.{Cursor}
 use Rattle.codes.specs.Rvlc.{rvlc_codes, rvlc_lens, rvlc_of, rvlc_columns}
@@ -15,8 +15,6 @@ use Rattle.fields.specs.declared.error.TextureParseError.TheVariants.{Overflow}
 use Rattle.texture.specs.Events.{Events, listed}
 use Rattle.texture.specs.EventsReader.{list}
 use Rattle.texture.specs.Places.{zeros, places_of}
-use Rattle.texture.specs.declared.list.EventsRead.{EventsRead}
-use Rattle.texture.specs.declared.list.EventsRead.TheVariants.{Read as EventsAre, Refused as EventsRefused}
 use Rattle.texture.specs.declared.list.Landing.{Landing}
 use Rattle.texture.specs.declared.list.ListRead.{ListRead}
 
@@ -47,26 +45,26 @@ put_of s v =
     s
 
 abbrev pub refused_by : TextureParseError → ListRead
-refused_by e = record { answer = EventsRefused e; qfs = zeros }
+refused_by e = record { answer = Err e; qfs = zeros }
 
 abbrev pub closed : State → Cursor → ListRead
-closed s next = cond (eqb s.bad 0) (record { answer = EventsAre next s.spellings; qfs = s.qfs }) (refused_by (Overflow s.bad))
+closed s next = cond (eqb s.bad 0) (record { answer = Ok (next, s.spellings); qfs = s.qfs }) (refused_by (Overflow s.bad))
 
 -- the places of a list and the number of its events of each spelling
 abbrev pub gives : TcoefTable → ℕ → Events → List ℤ × Spellings
 gives t place es = (places_of t place es, spellings_of (listed es))
 
 abbrev pub listed_of : List ℕ → Res (List ℤ × Spellings) → ListRead
-listed_of d (ok x r) = record { answer = EventsAre (after d r) x.1; qfs = x.0 }
+listed_of d (ok x r) = record { answer = Ok (after d r, x.1); qfs = x.0 }
 listed_of d (no e) = refused_by e
 
 abbrev pub listed_by : List ℕ → Bool → TcoefTable → ℕ → Bits → ListRead
 listed_by d rev t place b = listed_of d (mapped (gives t place) (list rev t place b))
 
 -- what is kept of a list
-abbrev pub kept_by : EventsRead → List ℤ → List ℤ → List ℤ
-kept_by (EventsAre c n) new old = new
-kept_by (EventsRefused e) new old = old
+abbrev pub kept_by : Result (Cursor × Spellings) TextureParseError → List ℤ → List ℤ → List ℤ
+kept_by (Ok (c, n)) new old = new
+kept_by (Err e) new old = old
 
 abbrev pub kept_of : ListRead → List ℤ → List ℤ
 kept_of one old = kept_by one.answer one.qfs old

@@ -13,8 +13,8 @@ ghost use Rattle.texture.specs.Inside.{TablesOf};
 
 use bits::Cursor;
 use codes::TcoefTable;
-use events::{EventRead, RowForm};
-use fields::{CodeKind, Got};
+use events::{AcEvent, RowForm};
+use fields::{CodeKind, TextureParseError};
 
 // A code and its sign, with no escape among the codes.
 fn read_signed(
@@ -25,15 +25,12 @@ fn read_signed(
     lens: &[u32],
     events: &[u8],
     form: RowForm,
-) -> EventRead
+) -> Result<(AcEvent, Cursor), TextureParseError>
     requires { Readable «data».now c × TablesOf false table codes.now lens.now events.now × PlainForm form }
     ensures { SaysEvent «data».now result (mapped (value_of table) (signed form (bits_from «data».now c.bit_pos))) }
 {
-    let g = fields::read_code(data, c, codes, lens, 13, 102, CodeKind::Tcoef);
-    match g {
-        Got::Refused(e) => EventRead::Refused(e),
-        Got::Number(row, next) => events::read_sign(data, next, events, row, form),
-    }
+    let (row, next) = fields::read_code(data, c, codes, lens, 13, 102, CodeKind::Tcoef)?;
+    events::read_sign(data, next, events, row, form)
 }
 
 // What follows the escape code and a 1.
@@ -44,20 +41,15 @@ fn read_longer(
     codes: &[u32],
     lens: &[u32],
     events: &[u8],
-) -> EventRead
+) -> Result<(AcEvent, Cursor), TextureParseError>
     requires { Readable «data».now c × TablesOf false table codes.now lens.now events.now }
     ensures { SaysEvent «data».now result (mapped (value_of table) (longer (bits_from «data».now c.bit_pos))) }
 {
-    let g = fields::read_field(data, c, 1);
-    match g {
-        Got::Refused(e) => EventRead::Refused(e),
-        Got::Number(a, next) => {
-            if a == 0 {
-                return read_signed(data, next, table, codes, lens, events, RowForm::Type2);
-            }
-            events::read_fixed(data, next, table)
-        }
+    let (a, next) = fields::read_field(data, c, 1)?;
+    if a == 0 {
+        return read_signed(data, next, table, codes, lens, events, RowForm::Type2);
     }
+    events::read_fixed(data, next, table)
 }
 
 // What follows the escape code.
@@ -68,20 +60,15 @@ fn read_escape(
     codes: &[u32],
     lens: &[u32],
     events: &[u8],
-) -> EventRead
+) -> Result<(AcEvent, Cursor), TextureParseError>
     requires { Readable «data».now c × TablesOf false table codes.now lens.now events.now }
     ensures { SaysEvent «data».now result (mapped (value_of table) (escaped (bits_from «data».now c.bit_pos))) }
 {
-    let g = fields::read_field(data, c, 1);
-    match g {
-        Got::Refused(e) => EventRead::Refused(e),
-        Got::Number(a, next) => {
-            if a == 0 {
-                return read_signed(data, next, table, codes, lens, events, RowForm::Type1);
-            }
-            read_longer(data, next, table, codes, lens, events)
-        }
+    let (a, next) = fields::read_field(data, c, 1)?;
+    if a == 0 {
+        return read_signed(data, next, table, codes, lens, events, RowForm::Type1);
     }
+    read_longer(data, next, table, codes, lens, events)
 }
 
 // One plain event.
@@ -92,20 +79,15 @@ pub(crate) fn read_plain(
     codes: &[u32],
     lens: &[u32],
     events: &[u8],
-) -> EventRead
+) -> Result<(AcEvent, Cursor), TextureParseError>
     requires { TablesOf false table codes.now lens.now events.now }
     ensures { result ≡ event_answer «data».now c.bit_pos false table }
 {
-    let g = fields::read_code(data, c, codes, lens, 13, 103, CodeKind::Tcoef);
-    match g {
-        Got::Refused(e) => EventRead::Refused(e),
-        Got::Number(row, next) => {
-            if row == 102 {
-                return read_escape(data, next, table, codes, lens, events);
-            }
-            events::read_sign(data, next, events, row, RowForm::Plain)
-        }
+    let (row, next) = fields::read_code(data, c, codes, lens, 13, 103, CodeKind::Tcoef)?;
+    if row == 102 {
+        return read_escape(data, next, table, codes, lens, events);
     }
+    events::read_sign(data, next, events, row, RowForm::Plain)
 }
 
 // One reversible event (Table B.23).
@@ -116,24 +98,23 @@ pub(crate) fn read_rvlc(
     codes: &[u32],
     lens: &[u32],
     events: &[u8],
-) -> EventRead
+) -> Result<(AcEvent, Cursor), TextureParseError>
     requires { TablesOf true table codes.now lens.now events.now }
     ensures { result ≡ event_answer «data».now c.bit_pos true table }
 {
-    let g = fields::read_code(data, c, codes, lens, 16, 170, CodeKind::Tcoef);
-    match g {
-        Got::Refused(e) => EventRead::Refused(e),
-        Got::Number(row, next) => {
-            if row == 169 {
-                return events::read_rvlc_escape(data, next, table);
-            }
-            events::read_sign(data, next, events, row, RowForm::Reversible)
-        }
+    let (row, next) = fields::read_code(data, c, codes, lens, 16, 170, CodeKind::Tcoef)?;
+    if row == 169 {
+        return events::read_rvlc_escape(data, next, table);
     }
+    events::read_sign(data, next, events, row, RowForm::Reversible)
 }
 
 // One plain event at a cursor.
-pub fn decode_ac_event(data: &[u8], c: Cursor, table: TcoefTable) -> EventRead
+pub fn decode_ac_event(
+    data: &[u8],
+    c: Cursor,
+    table: TcoefTable,
+) -> Result<(AcEvent, Cursor), TextureParseError>
     ensures value { result ≡ event_answer «data».now c.bit_pos false table }
     ensures outcome { event_outcome result ≡ event_due «data».now c.bit_pos false table }
 {
@@ -144,7 +125,11 @@ pub fn decode_ac_event(data: &[u8], c: Cursor, table: TcoefTable) -> EventRead
 }
 
 // One reversible event at a cursor.
-pub fn decode_ac_event_rvlc(data: &[u8], c: Cursor, table: TcoefTable) -> EventRead
+pub fn decode_ac_event_rvlc(
+    data: &[u8],
+    c: Cursor,
+    table: TcoefTable,
+) -> Result<(AcEvent, Cursor), TextureParseError>
     ensures value { result ≡ event_answer «data».now c.bit_pos true table }
     ensures outcome { event_outcome result ≡ event_due «data».now c.bit_pos true table }
 {

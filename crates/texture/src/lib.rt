@@ -9,8 +9,8 @@
 mod event;
 mod list;
 
-pub use dc_parts::{DcRead, IntraDcDifferential, decode_intra_dc};
+pub use dc_parts::{IntraDcDifferential, decode_intra_dc};
 pub use event::{decode_ac_event, decode_ac_event_rvlc};
-pub use events::{AcEvent, EventRead, Spelling, Spellings};
+pub use events::{AcEvent, Spelling, Spellings};
 pub use fields::TextureParseError;
-pub use list::{EventsRead, decode_ac_events, decode_ac_events_rvlc};
+pub use list::{decode_ac_events, decode_ac_events_rvlc};

@@ -11,20 +11,13 @@ ghost use Rattle.texture.specs.Outcomes.{list_due, list_outcome};
 
 use bits::Cursor;
 use codes::TcoefTable;
-use events::{AcEvent, EventRead, Spelling, Spellings};
+use events::{AcEvent, Spelling, Spellings};
 use fields::TextureParseError;
-
-// The cursor after a list and the number of its events of each spelling, or a refusal.
-#[derive(Clone, Copy)]
-pub enum EventsRead {
-    Read(Cursor, Spellings),
-    Refused(TextureParseError),
-}
 
 // What a list gave: the answer and its 64 places, zeros where it refused.
 #[derive(Clone, Copy)]
 pub struct ListRead {
-    pub answer: EventsRead,
+    pub answer: Result<(Cursor, Spellings), TextureParseError>,
     pub qfs: [i32; 64],
 }
 
@@ -45,14 +38,15 @@ fn read_event(
     codes: &[u32],
     lens: &[u32],
     events: &[u8],
-) -> EventRead
+) -> Result<(AcEvent, Cursor), TextureParseError>
     requires { TablesOf reversible table codes.now lens.now events.now }
     ensures { result ≡ event_answer «data».now c.bit_pos reversible table }
 {
     if reversible {
-        return crate::event::read_rvlc(data, c, table, codes, lens, events);
+        crate::event::read_rvlc(data, c, table, codes, lens, events)
+    } else {
+        crate::event::read_plain(data, c, table, codes, lens, events)
     }
-    crate::event::read_plain(data, c, table, codes, lens, events)
 }
 
 // One event more of a spelling.
@@ -79,22 +73,16 @@ fn put(qfs: &mut [i32; 64], l: Landing, v: AcEvent) -> Landing
     if l.bad != 0 {
         return l;
     }
-    let spellings = l.spellings;
     let land = l.place + v.run as usize;
     if land < 64 {
-        let level = v.level;
-        let spelling = v.spelling;
-        qfs[land] = level;
-        return Landing {
+        qfs[land] = v.level;
+        Landing {
             place: land + 1,
             bad: 0,
-            spellings: counted(spellings, spelling),
-        };
-    }
-    Landing {
-        place: l.place,
-        bad: land,
-        spellings,
+            spellings: counted(l.spellings, v.spelling),
+        }
+    } else {
+        Landing { bad: land, ..l }
     }
 }
 
@@ -102,7 +90,7 @@ fn refusal(e: TextureParseError) -> ListRead
     ensures { result ≡ refused_by e }
 {
     ListRead {
-        answer: EventsRead::Refused(e),
+        answer: Err(e),
         qfs: [0i32; 64],
     }
 }
@@ -113,15 +101,15 @@ fn close(l: Landing, qfs: [i32; 64], next: Cursor) -> ListRead
     ensures { result ≡ closed (state_of l qfs) next }
 {
     if l.bad == 0 {
-        let spellings = l.spellings;
-        return ListRead {
-            answer: EventsRead::Read(next, spellings),
+        ListRead {
+            answer: Ok((next, l.spellings)),
             qfs,
-        };
+        }
+    } else {
+        refusal(TextureParseError::Overflow {
+            position: l.bad as u32,
+        })
     }
-    refusal(TextureParseError::Overflow {
-        position: l.bad as u32,
-    })
 }
 
 // A list through its last event.
@@ -146,12 +134,9 @@ fn read_list(
     };
     let mut at = c;
     loop {
-        let e = read_event(data, at, reversible, table, codes, lens, events);
-        match e {
-            EventRead::Refused(why) => {
-                return refusal(why);
-            }
-            EventRead::Event(v, next) => {
+        match read_event(data, at, reversible, table, codes, lens, events) {
+            Err(why) => return refusal(why),
+            Ok((v, next)) => {
                 l = put(&mut qfs, l, v);
                 at = next;
                 if v.last {
@@ -166,25 +151,18 @@ fn read_list(
 fn first_place(dc_coded: bool) -> usize
     ensures { (result ≡ first_place dc_coded) × (result ≤ 1) }
 {
-    if dc_coded {
-        return 1;
-    }
-    0
+    usize::from(dc_coded)
 }
 
 // The places of a list that was accepted, into lent ones.
-fn keep(one: ListRead, qfs: &mut [i32; 64]) -> EventsRead
+fn keep(one: ListRead, qfs: &mut [i32; 64]) -> Result<(Cursor, Spellings), TextureParseError>
     ensures { (result ≡ one.answer) × (qfs.new ≡ kept_of one qfs.old) }
 {
-    let answer = one.answer;
-    match answer {
-        EventsRead::Refused(e) => EventsRead::Refused(e),
-        EventsRead::Read(next, spellings) => {
-            let places = one.qfs;
-            *qfs = places;
-            EventsRead::Read(next, spellings)
-        }
-    }
+    let (next, spellings) = one.answer?;
+    // a variable: an array that is a field is not stored straight
+    let places = one.qfs;
+    *qfs = places;
+    Ok((next, spellings))
 }
 
 // A list of either coding at a cursor, into 64 places that start at 1 after a DC code.
@@ -198,12 +176,12 @@ fn read_events(
     events: &[u8],
     dc_coded: bool,
     qfs: &mut [i32; 64],
-) -> EventsRead
+) -> Result<(Cursor, Spellings), TextureParseError>
     requires { TablesOf reversible table codes.now lens.now events.now }
     ensures { (result ≡ list_answer «data».now c.bit_pos reversible table dc_coded) × (qfs.new ≡ places_after «data».now c.bit_pos reversible table dc_coded qfs.old) }
 {
     if !fields::readable(data, c) {
-        return EventsRead::Refused(TextureParseError::OutOfRange);
+        return Err(TextureParseError::OutOfRange);
     }
     let first = first_place(dc_coded);
     let one = read_list(data, c, reversible, table, codes, lens, events, first);
@@ -217,7 +195,7 @@ pub fn decode_ac_events(
     table: TcoefTable,
     dc_coded: bool,
     qfs: &mut [i32; 64],
-) -> EventsRead
+) -> Result<(Cursor, Spellings), TextureParseError>
     ensures value { result ≡ list_answer «data».now c.bit_pos false table dc_coded }
     ensures places { qfs.new ≡ places_after «data».now c.bit_pos false table dc_coded qfs.old }
     ensures outcome { list_outcome result ≡ list_due «data».now c.bit_pos false table dc_coded }
@@ -235,7 +213,7 @@ pub fn decode_ac_events_rvlc(
     table: TcoefTable,
     dc_coded: bool,
     qfs: &mut [i32; 64],
-) -> EventsRead
+) -> Result<(Cursor, Spellings), TextureParseError>
     ensures value { result ≡ list_answer «data».now c.bit_pos true table dc_coded }
     ensures places { qfs.new ≡ places_after «data».now c.bit_pos true table dc_coded qfs.old }
     ensures outcome { list_outcome result ≡ list_due «data».now c.bit_pos true table dc_coded }

@@ -1,14 +1,15 @@
 -- What a call tells, as nine numbers in lent memory. Definitions only.
-use Rattle.std.specs.Prelude.{cond, List, [], ◌++◌, ◌∷◌, ℕ, ◌%◌, ◌+◌, leb, ltb, drop, get_or, length}
+use Rattle.std.specs.Prelude.{cond, List, [], ◌++◌, ◌∷◌, ℕ, ◌%◌, ◌+◌, leb, ltb, drop, get_or, length, Result}
 use Rattle.numbers.specs.Outcome.{Outcome, accepted, refused}
 use Rattle.events.specs.Spellings.{no_spellings}
 use Rattle.events.specs.declared.spelling.Spellings.{Spellings}
 use Rattle.macroblock.specs.Outcomes.{macroblock_outcome}
-use Rattle.macroblock.specs.declared.decode.MacroblockDecoded.{MacroblockDecoded}
 use Rattle.picture.specs.Outcomes.{picture_outcome}
-use Rattle.picture.specs.declared.call.PictureDecoded.{PictureDecoded}
 use Rattle.picture_state.specs.declared.picture.Picture.{Picture}
 use Rattle.vaxembro.specs.declared.answer.Told.{Told}
+use Rattle.macroblock.specs.declared.decode.MacroblockDecoded.{MacroblockDecoded}
+use Rattle.assembly.specs.declared.error.BlockAssemblyError.{BlockAssemblyError}
+use Rattle.picture.specs.declared.call.PictureDecoded.{PictureDecoded}
 
 -- accepted: no number and no figure; refused: no bits and no events, and the position is the start
 abbrev pub accepted_as : ℕ → ℕ → Spellings → Told
@@ -23,11 +24,11 @@ told_by f (accepted a) at = accepted_as (f a).0 (f a).1.0 (f a).1.1
 told_by f (refused number figure) at = refused_as number figure at
 
 -- of a call in a picture
-abbrev pub told_of : PictureDecoded → ℕ → Told
+abbrev pub told_of : Result PictureDecoded BlockAssemblyError → ℕ → Told
 told_of d at = told_by (λ (b : ℕ × (ℕ × (Spellings × Picture))). (b.0, (b.1.0, b.1.1.0))) (picture_outcome d) at
 
 -- of a macroblock read alone
-abbrev pub told_alone : MacroblockDecoded → ℕ → Told
+abbrev pub told_alone : Result MacroblockDecoded BlockAssemblyError → ℕ → Told
 told_alone d at = told_by (λ (b : ℕ × (ℕ × Spellings)). b) (macroblock_outcome d) at
 
 -- the number alone; 0 where nothing was refused

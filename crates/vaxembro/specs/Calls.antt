@@ -1,21 +1,19 @@
 -- What a call over lent memory answers and leaves there, refusals and memory that is too short included. Definitions only.
-use Rattle.std.specs.Prelude.{Bool, cond, not, ◌&&◌, List, ℕ, eqb, leb, ℤ, length}
+use Rattle.std.specs.Prelude.{Bool, cond, not, ◌&&◌, List, ℕ, eqb, leb, ℤ, length, Err, Ok, Result}
 use Rattle.assembly.specs.declared.error.BlockAssemblyError.TheVariants.{TooShort}
 use Rattle.assembly.specs.declared.context.MacroblockTextureContext.{MacroblockTextureContext}
 use Rattle.prediction.specs.declared.predictor.BlockPredictors.{BlockPredictors}
 use Rattle.macroblock.specs.Answer.{macroblock_answer, samples_out as samplesAlone}
-use Rattle.macroblock.specs.declared.decode.MacroblockDecoded.{MacroblockDecoded}
-use Rattle.macroblock.specs.declared.decode.MacroblockDecoded.TheVariants.{Refused as RefusedAlone}
 use Rattle.headers.specs.declared.header.MacroblockHeader.{MacroblockHeader}
 use Rattle.picture.specs.Call.{Input, answer_out, given, samples_out, store_out}
 use Rattle.picture_state.specs.Outcomes.{opened_outcome}
 use Rattle.picture_state.specs.Picture.{open_of}
-use Rattle.picture.specs.declared.call.PictureDecoded.{PictureDecoded}
-use Rattle.picture.specs.declared.call.PictureDecoded.TheVariants.{Decoded, Refused}
-use Rattle.picture_state.specs.declared.picture.PictureOpened.{PictureOpened}
-use Rattle.picture_state.specs.declared.picture.PictureOpened.TheVariants.{Opened, Refused as Unopened}
 use Rattle.vaxembro.specs.Answer.{answer_after, answer_length, number_in, told_alone, told_of}
 use Rattle.vaxembro.specs.Lent.{context_by, dc_coded, header_by, matrix_of, neighbours_of, picture_of, reversible, state_after, texture_context_by}
+use Rattle.macroblock.specs.declared.decode.MacroblockDecoded.{MacroblockDecoded}
+use Rattle.assembly.specs.declared.error.BlockAssemblyError.{BlockAssemblyError}
+use Rattle.picture.specs.declared.call.PictureDecoded.{PictureDecoded}
+use Rattle.picture_state.specs.declared.picture.Picture.{Picture}
 
 -- ---- memory that is long enough
 
@@ -30,15 +28,15 @@ all_long least n w a = leb least n && (leb 64 w && leb answer_length a)
 -- ---- an opening
 
 -- any number but 0 is method 1
-abbrev pub opened_by : ℕ → ℕ → ℕ → ℕ → PictureOpened
+abbrev pub opened_by : ℕ → ℕ → ℕ → ℕ → Result Picture BlockAssemblyError
 opened_by w h d q = open_of w h d (not (eqb q 0))
 
-abbrev pub opened_number : PictureOpened → ℕ
+abbrev pub opened_number : Result Picture BlockAssemblyError → ℕ
 opened_number o = number_in (opened_outcome o)
 
-abbrev pub opened_state : PictureOpened → List ℕ → List ℕ
-opened_state (Opened p) old = state_after p old
-opened_state (Unopened e) old = old
+abbrev pub opened_state : Result Picture BlockAssemblyError → List ℕ → List ℕ
+opened_state (Ok p) old = state_after p old
+opened_state (Err e) old = old
 
 -- ---- a call in a picture
 
@@ -73,9 +71,9 @@ abbrev pub left : ℕ → List ℕ → List ℤ → List ℤ → List ℕ → Le
 left n s xs st a = record { number = n; state = s; samples = xs; store = st; answer = a }
 
 -- the picture with one more accepted; a refusal leaves the state
-abbrev pub state_out : PictureDecoded → List ℕ → List ℕ
-state_out (Decoded n c k p) old = state_after p old
-state_out (Refused e) old = old
+abbrev pub state_out : Result PictureDecoded BlockAssemblyError → List ℕ → List ℕ
+state_out (Ok d) old = state_after d.picture old
+state_out (Err e) old = old
 
 module _ (x : Lent) where
   -- state, matrix and answer are long enough
@@ -87,8 +85,8 @@ module _ (x : Lent) where
   brought_in = given x.bytes x.start (header_by x.kind x.y x.c x.flags) (context_by x.scale x.flags) (matrix_of x.matrix) x.samples
 
   -- the picture's answer; where memory is too short 14, before any other test
-  abbrev pub decoded_in : PictureDecoded
-  decoded_in = cond room_in (answer_out (picture_of x.state) brought_in x.store) (Refused TooShort)
+  abbrev pub decoded_in : Result PictureDecoded BlockAssemblyError
+  decoded_in = cond room_in (answer_out (picture_of x.state) brought_in x.store) (Err TooShort)
 
   unfoldable pub left_in : Left
   left_in =
@@ -140,8 +138,8 @@ module _ (x : LentAlone) where
   brought f = f (header_by x.kind x.y x.c x.flags) (texture_context_by x.scale x.depth x.flags) (neighbours_of x.neighbours) (matrix_of x.matrix)
 
   -- the decoder's answer; where memory is too short 14, before any other test
-  abbrev pub decoded_alone : MacroblockDecoded
-  decoded_alone = cond room_alone (brought (λ h t n w. macroblock_answer x.bytes x.start h (dc_coded x.flags) (reversible x.flags) t n w x.samples)) (RefusedAlone TooShort)
+  abbrev pub decoded_alone : Result MacroblockDecoded BlockAssemblyError
+  decoded_alone = cond room_alone (brought (λ h t n w. macroblock_answer x.bytes x.start h (dc_coded x.flags) (reversible x.flags) t n w x.samples)) (Err TooShort)
 
   unfoldable pub left_alone : LeftAlone
   left_alone =

@@ -1,5 +1,5 @@
 -- Calls whose header is in their bits: its fields as six signed numbers in lent memory, and what such a call answers and leaves there, refusals and memory that is too short included. Definitions only.
-use Rattle.std.specs.Prelude.{Bool, cond, ◌&&◌, List, [], ◌++◌, ◌∷◌, ℕ, ◌-◌, leb, ltb, ℤ, pos, drop, length}
+use Rattle.std.specs.Prelude.{Bool, cond, ◌&&◌, List, [], ◌++◌, ◌∷◌, ℕ, ◌-◌, leb, ltb, ℤ, pos, drop, length, Err, Ok, Result}
 use Rattle.events.specs.Spellings.{no_spellings}
 use Rattle.events.specs.declared.spelling.Spellings.{Spellings}
 use Rattle.assembly.specs.declared.error.BlockAssemblyError.TheVariants.{TooShort}
@@ -8,15 +8,13 @@ use Rattle.headers.specs.Outcomes.{header_read_outcome}
 use Rattle.headers.specs.declared.header.DerivedMbType.{DerivedMbType}
 use Rattle.headers.specs.declared.header.DerivedMbType.TheVariants.{Inter, Inter4V, InterQ, Intra, IntraQ, Missing}
 use Rattle.headers.specs.declared.parse.HeaderFields.{HeaderFields}
-use Rattle.headers.specs.declared.parse.HeaderRead.{HeaderRead}
-use Rattle.headers.specs.declared.parse.HeaderRead.TheVariants.{Read, Refused as HeaderRefused}
 use Rattle.macroblock.specs.WholeAnswer as A
-use Rattle.macroblock.specs.declared.whole.WholeDecoded.{WholeDecoded}
-use Rattle.macroblock.specs.declared.whole.WholeDecoded.TheVariants.{Decoded as AloneDecoded, Refused as AloneRefused}
 use Rattle.picture.specs.Whole.{Bare, answer_out, bare, samples_out, store_out}
-use Rattle.picture.specs.WholeAnswered as P
+use Rattle.bits.specs.declared.cursor.Cursor.{Cursor}
+use Rattle.assembly.specs.declared.error.BlockAssemblyError.{BlockAssemblyError}
+use Rattle.macroblock.specs.declared.whole.WholeDecoded.{WholeDecoded}
 use Rattle.picture.specs.declared.whole.PictureWholeDecoded.{PictureWholeDecoded}
-use Rattle.picture.specs.declared.whole.PictureWholeDecoded.TheVariants.{Decoded, Refused}
+use Rattle.picture.specs.WholeAnswered as P
 use Rattle.picture_state.specs.declared.picture.Picture.{Picture}
 use Rattle.vaxembro.specs.Answer.{answer_after, told_by}
 use Rattle.vaxembro.specs.Calls.{all_long}
@@ -50,28 +48,28 @@ fields_after f old =
     ++ drop header_length old
 
 -- a refusal leaves them
-abbrev pub header_out : HeaderRead → List ℤ → List ℤ
-header_out (Read f c) old = fields_after f old
-header_out (HeaderRefused e) old = old
+abbrev pub header_out : Result (HeaderFields × Cursor) BlockAssemblyError → List ℤ → List ℤ
+header_out (Ok (f, c)) old = fields_after f old
+header_out (Err e) old = old
 
-abbrev pub whole_header_out : WholeDecoded → List ℤ → List ℤ
-whole_header_out (AloneDecoded n c k f) old = fields_after f old
-whole_header_out (AloneRefused e) old = old
+abbrev pub whole_header_out : Result WholeDecoded BlockAssemblyError → List ℤ → List ℤ
+whole_header_out (Ok d) old = fields_after d.fields old
+whole_header_out (Err e) old = old
 
-abbrev pub whole_header_out_in : PictureWholeDecoded → List ℤ → List ℤ
-whole_header_out_in (Decoded n c k p f) old = fields_after f old
-whole_header_out_in (Refused e) old = old
+abbrev pub whole_header_out_in : Result PictureWholeDecoded BlockAssemblyError → List ℤ → List ℤ
+whole_header_out_in (Ok d) old = fields_after d.fields old
+whole_header_out_in (Err e) old = old
 
 -- ---- what is told of a call that started at `at`
 
 -- a header's own bits, and no events
-abbrev pub told_of_header : HeaderRead → ℕ → Told
+abbrev pub told_of_header : Result (HeaderFields × Cursor) BlockAssemblyError → ℕ → Told
 told_of_header r at = told_by (λ (b : HeaderFields × ℕ). (b.1 - at, (b.1, no_spellings))) (header_read_outcome r) at
 
-abbrev pub told_whole : WholeDecoded → ℕ → Told
+abbrev pub told_whole : Result WholeDecoded BlockAssemblyError → ℕ → Told
 told_whole d at = told_by (λ (b : ℕ × (ℕ × (Spellings × HeaderFields))). (b.0, (b.1.0, b.1.1.0))) (A.whole_outcome d) at
 
-abbrev pub told_whole_in : PictureWholeDecoded → ℕ → Told
+abbrev pub told_whole_in : Result PictureWholeDecoded BlockAssemblyError → ℕ → Told
 told_whole_in d at = told_by (λ (b : ℕ × (ℕ × (Spellings × (Picture × HeaderFields)))). (b.0, (b.1.0, b.1.1.0))) (P.whole_outcome d) at
 
 -- ---- a header by itself
@@ -96,8 +94,8 @@ left_header n h a = record { number = n; header = h; answer = a }
 
 module _ (x : LentHeader) where
   -- the header's answer; where memory is too short 14, before any other test
-  abbrev pub read_lent : HeaderRead
-  read_lent = cond (all_long header_length (length x.header) 64 (length x.answer)) (header_answer x.bytes x.start x.scale) (HeaderRefused TooShort)
+  abbrev pub read_lent : Result (HeaderFields × Cursor) BlockAssemblyError
+  read_lent = cond (all_long header_length (length x.header) 64 (length x.answer)) (header_answer x.bytes x.start x.scale) (Err TooShort)
 
   unfoldable pub left_of_header : LeftHeader
   left_of_header =
@@ -138,11 +136,11 @@ module _ (x : LentWhole) where
   abbrev pub room_whole : Bool
   room_whole = all_long 21 (length x.neighbours) (length x.matrix) (length x.answer) && leb header_length (length x.header)
 
-  abbrev pub decoded_whole : WholeDecoded
+  abbrev pub decoded_whole : Result WholeDecoded BlockAssemblyError
   decoded_whole =
       cond room_whole
       (A.whole_answer x.bytes x.start (dc_coded x.flags) (reversible x.flags) (texture_context_by x.scale x.depth x.flags) (neighbours_of x.neighbours) (matrix_of x.matrix) x.samples)
-      (AloneRefused TooShort)
+      (Err TooShort)
 
   unfoldable pub left_whole : LeftWhole
   left_whole =
@@ -184,9 +182,9 @@ abbrev pub whole_in : ℕ → List ℕ → List ℤ → List ℤ → List ℤ �
 whole_in n s xs st h a = record { number = n; state = s; samples = xs; store = st; header = h; answer = a }
 
 -- the picture with one more accepted; a refusal leaves the state
-abbrev pub whole_state_out : PictureWholeDecoded → List ℕ → List ℕ
-whole_state_out (Decoded n c k p f) old = state_after p old
-whole_state_out (Refused e) old = old
+abbrev pub whole_state_out : Result PictureWholeDecoded BlockAssemblyError → List ℕ → List ℕ
+whole_state_out (Ok d) old = state_after d.picture old
+whole_state_out (Err e) old = old
 
 module _ (x : LentWholeIn) where
   abbrev pub room_whole_in : Bool
@@ -195,8 +193,8 @@ module _ (x : LentWholeIn) where
   abbrev pub brought_bare : Bare
   brought_bare = bare x.bytes x.start (context_by x.scale x.flags) (matrix_of x.matrix) x.samples
 
-  abbrev pub decoded_whole_in : PictureWholeDecoded
-  decoded_whole_in = cond room_whole_in (answer_out (picture_of x.state) brought_bare x.store) (Refused TooShort)
+  abbrev pub decoded_whole_in : Result PictureWholeDecoded BlockAssemblyError
+  decoded_whole_in = cond room_whole_in (answer_out (picture_of x.state) brought_bare x.store) (Err TooShort)
 
   unfoldable pub left_whole_in : LeftWholeIn
   left_whole_in =

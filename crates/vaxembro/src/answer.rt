@@ -17,13 +17,7 @@ const ANSWER: usize = 9;
 pub(crate) fn long_enough(least: usize, n: usize, w: usize, a: usize) -> bool
     ensures { result ≡ all_long least n w a }
 {
-    if n < least {
-        return false;
-    }
-    if w < 64 {
-        return false;
-    }
-    ANSWER <= a
+    least <= n && 64 <= w && ANSWER <= a
 }
 
 #[derive(Clone, Copy)]
@@ -60,22 +54,22 @@ pub(crate) fn accepted(bits: usize, position: usize, spellings: Spellings) -> To
 }
 
 // Of a call in a picture that started at `at`.
-pub(crate) fn told_in_picture(d: PictureDecoded, at: usize) -> Told
+pub(crate) fn told_in_picture(d: Result<PictureDecoded, BlockAssemblyError>, at: usize) -> Told
     ensures { result ≡ told_of d at }
 {
     match d {
-        PictureDecoded::Refused(e) => refused(e, at),
-        PictureDecoded::Decoded(bits, next, k, _) => accepted(bits, next.bit_pos, k),
+        Err(e) => refused(e, at),
+        Ok(told) => accepted(told.bits, told.next.bit_pos, told.spellings),
     }
 }
 
 // Of a macroblock read alone.
-pub(crate) fn told_alone(d: MacroblockDecoded, at: usize) -> Told
+pub(crate) fn told_alone(d: Result<MacroblockDecoded, BlockAssemblyError>, at: usize) -> Told
     ensures { result ≡ told_alone d at }
 {
     match d {
-        MacroblockDecoded::Refused(e) => refused(e, at),
-        MacroblockDecoded::Decoded(bits, next, k) => accepted(bits, next.bit_pos, k),
+        Err(e) => refused(e, at),
+        Ok(told) => accepted(told.bits, told.next.bit_pos, told.spellings),
     }
 }
 

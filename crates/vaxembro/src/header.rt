@@ -4,7 +4,9 @@ ghost use Rattle.std.specs.Prelude.{◌≡◌, ◌-◌, ◌≤◌, length};
 ghost use Rattle.vaxembro.specs.Fields.{bit_of, fields_after, header_out, scale_of, told_of_header, told_whole, told_whole_in, type_number, whole_header_out, whole_header_out_in};
 
 use crate::answer::Told;
-use headers::{DerivedMbType, HeaderFields, HeaderRead};
+use assembly::BlockAssemblyError;
+use bits::Cursor;
+use headers::{DerivedMbType, HeaderFields};
 use macroblock::WholeDecoded;
 use picture::PictureWholeDecoded;
 use texture::Spellings;
@@ -29,10 +31,7 @@ fn type_number(kind: DerivedMbType) -> i32
 fn bit_of(set: bool) -> i32
     ensures { result ≡ bit_of set }
 {
-    if set {
-        return 1;
-    }
-    0
+    i32::from(set)
 }
 
 // A quantiser as a signed number; one that is none counts as 0.
@@ -67,39 +66,30 @@ fn put_fields(header: &mut [i32], f: HeaderFields)
 }
 
 // The fields of a header that was read; a refusal leaves the lent numbers.
-pub(crate) fn put_read(header: &mut [i32], r: HeaderRead)
+pub(crate) fn put_read(header: &mut [i32], r: Result<(HeaderFields, Cursor), BlockAssemblyError>)
     requires { 6 ≤ length header.old }
     ensures { header.new ≡ header_out r header.old }
 {
-    match r {
-        HeaderRead::Refused(_) => {}
-        HeaderRead::Read(f, _) => {
-            put_fields(header, f);
-        }
+    if let Ok((fields, _)) = r {
+        put_fields(header, fields);
     }
 }
 
-pub(crate) fn put_whole(header: &mut [i32], d: WholeDecoded)
+pub(crate) fn put_whole(header: &mut [i32], d: Result<WholeDecoded, BlockAssemblyError>)
     requires { 6 ≤ length header.old }
     ensures { header.new ≡ whole_header_out d header.old }
 {
-    match d {
-        WholeDecoded::Refused(_) => {}
-        WholeDecoded::Decoded(_, _, _, f) => {
-            put_fields(header, f);
-        }
+    if let Ok(told) = d {
+        put_fields(header, told.fields);
     }
 }
 
-pub(crate) fn put_whole_in(header: &mut [i32], d: PictureWholeDecoded)
+pub(crate) fn put_whole_in(header: &mut [i32], d: Result<PictureWholeDecoded, BlockAssemblyError>)
     requires { 6 ≤ length header.old }
     ensures { header.new ≡ whole_header_out_in d header.old }
 {
-    match d {
-        PictureWholeDecoded::Refused(_) => {}
-        PictureWholeDecoded::Decoded(_, _, _, _, f) => {
-            put_fields(header, f);
-        }
+    if let Ok(told) = d {
+        put_fields(header, told.fields);
     }
 }
 
@@ -107,19 +97,19 @@ pub(crate) fn put_whole_in(header: &mut [i32], d: PictureWholeDecoded)
 fn taken(at: usize, position: usize) -> usize
     ensures { result ≡ position - at }
 {
-    if at <= position {
-        return position - at;
-    }
-    0
+    position.saturating_sub(at)
 }
 
 // What is told of a header that starts at `at`: its own bits, and no events.
-pub(crate) fn told_of_header(r: HeaderRead, at: usize) -> Told
+pub(crate) fn told_of_header(
+    r: Result<(HeaderFields, Cursor), BlockAssemblyError>,
+    at: usize,
+) -> Told
     ensures { result ≡ told_of_header r at }
 {
     match r {
-        HeaderRead::Refused(e) => crate::answer::refused(e, at),
-        HeaderRead::Read(_, next) => {
+        Err(e) => crate::answer::refused(e, at),
+        Ok((_, next)) => {
             let position = next.bit_pos;
             crate::answer::accepted(taken(at, position), position, Spellings::none())
         }
@@ -127,24 +117,20 @@ pub(crate) fn told_of_header(r: HeaderRead, at: usize) -> Told
 }
 
 // Of a whole macroblock read alone, and in a picture.
-pub(crate) fn told_whole(d: WholeDecoded, at: usize) -> Told
+pub(crate) fn told_whole(d: Result<WholeDecoded, BlockAssemblyError>, at: usize) -> Told
     ensures { result ≡ told_whole d at }
 {
     match d {
-        WholeDecoded::Refused(e) => crate::answer::refused(e, at),
-        WholeDecoded::Decoded(bits, next, k, _) => crate::answer::accepted(bits, next.bit_pos, k),
+        Err(e) => crate::answer::refused(e, at),
+        Ok(told) => crate::answer::accepted(told.bits, told.next.bit_pos, told.spellings),
     }
 }
 
-pub(crate) fn told_whole_in(d: PictureWholeDecoded, at: usize) -> Told
+pub(crate) fn told_whole_in(d: Result<PictureWholeDecoded, BlockAssemblyError>, at: usize) -> Told
     ensures { result ≡ told_whole_in d at }
 {
     match d {
-        PictureWholeDecoded::Refused(e) => crate::answer::refused(e, at),
-        PictureWholeDecoded::Decoded(bits, next, k, _, _) => crate::answer::accepted(
-            bits,
-            next.bit_pos,
-            k,
-        ),
+        Err(e) => crate::answer::refused(e, at),
+        Ok(told) => crate::answer::accepted(told.bits, told.next.bit_pos, told.spellings),
     }
 }

@@ -72,22 +72,14 @@ fn method_one(flags: u32) -> bool
 fn type_of(mb_type: u32) -> DerivedMbType
     ensures { result ≡ type_of mb_type }
 {
-    if mb_type == 1 {
-        return DerivedMbType::Inter;
+    match mb_type {
+        1 => DerivedMbType::Inter,
+        2 => DerivedMbType::InterQ,
+        3 => DerivedMbType::Inter4V,
+        4 => DerivedMbType::Intra,
+        5 => DerivedMbType::IntraQ,
+        _ => DerivedMbType::Missing,
     }
-    if mb_type == 2 {
-        return DerivedMbType::InterQ;
-    }
-    if mb_type == 3 {
-        return DerivedMbType::Inter4V;
-    }
-    if mb_type == 4 {
-        return DerivedMbType::Intra;
-    }
-    if mb_type == 5 {
-        return DerivedMbType::IntraQ;
-    }
-    DerivedMbType::Missing
 }
 
 pub(crate) fn header_of(mb_type: u32, cbpy: u8, cbpc: u8, flags: u32) -> MacroblockHeader
@@ -170,10 +162,7 @@ pub(crate) fn picture_of(state: &[u32]) -> Picture
 fn number_of(set: bool) -> u32
     ensures { result ≡ cond set 1 0 }
 {
-    if set {
-        return 1;
-    }
-    0
+    u32::from(set)
 }
 
 pub(crate) fn put_picture(state: &mut [u32], p: Picture)
@@ -191,20 +180,14 @@ pub(crate) fn put_picture(state: &mut [u32], p: Picture)
 fn quantiser_of(z: i32) -> u32
     ensures { result ≡ quantiser_of z }
 {
-    if z < 0 {
-        return 0;
-    }
-    z as u32
+    z.max(0) as u32
 }
 
 // Any number but 0 is yes.
 fn is_there(z: i32) -> bool
     ensures { result ≡ there z }
 {
-    if z == 0 {
-        return false;
-    }
-    true
+    z != 0
 }
 
 // The seven numbers from `at` on.
@@ -213,9 +196,7 @@ fn seven(lent: &[i32], at: usize) -> [i32; 7]
     ensures { result ≡ seven_from lent.now at }
 {
     let mut out = [0i32; 7];
-    for k in 0..7 {
-        out[k] = lent[at + k];
-    }
+    out.copy_from_slice(&lent[at..at + 7]);
     out
 }
 

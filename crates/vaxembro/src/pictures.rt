@@ -4,16 +4,16 @@ ghost use Rattle.vaxembro.specs.Calls.{left, left_in, lent, opened_by, opened_nu
 
 use bits::Cursor;
 use block::BlockAssemblyError;
-use picture::{Picture, PictureDecoded, PictureOpened};
+use picture::{Picture, PictureDecoded};
 
 // The opened picture into the state; a refusal leaves it, and its number is the answer.
-fn opened(state: &mut [u32], o: PictureOpened) -> u32
+fn opened(state: &mut [u32], o: Result<Picture, BlockAssemblyError>) -> u32
     requires { 5 ≤ length state.old }
     ensures { (result ≡ opened_number o) × (state.new ≡ opened_state o state.old) }
 {
     match o {
-        PictureOpened::Refused(e) => e.number(),
-        PictureOpened::Opened(p) => {
+        Err(e) => e.number(),
+        Ok(p) => {
             crate::lent::put_picture(state, p);
             0
         }
@@ -39,13 +39,12 @@ pub fn vaxembro_open(
 }
 
 // The picture with one more accepted into the state; a refusal leaves it.
-fn onward(state: &mut [u32], d: PictureDecoded)
+fn onward(state: &mut [u32], d: Result<PictureDecoded, BlockAssemblyError>)
     requires { 5 ≤ length state.old }
     ensures { state.new ≡ state_out d state.old }
 {
-    match d {
-        PictureDecoded::Refused(_) => {}
-        PictureDecoded::Decoded(_, _, _, p) => crate::lent::put_picture(state, p),
+    if let Ok(told) = d {
+        crate::lent::put_picture(state, told.picture);
     }
 }
 

@@ -65,15 +65,12 @@ pub fn vaxembro_decode_intra_macroblock_with_header(
 }
 
 // The picture with one more accepted into the state; a refusal leaves it.
-fn onward(state: &mut [u32], d: PictureWholeDecoded)
+fn onward(state: &mut [u32], d: Result<PictureWholeDecoded, BlockAssemblyError>)
     requires { 5 ≤ length state.old }
     ensures { state.new ≡ whole_state_out d state.old }
 {
-    match d {
-        PictureWholeDecoded::Refused(_) => {}
-        PictureWholeDecoded::Decoded(_, _, _, p, _) => {
-            crate::lent::put_picture(state, p);
-        }
+    if let Ok(told) = d {
+        crate::lent::put_picture(state, told.picture);
     }
 }
 

@@ -9,9 +9,9 @@ use native.Mathlib.Numerals.{add-one}
 use native.Mathlib.Omega.{arith}
 use lib.Dec.{eqb, leb}
 use lib.IntN.{ℤ, nat_abs, pos}
-use lib.ListN.{get_or, get_or-replicate, length, set, take}
-use lib.Seq.{get_or-set_other, take_all, take-suc, take-suc-set}
-use borrow.Author.Tests.{eqb-true, le-leb, leb-true, lt-leb, ne_eqb}
+use lib.ListN.{drop, get_or, get_or-replicate, length, set, take}
+use lib.Seq.{get_or-drop, get_or-set_other, get_or-take, take_all, take-suc, take-suc-set}
+use borrow.Author.Tests.{eqb-true, le-leb, leb-true, lt-leb}
 use Rattle.numbers.proofs.Fill.{lt-or-le}
 use Rattle.numbers.proofs.Magnitudes.{zero_of_abs}
 use Rattle.texture.specs.Places.{zeros}
@@ -23,10 +23,6 @@ module _ (qfs : List ℤ) where
   reach_skip : (n : ℕ) → get_or qfs n (pos 0) ≡ pos 0 → reach qfs (suc n) ≡ reach qfs n
   unfolding reach
   reach_skip n e = ap (λ (z : ℤ). cond (eqb (nat_abs z) 0) (reach qfs n) (suc n)) e
-
-  reach_stop : (n : ℕ) → (get_or qfs n (pos 0) ≡ pos 0 → ⊥) → reach qfs (suc n) ≡ suc n
-  unfolding reach
-  reach_stop n h = ap (λ (t : Bool). cond t (reach qfs n) (suc n)) (ne_eqb (nat_abs (get_or qfs n (pos 0))) 0 (λ z. h (zero_of_abs (get_or qfs n (pos 0)) z)))
 
   reach_most : (n : ℕ) → reach qfs n ≤ n
   unfolding reach
@@ -67,12 +63,14 @@ module _ (qfs : List ℤ) where
       go true e g = let r = leb-true (reach qfs 64) 1 e in beyond_reach 64 k (omega arith) l
       go false e g = absurd (omega arith)
 
-  -- the end where the last place that is not 0 is not the first
-  pub end_last : (n : ℕ) → 1 ≤ n → n < 64 → (get_or qfs n (pos 0) ≡ pos 0 → ⊥) → ((k : ℕ) → n < k → k < 64 → get_or qfs k (pos 0) ≡ pos 0) → end_of qfs ≡ 64
+  -- the end where a place after the first is not 0
+  pub end_some : (n : ℕ) → 1 ≤ n → n < 64 → (get_or qfs n (pos 0) ≡ pos 0 → ⊥) → end_of qfs ≡ 64
   unfolding end_of
-  end_last n f h p z =
-      let far : 1 < reach qfs 64 = omega (arith, reach-zeros (suc n) 64 h z, reach_stop n p) in
-      ap (λ (t : Bool). cond t 1 64) (lt-leb (reach qfs 64) 1 far)
+  end_some n f h p = go (leb (reach qfs 64) 1) refl
+    where
+      go : (t : Bool) → leb (reach qfs 64) 1 ≡ t → ◌≡◌ {A = ℕ} (cond t 1 64) 64
+      go true e = absurd (p (beyond_reach 64 n (let r = leb-true (reach qfs 64) 1 e in omega arith) h))
+      go false e = refl
 
   -- the end where none after the first is not 0
   pub end_none : ((k : ℕ) → 1 ≤ k → k < 64 → get_or qfs k (pos 0) ≡ pos 0) → end_of qfs ≡ 1
@@ -80,6 +78,18 @@ module _ (qfs : List ℤ) where
   end_none z =
       let near : reach qfs 64 ≤ 1 = omega (arith, reach-zeros 1 64 (omega arith) z, reach_most 1) in
       ap (λ (t : Bool). cond t 1 64) (le-leb (reach qfs 64) 1 near)
+
+-- ---- the places after the first, as the code goes through them
+
+pub after_first : (qfs : List ℤ) (k : ℕ) → k < 63 → get_or (take 63 (drop 1 qfs)) k (pos 0) ≡ get_or qfs (1 + k) (pos 0)
+after_first qfs k h = get_or-take 63 (drop 1 qfs) k (pos 0) h ∙ get_or-drop 1 qfs k (pos 0)
+
+pub all_after : (qfs : List ℤ) → ((k : ℕ) → k < 63 → get_or (take 63 (drop 1 qfs)) k (pos 0) ≡ pos 0) → end_of qfs ≡ 1
+all_after qfs z = end_none qfs go
+  where
+    go : (k : ℕ) → 1 ≤ k → k < 64 → get_or qfs k (pos 0) ≡ pos 0
+    go zero a b = absurd (omega arith)
+    go (suc k) a b = ap (λ (j : ℕ). get_or qfs j (pos 0)) (let q : suc k ≡ 1 + k = omega arith in q) ∙ sym (after_first qfs k (omega arith)) ∙ z k (omega arith)
 
 -- ---- place 0 does not change it
 

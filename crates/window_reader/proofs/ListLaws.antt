@@ -30,7 +30,7 @@ use Rattle.texture.specs.Places.{places_of, zeros}
 use Rattle.fields.specs.Reader.{Res, mapped, no, ok}
 use Rattle.events.specs.declared.event.AcEvent.{AcEvent}
 use Rattle.events.specs.declared.spelling.Spellings.{Spellings}
-use Rattle.window_reader.proofs.EndLaws.{end_last}
+use Rattle.window_reader.proofs.EndLaws.{end_some}
 use Rattle.window_reader.proofs.PackedLaws.{packs-more, packs-none}
 use Rattle.window_reader.specs.Packed.{Packs, weight_of}
 use Rattle.window_reader.specs.Told.{EventTold, ListTold, up_to}
@@ -193,8 +193,8 @@ module _ (d : List ℕ) (start at place spelled : ℕ) (qfs : List ℤ) (s : Sta
         places_are = x.places_are;
         packs = subst (λ (n : Spellings). Packs (spelled + r.spelled) n 64) x.counts_are (packs_then 64 (omega arith));
         inside = t.inside;
-        ends = sym (end_last (set qfs (place + r.run) r.level) (place + r.run) (omega (arith, s.place-pos)) low
-            (λ q. let z : nat_abs r.level ≡ 0 = ap nat_abs (sym (get_or-set_same qfs (place + r.run) r.level (pos 0) (omega (arith, s.long))) ∙ q) in omega (arith, t.level-pos)) after-zero);
+        ends = sym (end_some (set qfs (place + r.run) r.level) (place + r.run) (omega (arith, s.place-pos)) low
+            (λ q. let z : nat_abs r.level ≡ 0 = ap nat_abs (sym (get_or-set_same qfs (place + r.run) r.level (pos 0) (omega (arith, s.long))) ∙ q) in omega (arith, t.level-pos)));
       }
 
 -- ---- one turn of the code

@@ -1,7 +1,6 @@
 -- A block and six blocks that windows settle, in the reader's terms. Assumes nothing.
-use mathlib.Core.Bool.{Bool, true, false, not, ◌&&◌}
+use mathlib.Core.Bool.{Bool, true, false}
 use mathlib.Core.List.{List, []}
-use mathlib.Core.Option.{none, some}
 use mathlib.Core.Path.{◌≡◌, refl, sym, ap, ap₂, subst, ◌∙◌}
 use Prim.Native.Nat.{ℕ, ◌+◌, ◌*◌, ◌≤◌, ◌<◌}
 use native.Mathlib.Nat.{le_refl}
@@ -9,11 +8,9 @@ use native.Mathlib.Omega.{arith}
 use lib.IntN.{ℤ, nat_abs}
 use lib.ListN.{get_or, get_or-replicate, length, length-set, replicate, set, take}
 use lib.Seq.{get_or-set_other, get_or-set_same, take-set-le}
-use borrow.Author.Tests.{not-true}
 use mir.Facts.{to_z-of_z}
 use mir.Syntax.{w32}
 use mir.Val.{of_z, to_z}
-use Rattle.numbers.proofs.Tests.{both_true}
 use Rattle.numbers.proofs.Words.{fits_mag}
 use Rattle.bits.specs.Bits.{bits_from}
 use Rattle.bits.specs.Cursor.{cursor_at, in_data}
@@ -38,7 +35,6 @@ use Rattle.sentences.specs.Macroblock.{Place, places_of_pattern}
 use Rattle.sentences.specs.MacroblockReader.{read_block}
 use Rattle.texture.specs.Places.{zeros}
 use Rattle.fields.specs.Reader.{Res, bind, mapped, ok}
-use Rattle.texture.specs.declared.list.EventsRead.TheVariants.{Read as EventsAre}
 use Rattle.window_reader.proofs.EndLaws.{end_set, end_zeros, ends_all, ends_more}
 use Rattle.window_reader.proofs.PackedLaws.{apart-is, packs_both, packs-none}
 use Rattle.window_reader.specs.Ends.{end_of, ends_of}
@@ -47,6 +43,7 @@ use Rattle.window_reader.specs.Told.{BlockTold, DcTold, ListTold, SixTold}
 use Rattle.window_reader.specs.declared.list.ListAt.{ListAt}
 use Rattle.window_reader.specs.declared.six.SixAt.{SixAt}
 use Rattle.window_reader.specs.declared.symbol.DcAt.{DcAt}
+use Rattle.std.specs.Prelude.{Ok, None, Some}
 
 -- ---- one block
 
@@ -60,15 +57,15 @@ module _ (d : List ℕ) (at : ℕ) (c : DcComponent) (r : DcAt) (t : DcTold d at
 
   -- what is read after the DC part
   after-dc : (coded : Bool) → read_block true false (c, coded) (bits_from d at)
-      ≡ bind (read_opt coded (list false Intra 1) (bits_from d r.next)) (λ l s. ok (some t.part, l) s)
+      ≡ bind (read_opt coded (list false Intra 1) (bits_from d r.next)) (λ l s. ok (Some t.part, l) s)
   after-dc coded =
-      ap (λ (x : Res Dc). bind (bind x (λ a s. ok (some a) s)) (λ a s. bind (read_opt coded (list false Intra 1) s) (λ l s. ok (a, l) s))) dc-read
+      ap (λ (x : Res Dc). bind (bind x (λ a s. ok (Some a) s)) (λ a s. bind (read_opt coded (list false Intra 1) s) (λ l s. ok (a, l) s))) dc-read
 
   pub block-alone : BlockTold d at c false (record { next = r.next; end = 1; spelled = 0 }) (set zeros 0 r.difference)
   unfolding spellings_of
   block-alone =
       record {
-        parts = (some t.part, none);
+        parts = (Some t.part, None);
         read = after-dc false;
         row_is = ap (set zeros 0) t.says;
         packs = packs-none 64;
@@ -79,8 +76,8 @@ module _ (d : List ℕ) (at : ℕ) (c : DcComponent) (r : DcAt) (t : DcTold d at
   pub block_listed : (one : ListAt) (qfs : List ℤ) → ListTold d r.next one qfs → BlockTold d at c true one (set qfs 0 r.difference)
   block_listed one qfs l =
       record {
-        parts = (some t.part, some l.events);
-        read = after-dc true ∙ ap (λ (x : Res Events). bind (bind x (λ a s. ok (some a) s)) (λ l s. ok (some t.part, l) s)) l.read;
+        parts = (Some t.part, Some l.events);
+        read = after-dc true ∙ ap (λ (x : Res Events). bind (bind x (λ a s. ok (Some a) s)) (λ l s. ok (Some t.part, l) s)) l.read;
         row_is = ap₂ (λ (xs : List ℤ) (z : ℤ). set xs 0 z) l.places_are t.says;
         packs = l.packs;
         inside = l.inside;
@@ -162,16 +159,14 @@ module _ (d : List ℕ) (start : ℕ) (pattern : List Bool) (i at spelled : ℕ)
 -- ---- the answer of a macroblock
 
 pub six_answer : (d : List ℕ) (at : ℕ) (pattern : List Bool) (dc_coded rev : Bool) (r : SixAt) (n : Spellings) (rows : List (List ℤ)) (ends : List ℕ)
-    → in_data (length d) at ≡ true → (dc_coded && not rev) ≡ true → SixTold d at pattern r rows ends → n ≡ apart r.spelled
-    → (EventsAre (cursor_at r.next) n ≡ blocks_answer d at pattern dc_coded rev) × ((rows ≡ rows_after d at pattern dc_coded rev (replicate 6 zeros)) × (ends ≡ ends_of rows))
-six_answer d at pattern dc_coded rev r n rows ends h flags t q =
-    let f = both_true dc_coded (not rev) flags in
-    let g : rev ≡ false = not-true rev f.1 in
-    let says : RowsSay d (EventsAre (cursor_at r.next) n) rows (read_rows dc_coded rev pattern (bits_from d at)) (read_spellings dc_coded rev pattern (bits_from d at)) =
+    → in_data (length d) at ≡ true → dc_coded ≡ true → rev ≡ false → SixTold d at pattern r rows ends → n ≡ apart r.spelled
+    → (Ok (cursor_at r.next, n) ≡ blocks_answer d at pattern dc_coded rev) × ((rows ≡ rows_after d at pattern dc_coded rev (replicate 6 zeros)) × (ends ≡ ends_of rows))
+six_answer d at pattern dc_coded rev r n rows ends h f g t q =
+    let says : RowsSay d (Ok (cursor_at r.next, n)) rows (read_rows dc_coded rev pattern (bits_from d at)) (read_spellings dc_coded rev pattern (bits_from d at)) =
     record {
-      is = sym t.read ∙ ap₂ (λ (x y : Bool). read_rows x y pattern (bits_from d at)) (sym f.0) (sym g);
-      counted = ap (λ (k : Spellings). ok k (bits_from d r.next)) q ∙ sym t.counted ∙ ap₂ (λ (x y : Bool). read_spellings x y pattern (bits_from d at)) (sym f.0) (sym g);
+      is = sym t.read ∙ ap₂ (λ (x y : Bool). read_rows x y pattern (bits_from d at)) (sym f) (sym g);
+      counted = ap (λ (k : Spellings). ok k (bits_from d r.next)) q ∙ sym t.counted ∙ ap₂ (λ (x y : Bool). read_spellings x y pattern (bits_from d at)) (sym f) (sym g);
       inside = t.inside;
     } in
-    let b = blocks_read d at pattern dc_coded rev h (EventsAre (cursor_at r.next) n) rows (replicate 6 zeros) says refl in
+    let b = blocks_read d at pattern dc_coded rev h (Ok (cursor_at r.next, n)) rows (replicate 6 zeros) says refl in
     (b.0, (b.1, t.are))

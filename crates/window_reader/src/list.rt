@@ -45,8 +45,7 @@ fn put_at(e: EventAt, place: usize, places: &mut [i32; 64]) -> usize
     if 64 <= land {
         return 0;
     }
-    let level = e.level;
-    places[land] = level;
+    places[land] = e.level;
     land + 1
 }
 

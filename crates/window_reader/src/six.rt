@@ -10,18 +10,20 @@ ghost use Rattle.window_reader.specs.Packed.{apart};
 ghost use Rattle.window_reader.specs.Told.{BlockSettled, Readable, SixSettled, Tables};
 
 use crate::list::ListAt;
-use bits::{BitCount, Cursor};
+use bits::Cursor;
 use codes::DcComponent;
-use texture::{EventsRead, Spellings};
+use fields::TextureParseError;
+use texture::Spellings;
 
 // The component of block i of six.
 fn component(i: usize) -> DcComponent
     ensures { result ≡ component_at i }
 {
     if i < 4 {
-        return DcComponent::Luminance;
+        DcComponent::Luminance
+    } else {
+        DcComponent::Chrominance
     }
-    DcComponent::Chrominance
 }
 
 // One block into 64 places that are 0.
@@ -80,6 +82,7 @@ fn six_at(
 {
     let mut at = start;
     let mut spelled: u64 = 0;
+    // an index: the component goes by it too
     for i in 0..6 {
         let one = block_at(
             data,
@@ -107,12 +110,10 @@ fn six_at(
 fn end_of(qfs: [i32; 64]) -> usize
     ensures { result ≡ end_of qfs }
 {
-    let mut n: usize = 64;
-    while 1 < n {
-        if qfs[n - 1] != 0 {
+    for q in &qfs[1..] {
+        if *q != 0 {
             return 64;
         }
-        n -= 1;
     }
     1
 }
@@ -122,6 +123,7 @@ fn ends_of(rows: [[i32; 64]; 6], ends: &mut [usize; 6])
     requires { length ends.old ≡ 6 }
     ensures { ends.new ≡ ends_of rows }
 {
+    // an index: two arrays go by it
     for i in 0..6 {
         let row = rows[i];
         ends[i] = end_of(row);
@@ -137,7 +139,7 @@ fn six_plainly(
     reversible: bool,
     rows: &mut [[i32; 64]; 6],
     ends: &mut [usize; 6],
-) -> EventsRead
+) -> Result<(Cursor, Spellings), TextureParseError>
     ensures { (result ≡ blocks_answer «data».now c.bit_pos pattern dc_coded reversible) × (rows.new ≡ rows_after «data».now c.bit_pos pattern dc_coded reversible (replicate 6 zeros)) × (ends.new ≡ ends_of rows.new) }
 {
     *rows = [[0i32; 64]; 6];
@@ -188,23 +190,17 @@ pub fn read_six(
     reversible: bool,
     rows: &mut [[i32; 64]; 6],
     ends: &mut [usize; 6],
-) -> EventsRead
+) -> Result<(Cursor, Spellings), TextureParseError>
     ensures value { result ≡ blocks_answer «data».now c.bit_pos pattern dc_coded reversible }
     ensures rows { rows.new ≡ rows_after «data».now c.bit_pos pattern dc_coded reversible (replicate 6 zeros) }
     ensures ends { ends.new ≡ ends_of rows.new }
     ensures outcome { list_outcome result ≡ blocks_due «data».now c.bit_pos pattern dc_coded reversible }
 {
-    let left = c.remaining_bits(data);
-    match left {
-        BitCount::Refused(_) => {}
-        BitCount::Bits(_) => {
-            if dc_coded & !reversible {
-                let six = six_by_windows(data, c.bit_pos, pattern, rows, ends);
-                if six.next != 0 {
-                    let next = Cursor { bit_pos: six.next };
-                    return EventsRead::Read(next, spellings_of(six.spelled));
-                }
-            }
+    if dc_coded && !reversible && fields::readable(data, c) {
+        let six = six_by_windows(data, c.bit_pos, pattern, rows, ends);
+        if six.next != 0 {
+            let next = Cursor { bit_pos: six.next };
+            return Ok((next, spellings_of(six.spelled)));
         }
     }
     six_plainly(data, c, pattern, dc_coded, reversible, rows, ends)

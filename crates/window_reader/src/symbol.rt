@@ -40,10 +40,7 @@ fn within(data: &[u8], next: usize) -> usize
     requires { length «data».now ≤ 1048576 }
     ensures { result ≡ cond (leb next (8 * length «data».now)) next 0 }
 {
-    if next <= 8 * data.len() {
-        return next;
-    }
-    0
+    if next <= 8 * data.len() { next } else { 0 }
 }
 
 // Table B.15: the difference of `size` bits.
@@ -56,9 +53,10 @@ fn difference_of(size: u32, additional: u32) -> i32
     }
     let half_range = 1u32 << (size - 1);
     if half_range <= additional {
-        return additional as i32;
+        additional as i32
+    } else {
+        (additional as i32) + 1 - 2 * (half_range as i32)
     }
-    (additional as i32) + 1 - 2 * (half_range as i32)
 }
 
 // The DC part at a position, of a size up to 7.
@@ -90,10 +88,7 @@ fn with_sign(sign: u32, size: u32) -> i32
     ensures { result ≡ signed_by sign size }
 {
     let x = size as i32;
-    if sign == 1 {
-        return -x;
-    }
-    x
+    if sign == 1 { -x } else { x }
 }
 
 // A 12-bit field, read as two's complement.
@@ -102,9 +97,10 @@ fn two_s_complement(raw: u32) -> i32
     ensures { result ≡ signed12 raw }
 {
     if 2048 <= raw {
-        return (raw as i32) - 4096;
+        (raw as i32) - 4096
+    } else {
+        raw as i32
     }
-    raw as i32
 }
 
 // The code and sign that stand `skip` bits after a position; w is its window moved on by these.
@@ -188,13 +184,7 @@ fn type3_at(data: &[u8], at: usize, w: u32) -> EventAt
     ensures { EventSettled «data».now at result }
 {
     let raw = w / 8 % 4096;
-    if w / 32768 % 2 == 0 {
-        return unsettled();
-    }
-    if w / 4 % 2 == 0 {
-        return unsettled();
-    }
-    if raw % 2048 == 0 {
+    if w / 32768 % 2 == 0 || w / 4 % 2 == 0 || raw % 2048 == 0 {
         return unsettled();
     }
     EventAt {
@@ -214,14 +204,11 @@ fn escape_at(data: &[u8], short: &[u16], long: &[u16], at: usize, w: u32) -> Eve
     if w / 33554432 != 3 {
         return unsettled();
     }
-    let mode = w / 8388608 % 4;
-    if mode < 2 {
-        return type1_at(data, short, long, at, w);
+    match w / 8388608 % 4 {
+        0 | 1 => type1_at(data, short, long, at, w),
+        2 => type2_at(data, short, long, at, w),
+        _ => type3_at(data, at, w),
     }
-    if mode == 2 {
-        return type2_at(data, short, long, at, w);
-    }
-    type3_at(data, at, w)
 }
 
 // The plain event that stands `skip` bits after a position; w is its window moved on by these.

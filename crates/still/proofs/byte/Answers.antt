@@ -5,7 +5,7 @@ use Rattle.still_lines.proofs.StepLaws.{step_fits}
 use Rattle.still.proofs.byte.Goals as goal
 
 pub slice_bounds-write_all-end : goal.slice_bounds-write_all-end
-slice_bounds-write_all-end g c = step_fits _ _ _ c.in-Went.is c.step-s.ensures
+slice_bounds-write_all-end g c = step_fits _ _ _ c.in-Went.is c.step.ensures
 
 pub slice_bounds-write_all-end-in-Went : goal.slice_bounds-write_all-end-in-Went
-slice_bounds-write_all-end-in-Went g c = sym (length-take-le _ _ (step_fits _ _ _ c.in-Went.is c.step-s.ensures))
+slice_bounds-write_all-end-in-Went g c = sym (length-take-le _ _ (step_fits _ _ _ c.in-Went.is c.step.ensures))

@@ -5,7 +5,7 @@ use Rattle.still_lines.proofs.StepLaws.{finish_fits}
 use Rattle.still.proofs.end.Goals as goal
 
 pub slice_bounds-write_all-end : goal.slice_bounds-write_all-end
-slice_bounds-write_all-end g c = finish_fits _ _ c.in-Went.is c.finish-s.ensures
+slice_bounds-write_all-end g c = finish_fits _ _ c.in-Went.is c.finish.ensures
 
 pub slice_bounds-write_all-end-in-Went : goal.slice_bounds-write_all-end-in-Went
-slice_bounds-write_all-end-in-Went g c = sym (length-take-le _ _ (finish_fits _ _ c.in-Went.is c.finish-s.ensures))
+slice_bounds-write_all-end-in-Went g c = sym (length-take-le _ _ (finish_fits _ _ c.in-Went.is c.finish.ensures))

@@ -3,7 +3,6 @@ use mathlib.Core.Path.{◌≡◌, sym, ◌∙◌}
 use mir.Syntax.{w32}
 use mir.Val.{of_z, to_z}
 use borrow.Author.Rules.{rules}
-use borrow.Author.Tests.{not-false, not-true}
 use Rattle.prediction.specs.Stages.{direction_answer}
 use Rattle.coefficients.proofs.HandedLaws.{needed_dcs, needed_none, needed_side}
 use Rattle.coefficients.proofs.handed.needed.Statement.{statement}
@@ -36,8 +35,8 @@ select_dc_direction-requires c κs = search rules
 enum_told-1 : tie.Need-enum_told-1
 enum_told-1 c = search rules
 
-put_dcs-requires-in-Refused : tie.Need-put_dcs-requires-in-Refused
-put_dcs-requires-in-Refused c κs = search rules
+put_dcs-requires-in-Err : tie.Need-put_dcs-requires-in-Err
+put_dcs-requires-in-Err c κs = search rules
 
 enum_known-direction : tie.Need-enum_known-direction
 enum_known-direction c = search rules
@@ -45,21 +44,21 @@ enum_known-direction c = search rules
 put_side-requires : tie.Need-put_side-requires
 put_side-requires c κs = search rules
 
-returns-in-Refused : tie.Need-returns-in-Refused
-returns-in-Refused c =
+returns-in-Err : tie.Need-returns-in-Err
+returns-in-Err c =
     let e = c.before.before in
     let k = e.before in
     let x = k.before.before.before.before in
     let a = x.args in
-    c.put_dcs-in-Refused.ensures ∙ sym (needed_none a.q a.p _ x.if-not-ac_pred.false (sym (chosen k) ∙ e.in-Refused.is))
+    c.put_dcs-in-Err.ensures ∙ sym (needed_none a.q a.p _ x.if-not-ac_pred.false (sym (chosen k) ∙ e.in-Err.is))
 
-returns-in-Is : tie.Need-returns-in-Is
-returns-in-Is c =
+returns-in-Ok : tie.Need-returns-in-Ok
+returns-in-Ok c =
     let d = c.before.before in
     let k = d.before in
     let x = k.before.before.before.before in
     let a = x.args in
-    c.put_side.ensures ∙ sym (needed_side a.q a.p _ x.if-not-ac_pred.false (sym (chosen k) ∙ d.in-Is.is))
+    c.put_side.ensures ∙ sym (needed_side a.q a.p _ x.if-not-ac_pred.false (sym (chosen k) ∙ d.in-Ok.is))
 
 pub needed_spec : {M : Type 1} → statement M
 needed_spec =
@@ -69,8 +68,8 @@ needed_spec =
     returns-then-not-ac_pred
     select_dc_direction-requires
     enum_told-1
-    put_dcs-requires-in-Refused
+    put_dcs-requires-in-Err
     enum_known-direction
     put_side-requires
-    returns-in-Refused
-    returns-in-Is)
+    returns-in-Err
+    returns-in-Ok)

@@ -10,20 +10,19 @@ use Rattle.numbers.proofs.Words.{held}
 use Rattle.ranges.proofs.RangeLaws.{quantiser_range}
 use Rattle.prediction.specs.Prediction.{dc_prediction, dc_scaler}
 use Rattle.prediction.specs.Stages.{dc_answer}
-use Rattle.prediction.specs.declared.refusal.Scaler.TheVariants.{Is as ScalerIs}
-use Rattle.prediction.specs.declared.refusal.Value.TheVariants.{Is as ValueIs}
 use Rattle.prediction.proofs.RefusalLaws.{dc-given}
 use Rattle.prediction.proofs.ScalerLaws.{scaler_given}
 use Rattle.coefficients.specs.Level.{saturated}
 use Rattle.coefficients.proofs.RefusalLaws.{numbers_passing}
 use Rattle.coefficients.proofs.short.dc_level.Statement.{statement}
+use Rattle.std.specs.Prelude.{Ok}
 use Rattle.coefficients.proofs.short.dc_level.Tie as tie
 
 dc_scaler-requires : tie.Need-dc_scaler-requires
 dc_scaler-requires c κs = search rules
 
 -- the quantiser is one, so its scaler is told
-scaler_is : (c : tie.After-dc_scaler) → c.dc_scaler.result ≡ ScalerIs (dc_scaler c.args.component c.args.q)
+scaler_is : (c : tie.After-dc_scaler) → c.dc_scaler.result ≡ Ok (dc_scaler c.args.component c.args.q)
 scaler_is c =
     let s = c.before in
     let r = quantiser_range s.args.q s.requires.1 in
@@ -60,14 +59,14 @@ unlimited c =
     a.difference +ℤ dc_prediction a.direction (get_or a.n.now 0 (pos 0)) (get_or a.n.now 2 (pos 0)) (dc_scaler a.component a.q)
 
 -- the difference and the DCs pass, so the sum is told
-sum_is : (c : tie.After-predict_intra_dc) → c.predict_intra_dc.result ≡ ValueIs (unlimited c)
+sum_is : (c : tie.After-predict_intra_dc) → c.predict_intra_dc.result ≡ Ok (unlimited c)
 sum_is c =
     let s = start c in
     let n = s.args.n.now in
     let t = c.before.before.before in
     let u = scaler_is t.before in
-    let w = t.in-Is.is in
-    let e : t.in-Is.scaler ≡ dc_scaler s.args.component s.args.q = cc in
+    let w = t.in-Ok.is in
+    let e : t.in-Ok.scaler ≡ dc_scaler s.args.component s.args.q = cc in
     let a = held (get_or n 0 (pos 0)) c.predict_intra_dc-arg-1.given in
     let b = held (get_or n 2 (pos 0)) c.predict_intra_dc-arg-2-1.given in
     let p = numbers_passing n s.requires.2 in
@@ -94,10 +93,10 @@ saturate_qf-requires c κs = search rules
 returns : tie.Need-returns
 returns c =
     let f = c.before in
-    let t = f.in-Is-predict_intra_dc.is in
+    let t = f.in-Ok-predict_intra_dc.is in
     let u = sum_is f.before in
-    let e : f.in-Is-predict_intra_dc.sum ≡ unlimited f.before = cc in
-    held c.saturate_qf.result c.saturate_qf.type_inv ∙ c.saturate_qf.ensures ∙ ap saturated (held f.in-Is-predict_intra_dc.sum c.in-Is-predict_intra_dc.known_told-in-Is-predict_intra_dc-1-own.given.0.1 ∙ e)
+    let e : f.in-Ok-predict_intra_dc.sum ≡ unlimited f.before = cc in
+    held c.saturate_qf.result c.saturate_qf.type_inv ∙ c.saturate_qf.ensures ∙ ap saturated (held f.in-Ok-predict_intra_dc.sum c.in-Ok-predict_intra_dc.known_told-in-Ok-predict_intra_dc-1-own.given.0.1 ∙ e)
 
 pub dc_level_spec : {M : Type 1} → statement M
 dc_level_spec =

@@ -5,7 +5,6 @@ use lib.IntN.{ℤ}
 use mir.Facts.{to_z-of_z}
 use borrow.Author.Rules.{rules}
 use Rattle.ranges.specs.Range.{level_fine, quantiser_fine}
-use Rattle.prediction.specs.declared.refusal.Value.TheVariants.{Is}
 use Rattle.dequantise.specs.Methods.{intra_dc}
 use Rattle.numbers.proofs.Words.{held}
 use Rattle.numbers.proofs.Tests.{flag_passes, flag_refuses}
@@ -14,6 +13,7 @@ use Rattle.dequantise.proofs.coefficient.inverse_quant_intra_dc.Statement.{state
 use Rattle.numbers.proofs.OutcomeLaws.{both}
 use Rattle.prediction.specs.Outcomes.{value_outcome}
 use Rattle.dequantise.proofs.AnswerLaws.{intra_dc_due_lem}
+use Rattle.std.specs.Prelude.{Ok}
 use Rattle.dequantise.proofs.coefficient.inverse_quant_intra_dc.Tie as tie
 
 -- the quantiser is one
@@ -54,7 +54,7 @@ returns c =
     let args = c.args in
     both value_outcome (let s = c.before.before.before.before.before in
     rw (quantiser c.before.before.before, fine c.before)
-    (ap Is
+    (ap Ok
     (held c.intra_dc.result c.intra_dc.type_inv ∙ c.intra_dc.ensures
     ∙ ap (λ (z : ℤ). intra_dc z s.args.component s.args.quantiser_scale s.args.short_video_header) (to_z-of_z s.ranges.qf00)))) (intra_dc_due_lem args.qf00 args.component args.quantiser_scale args.short_video_header)
 

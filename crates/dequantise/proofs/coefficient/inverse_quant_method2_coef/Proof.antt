@@ -6,7 +6,6 @@ use lib.IntN.{ℤ}
 use mir.Facts.{to_z-of_z}
 use borrow.Author.Rules.{rules}
 use Rattle.ranges.specs.Range.{level_fine, quantiser_fine}
-use Rattle.prediction.specs.declared.refusal.Value.TheVariants.{Is}
 use Rattle.dequantise.specs.Methods.{method2}
 use Rattle.numbers.proofs.Words.{held}
 use Rattle.numbers.proofs.Tests.{flag_passes, flag_refuses}
@@ -15,6 +14,7 @@ use Rattle.dequantise.proofs.coefficient.inverse_quant_method2_coef.Statement.{s
 use Rattle.numbers.proofs.OutcomeLaws.{both}
 use Rattle.prediction.specs.Outcomes.{value_outcome}
 use Rattle.dequantise.proofs.AnswerLaws.{method2_due_lem}
+use Rattle.std.specs.Prelude.{Ok}
 use Rattle.dequantise.proofs.coefficient.inverse_quant_method2_coef.Tie as tie
 
 -- the quantiser is one
@@ -54,7 +54,7 @@ returns c =
     let args = c.args in
     both value_outcome (let s = c.before.before.before.before.before in
     rw (quantiser c.before.before.before, fine c.before)
-    (ap Is
+    (ap Ok
     (held c.method2_coef.result c.method2_coef.type_inv ∙ c.method2_coef.ensures
     ∙ ap (λ (z : ℤ). method2 z s.args.quantiser_scale) (to_z-of_z s.ranges.qf)))) (method2_due_lem args.qf args.quantiser_scale)
 

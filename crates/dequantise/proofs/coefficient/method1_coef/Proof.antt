@@ -1,14 +1,16 @@
 -- `dequantise::coefficient::method1_coef` meets its contract: the products are at most 2048 * 255 * 511 * 2 and 4097 * 255 * 511. Assumes nothing.
 use mathlib.Core.Path.{◌≡◌, ap, ◌∙◌}
+use Prim.Native.Nat.{◌≤◌}
 use native.Mathlib.Omega.{arith}
 use lib.Dec.{lit<}
-use lib.IntN.{ℤ, pos, ◌+ℤ◌, ◌*ℤ◌}
+use lib.IntN.{ℤ, nat_abs, pos, ◌+ℤ◌, ◌*ℤ◌}
 use lib.Signed.{quot_z}
 use mir.Syntax.{w32}
 use borrow.Author.Rules.{rules}
 use Rattle.numbers.proofs.Expressions.{Sx, loc, lit, ◌⊞◌, ◌⊠◌, ◌⊘◌, back, fits}
 use Rattle.dequantise.specs.Methods.{signum}
-use Rattle.dequantise.proofs.MethodLaws.{method1_inter_lem, method1_intra_lem}
+use Rattle.std.specs.Int.{int_signum}
+use Rattle.dequantise.proofs.MethodLaws.{method1_inter_lem, method1_intra_lem, sign-abs, signum_is}
 use Rattle.dequantise.proofs.coefficient.method1_coef.Statement.{statement}
 use Rattle.dequantise.proofs.coefficient.method1_coef.Tie as tie
 
@@ -36,18 +38,21 @@ module _ (s : tie.Start) where
   x₄ = x₃ ⊘ lit (pos 16)
 
 -- and not intra
-module _ (c : tie.After-sign_of-sign) where
+module _ (c : tie.After-signum-sign) where
   abbrev s : tie.Start
   s = c.before.before
 
-  sign-is : c.sign_of-sign.result ≡ signum s.args.qf
-  sign-is = c.sign_of-sign.ensures.0 ∙ ap signum (back (qf s) tt)
+  sign-is : c.signum-sign.result ≡ signum s.args.qf
+  sign-is = c.signum-sign.ensures.0 ∙ ap int_signum (back (qf s) tt) ∙ signum_is s.args.qf
+
+  sign_small : nat_abs c.signum-sign.result ≤ 1
+  sign_small = rw sign-is (sign-abs s.args.qf)
 
   abbrev y₁ : Sx w32
   y₁ = lit (pos 2) ⊠ qf s
 
   abbrev y₂ : Sx w32
-  y₂ = y₁ ⊞ loc c.sign_of-sign.result 1 c.sign_of-sign.ensures.1
+  y₂ = y₁ ⊞ loc c.signum-sign.result 1 sign_small
 
   abbrev y₃ : Sx w32
   y₃ = y₂ ⊠ weight s
@@ -81,8 +86,8 @@ returns-then-macroblock_intra c =
     let s = c.before in
     rw c.if-macroblock_intra.true (back (x₄ s) tt ∙ method1_intra_lem s.args.qf s.args.w s.args.quantiser_scale)
 
-sign_of-sign-requires : tie.Need-sign_of-sign-requires
-sign_of-sign-requires c κs = search rules
+signum-sign-requires : tie.Need-signum-sign-requires
+signum-sign-requires c κs = search rules
 
 overflow_mul-result-2 : tie.Need-overflow_mul-result-2
 overflow_mul-result-2 c = fits (y₁ c) tt
@@ -123,7 +128,7 @@ method1_coef_spec =
     overflow_mul-result-then-macroblock_intra-2
     nonzero_div-result
     returns-then-macroblock_intra
-    sign_of-sign-requires
+    signum-sign-requires
     overflow_mul-result-2
     overflow_add-result
     overflow_cast-result-2

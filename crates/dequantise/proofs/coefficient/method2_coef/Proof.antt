@@ -1,17 +1,18 @@
 -- `dequantise::coefficient::method2_coef` meets its contract: the product is at most 4097 * 511, and the formula is the definition's. Assumes nothing.
 use mathlib.Core.Path.{◌≡◌, ap, ◌∙◌}
-use Prim.Native.Nat.{◌%◌}
+use Prim.Native.Nat.{◌%◌, ◌≤◌}
 use native.Mathlib.Omega.{arith}
-use lib.IntN.{ℤ, pos, ◌+ℤ◌, ◌-ℤ◌, ◌*ℤ◌}
+use lib.IntN.{ℤ, nat_abs, pos, ◌+ℤ◌, ◌-ℤ◌, ◌*ℤ◌}
 use mir.Syntax.{w32}
 use borrow.Author.Rules.{rules}
 use Rattle.numbers.proofs.Expressions.{Sx, loc, lit, ◌⊞◌, ◌⊟◌, ◌⊠◌, back, fits}
 use Rattle.dequantise.specs.Methods.{signum}
-use Rattle.dequantise.proofs.MethodLaws.{method2-is}
+use Rattle.std.specs.Int.{int_signum}
+use Rattle.dequantise.proofs.MethodLaws.{method2-is, sign-abs, signum_is}
 use Rattle.dequantise.proofs.coefficient.method2_coef.Statement.{statement}
 use Rattle.dequantise.proofs.coefficient.method2_coef.Tie as tie
 
-module _ (c : tie.After-sign_of-sign) where
+module _ (c : tie.After-signum-sign) where
   abbrev s : tie.Start
   s = c.before
 
@@ -21,11 +22,14 @@ module _ (c : tie.After-sign_of-sign) where
   abbrev scale : Sx w32
   scale = loc (pos s.args.quantiser_scale) 511 s.requires.2
 
-  abbrev sign : Sx w32
-  sign = loc c.sign_of-sign.result 1 c.sign_of-sign.ensures.1
+  sign-is : c.signum-sign.result ≡ signum s.args.qf
+  sign-is = c.signum-sign.ensures.0 ∙ ap int_signum (back qf tt) ∙ signum_is s.args.qf
 
-  sign-is : c.sign_of-sign.result ≡ signum s.args.qf
-  sign-is = c.sign_of-sign.ensures.0 ∙ ap signum (back qf tt)
+  sign_small : nat_abs c.signum-sign.result ≤ 1
+  sign_small = rw sign-is (sign-abs s.args.qf)
+
+  abbrev sign : Sx w32
+  sign = loc c.signum-sign.result 1 sign_small
 
   abbrev even : Sx w32
   even = lit (pos 1) ⊟ loc (pos (s.args.quantiser_scale % 2)) 1 (omega arith)
@@ -45,8 +49,8 @@ module _ (c : tie.After-sign_of-sign) where
   abbrev x₄ : Sx w32
   x₄ = x₃ ⊟ less
 
-sign_of-sign-requires : tie.Need-sign_of-sign-requires
-sign_of-sign-requires c κs = search rules
+signum-sign-requires : tie.Need-signum-sign-requires
+signum-sign-requires c κs = search rules
 
 overflow_cast-even : tie.Need-overflow_cast-even
 overflow_cast-even c = search rules
@@ -82,4 +86,4 @@ returns c =
 
 pub method2_coef_spec : {M : Type 1} → statement M
 method2_coef_spec =
-    tie.close (tie.spec sign_of-sign-requires overflow_cast-even overflow_sub-even overflow_mul-result overflow_add-result overflow_cast-result overflow_mul-result-2 overflow_mul-result-3 overflow_sub-result returns)
+    tie.close (tie.spec signum-sign-requires overflow_cast-even overflow_sub-even overflow_mul-result overflow_add-result overflow_cast-result overflow_mul-result-2 overflow_mul-result-3 overflow_sub-result returns)

@@ -6,11 +6,11 @@ use Rattle.places.proofs.PlaceLaws.{a_below}
 use Rattle.places.proofs.place.a_block.Statement.{statement}
 use Rattle.places.proofs.place.a_block.Tie as tie
 
-block_of-requires : tie.Need-block_of-requires
-block_of-requires c κs = search rules
+entry-requires : tie.Need-entry-requires
+entry-requires c κs = search rules
 
 returns : tie.Need-returns
-returns c = let e = c.block_of.ensures in (e, subst⁻¹ (λ (b : ℕ). b < 6) e (a_below c.args.i))
+returns c = let e = c.entry.ensures in (e, subst⁻¹ (λ (b : ℕ). b < 6) e (a_below c.args.i))
 
 pub a_block_spec : {M : Type 1} → statement M
-a_block_spec = tie.close (tie.spec block_of-requires returns)
+a_block_spec = tie.close (tie.spec entry-requires returns)

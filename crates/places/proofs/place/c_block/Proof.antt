@@ -6,11 +6,11 @@ use Rattle.places.proofs.PlaceLaws.{c-below}
 use Rattle.places.proofs.place.c_block.Statement.{statement}
 use Rattle.places.proofs.place.c_block.Tie as tie
 
-block_of-requires : tie.Need-block_of-requires
-block_of-requires c κs = search rules
+entry-requires : tie.Need-entry-requires
+entry-requires c κs = search rules
 
 returns : tie.Need-returns
-returns c = let e = c.block_of.ensures in (e, subst⁻¹ (λ (b : ℕ). b < 6) e (c-below c.args.i))
+returns c = let e = c.entry.ensures in (e, subst⁻¹ (λ (b : ℕ). b < 6) e (c-below c.args.i))
 
 pub c_block_spec : {M : Type 1} → statement M
-c_block_spec = tie.close (tie.spec block_of-requires returns)
+c_block_spec = tie.close (tie.spec entry-requires returns)

@@ -2,10 +2,12 @@
 use mathlib.Core.Path.{ap, ◌∙◌}
 use borrow.Author.Rules.{rules}
 use borrow.Author.Tests.{le-leb, lt-leb}
-use Rattle.picture_state.specs.declared.picture.PictureOpened.{PictureOpened}
 use Rattle.vaxembro.specs.Calls.{opened_number, opened_state, state_long}
 use Rattle.vaxembro.proofs.RoomLaws.{long-is, short_is}
 use Rattle.vaxembro.proofs.pictures.vaxembro_open.Statement.{statement}
+use Rattle.std.specs.Prelude.{Result}
+use Rattle.picture_state.specs.declared.picture.Picture.{Picture}
+use Rattle.assembly.specs.declared.error.BlockAssemblyError.{BlockAssemblyError}
 use Rattle.vaxembro.proofs.pictures.vaxembro_open.Tie as tie
 
 returns-then-state-lt5 : tie.Need-returns-then-state-lt5
@@ -30,7 +32,7 @@ returns c =
     let s = o.args.state.now in
     let r = d.opened.ensures in
     let p = o.open-o.ensures.0 in
-    (long-is _ e (r.0 ∙ ap opened_number p), long-is _ e (r.1 ∙ ap (λ (x : PictureOpened). opened_state x s) p))
+    (long-is _ e (r.0 ∙ ap opened_number p), long-is _ e (r.1 ∙ ap (λ (x : Result Picture BlockAssemblyError). opened_state x s) p))
 
 pub vaxembro_open_spec : {M : Type 1} → statement M
 vaxembro_open_spec =

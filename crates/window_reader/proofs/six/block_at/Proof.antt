@@ -3,7 +3,6 @@ use mathlib.Core.Bool.{Bool}
 use mathlib.Core.List.{List}
 use mathlib.Core.Path.{ap₂, subst₂, sym}
 use borrow.Author.Rules.{rules}
-use borrow.Author.Tests.{not-false, not-true}
 use lib.IntN.{ℤ}
 use lib.ListN.{set}
 use Rattle.window_reader.proofs.SixLaws.{block-alone, block_listed, difference_back}

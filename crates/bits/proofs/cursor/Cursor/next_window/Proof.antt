@@ -1,13 +1,12 @@
 -- `bits::Cursor::next_window` meets its contract: its tests are the definition's, and the number is `peek`'s. Assumes nothing.
 use mathlib.Core.Bool.{true, false}
-use mathlib.Core.Option.{some}
 use mathlib.Core.Path.{◌≡◌, ◌∙◌, sym, ap}
 use Prim.Native.Nat.{◌*◌, ◌≤◌, min, ℕ}
 use native.Mathlib.Omega.{arith}
 use lib.Dec.{eqb}
 use lib.ListN.{length, length-take, take}
 use borrow.Author.Rules.{rules}
-use borrow.Author.Tests.{eq-eqb, le-leb, lt-leb, not-false, not-true, ne_eqb}
+use borrow.Author.Tests.{eq-eqb, le-leb, lt-leb, ne_eqb}
 use Rattle.bits.proofs.BitLaws.{length-bits_from}
 use Rattle.bits.proofs.CursorLaws.{in_data_yes, take_least}
 use Rattle.bits.proofs.cursor.Cursor.next_window.Statement.{statement}
@@ -52,11 +51,11 @@ returns-then-left-eq0 c =
     let args = c.args in
     both window_outcome (simp (readable c.before.before, le-leb _ _ c.if-most-gt-MOST_BITS.false, length-bits_from, eq-eqb _ _ c.if-left-eq0.true)) (window_due_lem args.«data».now args.self.bit_pos args.most)
 
-least-n-requires : tie.Need-least-n-requires
-least-n-requires c κs = search rules
+min-n-requires : tie.Need-min-n-requires
+min-n-requires c κs = search rules
 
 peek-requires : tie.Need-peek-requires
-peek-requires c κs = omega (arith, limits c.before.before.before, c.least-n.ensures)
+peek-requires c κs = omega (arith, limits c.before.before.before, c.min-n.ensures)
 
 overflow_cast-result : tie.Need-overflow_cast-result
 overflow_cast-result c = search rules
@@ -67,10 +66,10 @@ returns c =
     let args = c.args in
     both window_outcome (let s = c.before.before.before.before.before.before.before in
     let b = bits_from s.args.«data».now s.args.self.bit_pos in
-    let n : c.least-n.result ≡ min s.args.most (length b) = c.least-n.ensures ∙ ap (min s.args.most) (sym (length-bits_from s.args.«data».now s.args.self.bit_pos)) in
-    let some : eqb (length b) 0 ≡ false = ne_eqb (length b) 0 (λ e. c.if-left-eq0.false (sym (length-bits_from s.args.«data».now s.args.self.bit_pos) ∙ e)) in
+    let n : c.min-n.result ≡ min s.args.most (length b) = c.min-n.ensures ∙ ap (min s.args.most) (sym (length-bits_from s.args.«data».now s.args.self.bit_pos)) in
+    let Some : eqb (length b) 0 ≡ false = ne_eqb (length b) 0 (λ e. c.if-left-eq0.false (sym (length-bits_from s.args.«data».now s.args.self.bit_pos) ∙ e)) in
     let v : c.peek.result ≡ val (take s.args.most b) = c.peek.ensures ∙ ap (λ (k : ℕ). val (take k b)) n ∙ ap val (take_least s.args.most b) in
-    simp (readable c.before.before.before.before, le-leb _ _ c.if-most-gt-MOST_BITS.false, some, v, n, length-take)) (window_due_lem args.«data».now args.self.bit_pos args.most)
+    simp (readable c.before.before.before.before, le-leb _ _ c.if-most-gt-MOST_BITS.false, Some, v, n, length-take)) (window_due_lem args.«data».now args.self.bit_pos args.most)
 
 pub next_window_spec : {M : Type 1} → statement M
-next_window_spec = tie.close (tie.spec in_data-requires returns-then-not-in_data returns-then-most-gt-MOST_BITS overflow_mul-left overflow_sub-left returns-then-left-eq0 least-n-requires peek-requires overflow_cast-result returns)
+next_window_spec = tie.close (tie.spec in_data-requires returns-then-not-in_data returns-then-most-gt-MOST_BITS overflow_mul-left overflow_sub-left returns-then-left-eq0 min-n-requires peek-requires overflow_cast-result returns)

@@ -5,7 +5,6 @@ use Prim.Native.Nat.{◌*◌, ◌≤◌}
 use native.Mathlib.Omega.{arith}
 use lib.ListN.{length}
 use borrow.Author.Rules.{rules}
-use borrow.Author.Tests.{not-false, not-true}
 use Rattle.bits.proofs.BitLaws.{length-bits_from}
 use Rattle.bits.proofs.CursorLaws.{in_data_yes}
 use Rattle.bits.proofs.cursor.Cursor.remaining_bits.Statement.{statement}

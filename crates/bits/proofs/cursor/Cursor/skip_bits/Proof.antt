@@ -5,7 +5,7 @@ use Prim.Native.Nat.{◌*◌, ◌≤◌}
 use native.Mathlib.Omega.{arith}
 use lib.ListN.{length}
 use borrow.Author.Rules.{rules}
-use borrow.Author.Tests.{le-leb, lt-leb, not-false, not-true}
+use borrow.Author.Tests.{le-leb, lt-leb}
 use Rattle.bits.proofs.BitLaws.{length-bits_from}
 use Rattle.bits.proofs.CursorLaws.{in_data_yes}
 use Rattle.bits.proofs.cursor.Cursor.skip_bits.Statement.{statement}

@@ -1,2 +1,0 @@
--- The laws of a reader's parts.
-pub mod Held
