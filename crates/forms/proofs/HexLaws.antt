@@ -37,13 +37,13 @@ hex_all [] = refl
 hex_all (x ∷ xs) = ap₂ ◌&&◌ (hex_is x) (hex_all xs)
 
 module _ (b : ℕ) where
-  not_hex_low : b < 48 → is_hex b ≡ false
+  pub not_hex_low : b < 48 → is_hex b ≡ false
   not_hex_low h = rw (lt-leb 48 b h, lt-leb 65 b (omega arith), lt-leb 97 b (omega arith))
 
-  not_hex_lower : 70 < b → b < 97 → is_hex b ≡ false
+  pub not_hex_lower : 70 < b → b < 97 → is_hex b ≡ false
   not_hex_lower l h = rw (le-leb 48 b (omega arith), lt-leb b 57 (omega arith), le-leb 65 b (omega arith), lt-leb b 70 l, lt-leb 97 b h)
 
-  hex_lower : 97 ≤ b → is_hex b ≡ leb b 102
+  pub hex_lower : 97 ≤ b → is_hex b ≡ leb b 102
   hex_lower l = rw (le-leb 48 b (omega arith), lt-leb b 57 (omega arith), le-leb 65 b (omega arith), lt-leb b 70 (omega arith), le-leb 97 b l)
 
   -- what a digit tells of itself

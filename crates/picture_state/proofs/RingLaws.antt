@@ -3,7 +3,7 @@ use mathlib.Core.List.{List}
 use mathlib.Core.Logic.{inl, inr, ⊎_elim}
 use mathlib.Core.Path.{◌≡◌, ap, sym, ◌∙◌}
 use Prim.Native.Nat.{ℕ, ◌%◌, ◌*◌, ◌+◌, ◌-◌, ◌/◌, ◌<◌, ◌≤◌}
-use native.Mathlib.Nat.{add-mod_right, add-mul, div-add-mod', eq-or-lt_of_le, mod-lt, mul-le-mul_right, one-mul}
+use native.Mathlib.Nat.{add-mod_right, add-mul, div-add-mod', eq-or-lt_of_le, mod-eq_of_lt, mod-lt, mul-add-mod_self_right, mul_assoc, mul-le-mul_right, one-mul}
 use native.Mathlib.Omega.{arith}
 use lib.IntN.{ℤ}
 use lib.ListN.{length}
@@ -64,3 +64,17 @@ ring_kept w j n s r h k l p q = other_slot w j n s r h k l (slots_apart w j n p 
 pub earlier-kept : (w n back : ℕ) (s r : List ℤ) → 1 ≤ w → store_for w ≤ length s → length r ≡ 91 → 1 ≤ back → back < 2 * w
     → record_at (stored_at s (offset w n 0) r) (offset w n back) ≡ record_at s (offset w n back)
 earlier-kept w n back s r h k l p q = ring_kept w (n + 2 * w - back) (n + 2 * w - 0) s r h k l (omega arith) (omega arith)
+
+-- the slot is the row's parity and the column: two rows of w records
+pub parity : (w j : ℕ) → 1 ≤ w → slot w j ≡ j / w % 2 * w + j % w
+parity w j h =
+    let q = j / w in
+    let a : q / 2 * 2 + q % 2 ≡ q = div-add-mod' q 2 in
+    let b : q * w + j % w ≡ j = div-add-mod' j w in
+    let c : (q / 2 * 2 + q % 2) * w ≡ q / 2 * 2 * w + q % 2 * w = add-mul (q / 2 * 2) (q % 2) w in
+    let d : q / 2 * 2 * w ≡ q / 2 * (2 * w) = mul_assoc (q / 2) 2 w in
+    let e : (q / 2 * 2 + q % 2) * w ≡ q * w = ap (λ (k : ℕ). k * w) a in
+    let f : j ≡ q / 2 * (2 * w) + (q % 2 * w + j % w) = omega arith in
+    let m = mod-lt j {m = w} h in
+    let n : q % 2 * w ≤ 1 * w = mul-le-mul_right {m = q % 2} {n = 1} w (omega arith) in
+    ap (λ (k : ℕ). k % (2 * w)) f ∙ mul-add-mod_self_right (q / 2) (2 * w) (q % 2 * w + j % w) ∙ mod-eq_of_lt (omega (arith, one-mul w))

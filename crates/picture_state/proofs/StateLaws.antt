@@ -10,7 +10,9 @@ use lib.IntN.{ℤ}
 use lib.ListN.{length}
 use borrow.Author.Tests.{le-leb, leb-true, lt-ltb, ltb-true}
 use Rattle.bits.specs.Cursor.{in_data}
+use Rattle.numbers.proofs.OutcomeLaws.{two_tests}
 use Rattle.numbers.proofs.Tests.{both_true}
+use Rattle.ranges.specs.Range.{depth_fine}
 use Rattle.assembly.proofs.OutcomeLaws.{answered}
 use Rattle.assembly.proofs.TestLaws.{all_pass, bad_first, fine_first, first_of}
 use Rattle.assembly.specs.Answer.{first_bad}
@@ -26,8 +28,8 @@ use Rattle.record.specs.Record.{blank}
 use Rattle.neighbours.specs.Taken.{place_lies}
 use Rattle.places.specs.declared.place.Place.{Place}
 use Rattle.picture_state.proofs.RingLaws.{slot_in}
-use Rattle.picture_state.specs.Outcomes.{state_before_due, state_due, state_outcome}
-use Rattle.picture_state.specs.Picture.{context_of, size_fine}
+use Rattle.picture_state.specs.Outcomes.{open_due, opened_outcome, state_before_due, state_due, state_outcome}
+use Rattle.picture_state.specs.Picture.{context_of, open_of, size_fine}
 use Rattle.picture_state.specs.Ring.{around_due, offset, place_of}
 use Rattle.samples.specs.Samples.{macroblock_samples}
 use Rattle.picture_state.specs.Sizes.{store_for}
@@ -41,6 +43,7 @@ use Rattle.std.specs.Prelude.{Err, Ok, Result, ⊤}
 
 pub record Sized (w h : ℕ) : Type 0 where
   pub w_low : 1 ≤ w
+  pub w_high : w ≤ 45
   pub cells : w * h ≤ 1620
 
 pub sized : (w h : ℕ) → size_fine w h ≡ true → Sized w h
@@ -48,7 +51,7 @@ sized w h e =
     let a = both_true (leb 1 w) (leb w 45 && (leb 1 h && leb h 36)) e in
     let b = both_true (leb w 45) (leb 1 h && leb h 36) a.1 in
     let high = leb-true w 45 b.0 in
-    record { w_low = leb-true 1 w a.0; cells = mul-le-mul {n₂ = 45} {m₂ = 36} high (leb-true h 36 (both_true (leb 1 h) (leb h 36) b.1).1) }
+    record { w_low = leb-true 1 w a.0; w_high = high; cells = mul-le-mul {n₂ = 45} {m₂ = 36} high (leb-true h 36 (both_true (leb 1 h) (leb h 36) b.1).1) }
 
 -- ---- 11, 12, 14, 15
 
@@ -145,6 +148,10 @@ neighbours_by p x store place r e k =
 pub due_is : (p : Picture) (x : MacroblockTextureContext) (place : Place) (own : ℕ) → place ≡ place_of p x.quantiser_scale → own ≡ offset p.width p.accepted 0
     → ◌≡◌ {A = Result Due BlockAssemblyError} (Ok (record { context = x; place = place; own = own })) (Ok (due_of p x))
 due_is p x place own e f = λ i. Ok (record { context = x; place = e i; own = f i })
+
+-- 11, then 12, by number
+pub open_due_lem : (w h depth : ℕ) (method : Bool) → opened_outcome (open_of w h depth method) ≡ open_due w h depth method
+open_due_lem w h depth method = two_tests opened_outcome (size_fine w h) (depth_fine depth) _ _ _
 
 -- and back, from what is answered to the checks
 pub checked_ready : (p : Picture) (x : MacroblockTextureContext) (k : Result ⊤ BlockAssemblyError) {d : Due} → checked_by p x k ≡ Ok d → (k ≡ Ok tt) × (d ≡ due_of p x)
