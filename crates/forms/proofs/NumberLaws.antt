@@ -2,7 +2,7 @@
 use mathlib.Core.Bool.{Bool, cond, false, not, true, ◌&&◌}
 use mathlib.Core.List.{List, [], ◌∷◌}
 use mathlib.Core.Logic.{⊎_elim}
-use mathlib.Core.Path.{◌≡◌, ◌∙◌, ap, refl, sym}
+use mathlib.Core.Path.{◌≡◌, ◌∙◌, ap, ap₂, refl, sym}
 use Prim.Native.Nat.{◌*◌, ◌+◌, ◌-◌, ◌<◌, ◌≤◌, ℕ}
 use native.Mathlib.Omega.{arith}
 use borrow.Author.Tests.{le-leb, lt-leb, ne_eqb}
@@ -17,6 +17,17 @@ use Rattle.forms.proofs.PartLaws.{part_cons, part_none}
 use Rattle.forms.specs.Reading.{part}
 use Rattle.forms.specs.Words.{is_digit, none_of, number_in, same, value_after}
 use Rattle.std.specs.Prelude.{None, Option, Some}
+
+-- ---- tests of a byte
+
+pub below_digit : (b : ℕ) → b < 48 → is_digit b ≡ false
+below_digit b h = ap (λ (t : Bool). t && leb b 57) (lt-leb 48 b h)
+
+pub above_digit : (b : ℕ) → 57 < b → is_digit b ≡ false
+above_digit b h = ap (λ (t : Bool). leb 48 b && t) (lt-leb b 57 h) ∙ and-false (leb 48 b)
+
+pub is_digit_lem : (b : ℕ) → 48 ≤ b → b ≤ 57 → is_digit b ≡ true
+is_digit_lem b h k = ap₂ ◌&&◌ (le-leb 48 b h) (le-leb b 57 k)
 
 -- ---- a number's bytes
 

@@ -1,0 +1,2 @@
+-- The laws of a reader's parts.
+pub mod Held
